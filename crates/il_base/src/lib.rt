@@ -1,0 +1,21 @@
+//! The plain data of assemblies: identities, signatures, method bodies, and bytes read through a cursor.
+//! Nothing goes in but bytes; each read gives the number that the bytes spell, as `specs/Bytes` defines it.
+#![tactic(auto)]
+
+mod bits;
+mod body;
+mod boxed;
+mod cursor;
+mod ids;
+mod memory;
+mod seq;
+mod sig;
+
+pub use bits::Bits;
+pub use body::{Body, Form, Handler, Instr, Operand};
+pub use boxed::Boxed;
+pub use cursor::{Cursor, compressed_number, u8_at, u16_at, u32_at, u64_at};
+pub use ids::{AsmId, BadAt, EventId, FieldId, ImplId, Item, MethodId, Place, PropId, TypeId};
+pub use memory::NoMemory;
+pub use seq::{Seq, Text, Units};
+pub use sig::{MethodSig, Sig};
