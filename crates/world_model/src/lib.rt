@@ -1,0 +1,33 @@
+//! The data of a world: assemblies as records of their tables, and what references name once they are resolved.
+//! `specs/` defines, for thin files, which bytes a record is of and what its references name.
+#![tactic(auto)]
+
+mod assemblies;
+mod expr;
+mod extras;
+mod known;
+mod members;
+mod record;
+mod types;
+mod world;
+
+pub use assemblies::{
+    AssemblyOsRow, AssemblyProcessorRow, AssemblyRefOsRow, AssemblyRefProcessorRow, AssemblyRefRow,
+    AssemblyRow, ModuleRefRow,
+};
+pub use expr::{FieldUse, MemberSig, MethodUse, TypeExpr};
+pub use extras::{
+    ConstantRow, CustomAttributeRow, DeclSecurityRow, FieldLayoutRow, FieldMarshalRow, FieldRvaRow,
+    FileRow, ImplMapRow, ManifestResourceRow,
+};
+pub use known::{BadKind, Known};
+pub use members::{
+    EventMapRow, EventRow, FieldRow, MemberRefRow, MethodDefRow, MethodImplRow, MethodSemanticsRow,
+    MethodSpecRow, ParamRow, PropertyMapRow, PropertyRow, StandAloneSigRow,
+};
+pub use record::{AsmRec, UserText};
+pub use types::{
+    ClassLayoutRow, ExportedTypeRow, GenericParamConstraintRow, GenericParamRow, InterfaceImplRow,
+    ModuleRow, NestedClassRow, TypeDefRow, TypeRefRow, TypeSpecRow,
+};
+pub use world::{FieldLink, Home, MethodLink, TypeLink, World};
