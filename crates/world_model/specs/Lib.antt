@@ -1,0 +1,4 @@
+pub mod Tokens
+pub mod Opcodes
+pub mod Core
+pub mod Thin

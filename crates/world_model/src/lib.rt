@@ -3,6 +3,7 @@
 #![tactic(auto)]
 
 mod assemblies;
+mod core_member;
 mod expr;
 mod extras;
 mod known;
@@ -15,6 +16,7 @@ pub use assemblies::{
     AssemblyOsRow, AssemblyProcessorRow, AssemblyRefOsRow, AssemblyRefProcessorRow, AssemblyRefRow,
     AssemblyRow, ModuleRefRow,
 };
+pub use core_member::CoreMember;
 pub use expr::{FieldUse, MemberSig, MethodUse, TypeExpr};
 pub use extras::{
     ConstantRow, CustomAttributeRow, DeclSecurityRow, FieldLayoutRow, FieldMarshalRow, FieldRvaRow,

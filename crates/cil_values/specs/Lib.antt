@@ -1,0 +1,7 @@
+pub mod Queries
+pub mod World
+pub mod Words
+pub mod Text
+pub mod Call
+pub mod Step
+pub mod Run
