@@ -1,6 +1,6 @@
 -- What a step asks, answered from one thin record: the world of that record and the core library.
 -- Its methods have the places 0 to n - 1 in the order of their rows, the core library's two members n and n + 1.
-use Rattle.std.specs.Prelude.{ℕ, ◌+◌, List, [], length, map, Option, Some, None, slice_get, find, nat_eq, nat_lt, ◌==◌, if◌then◌else◌}
+use Rattle.std.specs.Prelude.{ℕ, ◌+◌, ◌%◌, List, [], length, map, Option, Some, None, slice_get, find, nat_eq, nat_lt, ◌==◌, if◌then◌else◌}
 use Rattle.std.specs.Option.{option_and_then}
 use Rattle.il_base.specs.declared.sig.Sig.{Sig, Prim}
 use Rattle.il_base.specs.declared.sig.MethodSig.{MethodSig}
@@ -93,8 +93,9 @@ use_of rec f (operand.Token token) = token_use rec f token
 use_of rec f (operand.Target to) = target to
 use_of rec f (operand.Targets to) = nothing
 
+-- IL offsets have 32 bits and wrap, as those of branches do
 unfoldable pub instruction_of : AsmRec → Instr → Instruction
-instruction_of rec i = record { at = i.at; next = i.at + instruction_len i.opcode; form = i.form; opcode = i.opcode; operand = use_of rec i.form i.operand }
+instruction_of rec i = record { at = i.at; next = (i.at + instruction_len i.opcode) % 4294967296; form = i.form; opcode = i.opcode; operand = use_of rec i.form i.operand }
 
 -- ---- methods
 

@@ -54,9 +54,17 @@ names_type_at rec name (Some k) = names_type rec name (slice_get rec.type_ref k)
 abbrev pub is_type_token : AsmRec → List ℕ → ℕ → Bool
 is_type_token rec name token = names_type_at rec name (index_in 0x01 token)
 
+-- the element type of a primitive
+abbrev pub prim_code : Sig → Option ℕ
+prim_code (Prim n) = Some n
+prim_code _ = None
+
+abbrev pub is_code : ℕ → Option ℕ → Bool
+is_code k None = false
+is_code k (Some n) = n == k
+
 abbrev pub is_prim : ℕ → Sig → Bool
-is_prim k (Prim n) = n == k
-is_prim k _ = false
+is_prim k s = is_code k (prim_code s)
 
 -- what `Console.WriteLine` takes in its overload with this parameter
 abbrev pub line_of_params : List Sig → Option CoreMember

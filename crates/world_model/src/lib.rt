@@ -4,6 +4,7 @@
 
 mod assemblies;
 mod core_member;
+mod core_refs;
 mod expr;
 mod extras;
 mod known;
@@ -17,6 +18,9 @@ pub use assemblies::{
     AssemblyRow, ModuleRefRow,
 };
 pub use core_member::CoreMember;
+pub use core_refs::{
+    index_in, is_core_name, is_system_type, is_type_token, prim_code, resolve_core_member,
+};
 pub use expr::{FieldUse, MemberSig, MethodUse, TypeExpr};
 pub use extras::{
     ConstantRow, CustomAttributeRow, DeclSecurityRow, FieldLayoutRow, FieldMarshalRow, FieldRvaRow,
