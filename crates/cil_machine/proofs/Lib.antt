@@ -1,0 +1,5 @@
+pub mod First
+pub mod TypeLemmas
+pub mod OperandLemmas
+pub mod FitLemmas
+pub mod CodeLemmas

@@ -1,0 +1,76 @@
+-- A form's meaning goes by what its operand is.
+use Rattle.std.proofs.Common.{◌≡◌, ℕ, ℤ, List, ◌∷◌, Option, Some, None, refl, cond}
+use Rattle.std.specs.Prelude.{slice_get}
+use Rattle.il_base.specs.declared.body.Form.TheVariants as form
+use Rattle.il_base.specs.declared.body.Operand.{Operand}
+use Rattle.il_base.specs.declared.body.Operand.TheVariants as operand
+use Rattle.world_model.specs.declared.record.AsmRec.{AsmRec}
+use Rattle.cil_values.specs.declared.value.Value.{Value}
+use Rattle.cil_values.specs.declared.value.Value.TheVariants.{I4}
+use Rattle.cil_values.specs.declared.state.State.{State}
+use Rattle.cil_values.specs.Queries.{Queries, Method}
+use Rattle.cil_values.specs.World.{use_of, callee_of, text_of}
+use Rattle.cil_values.specs.Words.{Next, stuck, goes, given, known, popped, stores}
+use Rattle.cil_values.specs.Text.{load_text}
+use Rattle.cil_values.specs.Call.{call}
+use Rattle.cil_values.specs.Step.{load, store_local, keep_local, int32_of, load_int, load_str, branch, branch_if, branches_on, call_use}
+use Rattle.cil_machine.specs.Took.{plain_use}
+use Rattle.cil_machine.specs.Operands.{slot_in, number_in, target_in, token_in}
+
+pub load_by : (next : ℕ) (s : State) (slots : List Value) (o : Operand) → load next s slots (plain_use o) ≡ given (slot_in o) s (λ k. given (slice_get slots k) s (λ v. goes next (v ∷ s.top.stack) s))
+load_by next s slots operand.None = refl
+load_by next s slots (operand.Number n) = refl
+load_by next s slots (operand.Slot k) = refl
+load_by next s slots (operand.Token t) = refl
+load_by next s slots (operand.Target t) = refl
+load_by next s slots (operand.Targets t) = refl
+
+pub store_by : (next : ℕ) (m : Method) (s : State) (o : Operand)
+    → store_local next m s (plain_use o) ≡ given (slot_in o) s (λ k. popped s.top.stack s (λ v stack. given (slice_get m.locals k) s (λ t. given (stores t v) s (keep_local next k stack s))))
+store_by next m s operand.None = refl
+store_by next m s (operand.Number n) = refl
+store_by next m s (operand.Slot k) = refl
+store_by next m s (operand.Token t) = refl
+store_by next m s (operand.Target t) = refl
+store_by next m s (operand.Targets t) = refl
+
+pub load_int_by : (next : ℕ) (s : State) (o : Operand) → load_int next s (plain_use o) ≡ given (number_in o) s (λ n. given (int32_of n) s (λ k. goes next (I4 k ∷ s.top.stack) s))
+load_int_by next s operand.None = refl
+load_int_by next s (operand.Number n) = refl
+load_int_by next s (operand.Slot k) = refl
+load_int_by next s (operand.Token t) = refl
+load_int_by next s (operand.Target t) = refl
+load_int_by next s (operand.Targets t) = refl
+
+pub branch_by : (s : State) (o : Operand) → branch s (plain_use o) ≡ given (target_in o) s (λ to. goes to s.top.stack s)
+branch_by s operand.None = refl
+branch_by s (operand.Number n) = refl
+branch_by s (operand.Slot k) = refl
+branch_by s (operand.Token t) = refl
+branch_by s (operand.Target t) = refl
+branch_by s (operand.Targets t) = refl
+
+pub branch_if_by : (next opcode : ℕ) (s : State) (o : Operand)
+    → branch_if next opcode s (plain_use o) ≡ given (target_in o) s (λ to. popped s.top.stack s (λ v stack. given (branches_on opcode v) s (λ b. goes (cond b to next) stack s)))
+branch_if_by next opcode s operand.None = refl
+branch_if_by next opcode s (operand.Number n) = refl
+branch_if_by next opcode s (operand.Slot k) = refl
+branch_if_by next opcode s (operand.Token t) = refl
+branch_if_by next opcode s (operand.Target t) = refl
+branch_if_by next opcode s (operand.Targets t) = refl
+
+pub load_str_by : (next : ℕ) (rec : AsmRec) (s : State) (o : Operand) → load_str next s (use_of rec form.LdStr o) ≡ given (token_in o) s (λ t. known (text_of rec t) s (load_text next s))
+load_str_by next rec s operand.None = refl
+load_str_by next rec s (operand.Number n) = refl
+load_str_by next rec s (operand.Slot k) = refl
+load_str_by next rec s (operand.Token t) = refl
+load_str_by next rec s (operand.Target t) = refl
+load_str_by next rec s (operand.Targets t) = refl
+
+pub call_by : (q : Queries) (next : ℕ) (rec : AsmRec) (s : State) (o : Operand) → call_use q next s (use_of rec form.Call o) ≡ given (token_in o) s (λ t. known (callee_of rec t) s (call q next s))
+call_by q next rec s operand.None = refl
+call_by q next rec s (operand.Number n) = refl
+call_by q next rec s (operand.Slot k) = refl
+call_by q next rec s (operand.Token t) = refl
+call_by q next rec s (operand.Target t) = refl
+call_by q next rec s (operand.Targets t) = refl

@@ -1,0 +1,4 @@
+pub mod Places
+pub mod Took
+pub mod Operands
+pub mod Code

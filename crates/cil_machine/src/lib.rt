@@ -1,0 +1,18 @@
+//! The machine: runs a program one instruction at a time. In go a thin record and an entry, out come printed bytes and
+//! an end; each step is `cil_values`' definition of a step over the queries of that record.
+#![tactic(auto)]
+
+mod args;
+mod call;
+mod callee;
+mod forms;
+mod operands;
+mod places;
+mod print;
+mod program;
+mod step_out;
+mod values;
+
+pub use callee::Callee;
+pub use program::Program;
+pub use step_out::StepOut;
