@@ -3,3 +3,4 @@ pub mod TypeLemmas
 pub mod OperandLemmas
 pub mod FitLemmas
 pub mod CodeLemmas
+pub mod WorldLemmas

@@ -74,3 +74,53 @@ call_by q next rec s (operand.Slot k) = refl
 call_by q next rec s (operand.Token t) = refl
 call_by q next rec s (operand.Target t) = refl
 call_by q next rec s (operand.Targets t) = refl
+
+pub plain_LdArg : (rec : AsmRec) (o : Operand) → use_of rec form.LdArg o ≡ plain_use o
+plain_LdArg rec operand.None = refl
+plain_LdArg rec (operand.Number n) = refl
+plain_LdArg rec (operand.Slot k) = refl
+plain_LdArg rec (operand.Token t) = refl
+plain_LdArg rec (operand.Target t) = refl
+plain_LdArg rec (operand.Targets t) = refl
+
+pub plain_LdLoc : (rec : AsmRec) (o : Operand) → use_of rec form.LdLoc o ≡ plain_use o
+plain_LdLoc rec operand.None = refl
+plain_LdLoc rec (operand.Number n) = refl
+plain_LdLoc rec (operand.Slot k) = refl
+plain_LdLoc rec (operand.Token t) = refl
+plain_LdLoc rec (operand.Target t) = refl
+plain_LdLoc rec (operand.Targets t) = refl
+
+pub plain_StLoc : (rec : AsmRec) (o : Operand) → use_of rec form.StLoc o ≡ plain_use o
+plain_StLoc rec operand.None = refl
+plain_StLoc rec (operand.Number n) = refl
+plain_StLoc rec (operand.Slot k) = refl
+plain_StLoc rec (operand.Token t) = refl
+plain_StLoc rec (operand.Target t) = refl
+plain_StLoc rec (operand.Targets t) = refl
+
+pub plain_LdI4 : (rec : AsmRec) (o : Operand) → use_of rec form.LdI4 o ≡ plain_use o
+plain_LdI4 rec operand.None = refl
+plain_LdI4 rec (operand.Number n) = refl
+plain_LdI4 rec (operand.Slot k) = refl
+plain_LdI4 rec (operand.Token t) = refl
+plain_LdI4 rec (operand.Target t) = refl
+plain_LdI4 rec (operand.Targets t) = refl
+
+pub plain_Br : (rec : AsmRec) (o : Operand) → use_of rec form.Br o ≡ plain_use o
+plain_Br rec operand.None = refl
+plain_Br rec (operand.Number n) = refl
+plain_Br rec (operand.Slot k) = refl
+plain_Br rec (operand.Token t) = refl
+plain_Br rec (operand.Target t) = refl
+plain_Br rec (operand.Targets t) = refl
+
+pub plain_BrIf : (rec : AsmRec) (o : Operand) → use_of rec form.BrIf o ≡ plain_use o
+plain_BrIf rec operand.None = refl
+plain_BrIf rec (operand.Number n) = refl
+plain_BrIf rec (operand.Slot k) = refl
+plain_BrIf rec (operand.Token t) = refl
+plain_BrIf rec (operand.Target t) = refl
+plain_BrIf rec (operand.Targets t) = refl
+
+pub ruleset plain = (store_by, plain_LdArg, plain_LdLoc, plain_StLoc, plain_LdI4, plain_Br, plain_BrIf)

@@ -1,5 +1,5 @@
 -- What the machine keeps of a record, so that a step searches nothing.
-use Rattle.std.specs.Prelude.{ℕ, ◌+◌, List, [], map, length, Option, Some, None, slice_get}
+use Rattle.std.specs.Prelude.{ℕ, ◌+◌, ◌<◌, List, [], map, length, Option, Some, None, slice_get}
 use Rattle.il_base.specs.declared.sig.MethodSig.{MethodSig}
 use Rattle.il_base.specs.declared.body.Body.{Body}
 use Rattle.il_base.specs.declared.body.Instr.{Instr}
@@ -45,3 +45,8 @@ abbrev pub place_of : AsmRec → Callee → ℕ
 place_of rec (Own k) = k
 place_of rec (Core WriteLineString) = length rec.method_def
 place_of rec (Core WriteLineInt) = length rec.method_def + 1
+
+-- a method of the program has a row
+abbrev pub IsThere : AsmRec → Callee → Type 0
+IsThere rec (Own k) = k < length rec.method_def
+IsThere rec (Core member) = Unit {0}

@@ -2,3 +2,4 @@ pub mod Places
 pub mod Took
 pub mod Operands
 pub mod Code
+pub mod Kept

@@ -1,10 +1,10 @@
 //! The method that a call names.
 
-ghost use Rattle.std.specs.Prelude.{◌≡◌, MatchOption};
+ghost use Rattle.std.specs.Prelude.{◌≡◌, MatchOption, IfSome};
 ghost use Rattle.world_model.specs.declared.known.Known.TheVariants.{Good, Bad};
 ghost use Rattle.world_model.specs.declared.known.BadKind.TheVariants.{Unresolved};
 ghost use Rattle.cil_values.specs.World.{callee_of, own_place, ref_place, core_place, member_at};
-ghost use Rattle.cil_machine.specs.Code.{place_of};
+ghost use Rattle.cil_machine.specs.Code.{place_of, IsThere};
 
 use world_model::{AsmRec, CoreMember, index_in, resolve_core_member};
 
@@ -19,7 +19,8 @@ pub enum Callee {
 /// The method that a MethodDef or MemberRef token names, None where the row isn't there or names nothing.
 #[tactic(auto, unfolding(cil_values::specs::World::callee_of))]
 pub(crate) fn callee_of(rec: &AsmRec, token: u32) -> Option<Callee>
-    ensures { MatchOption result (callee_of rec.now token ≡ Bad Unresolved) (λ callee. callee_of rec.now token ≡ Good (place_of rec.now callee)) }
+    ensures named { MatchOption result (callee_of rec.now token ≡ Bad Unresolved) (λ callee. callee_of rec.now token ≡ Good (place_of rec.now callee)) }
+    ensures there { IfSome result (IsThere rec.now) }
 {
     if token / 0x100_0000 == 0x06 {
         let Some(at) = index_in(0x06, token) else {

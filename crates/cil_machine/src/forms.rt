@@ -1,15 +1,18 @@
 //! The forms of instruction that need nothing but the state.
 
-ghost use Rattle.std.specs.Prelude.{◌≡◌, [], IfOk};
+ghost use Rattle.std.specs.Prelude.{◌≡◌, [], map, slice_set, IfOk};
+ghost use Rattle.cil_values.specs.World.{expr_of};
+ghost use Rattle.cil_machine.specs.Kept.{store_in};
+ghost use Rattle.cil_machine.specs.Operands.{slot_in};
 ghost use Rattle.cil_values.specs.Words.{stuck, stopped};
 ghost use Rattle.cil_values.specs.Step.{load, load_int, branch, branch_if, binary, pop};
 ghost use Rattle.cil_machine.specs.Took.{next_of, plain_use};
 
 use crate::operands::{number_in, slot_in, target_in};
 use crate::step_out::StepOut;
-use crate::values::{binary_of, branches_on, int32_of};
+use crate::values::{binary_of, branches_on, int32_of, stored};
 use cil_values::{End, State, Value};
-use il_base::{NoMemory, Operand};
+use il_base::{NoMemory, Operand, Seq, Sig};
 
 /// The code breaks a rule at this instruction.
 pub(crate) fn stuck(st: &State) -> StepOut
@@ -136,4 +139,34 @@ pub(crate) fn binary(st: &mut State, next: u32, opcode: u16) -> Result<StepOut, 
     st.top.stack.push(value)?;
     st.top.at = next;
     Ok(StepOut::Went)
+}
+
+/// Puts a value into a slot, if there is such a slot.
+fn put(slots: &mut Seq<Value>, at: usize, value: Value)
+    ensures { slots.new ≡ slice_set slots.old at value }
+{
+    if at < slots.len() {
+        slots.set(at, value);
+    }
+}
+
+/// `stloc` (III.3.63), with the types of the locals.
+pub(crate) fn store_local(st: &mut State, next: u32, types: &[Sig], operand: &Operand) -> StepOut
+    ensures { next_of result st.new [] ≡ store_in next (map expr_of types.now) st.old (slot_in operand.now) }
+{
+    let Some(at) = slot_in(operand) else {
+        return stuck(st);
+    };
+    let Some(value) = st.top.stack.pop() else {
+        return stuck(st);
+    };
+    let Some(ty) = types.get(at as usize) else {
+        return stuck(st);
+    };
+    let Some(kept) = stored(ty, value) else {
+        return stuck(st);
+    };
+    put(&mut st.top.locals, at as usize, kept);
+    st.top.at = next;
+    StepOut::Went
 }

@@ -10,9 +10,12 @@ mod operands;
 mod places;
 mod print;
 mod program;
+mod step;
 mod step_out;
+mod text;
 mod values;
 
 pub use callee::Callee;
 pub use program::Program;
+pub use step::step;
 pub use step_out::StepOut;

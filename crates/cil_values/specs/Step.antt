@@ -1,5 +1,5 @@
 -- A step of the machine: one instruction, a function of the state (III.3, III.4).
-use Rattle.std.specs.Prelude.{ℕ, ℤ, List, ◌∷◌, Bool, true, false, Option, Some, None, slice_get, slice_set, find, nat_eq, ◌==◌, ◌||◌, not, if◌then◌else◌}
+use Rattle.std.specs.Prelude.{ℕ, ℤ, pos, negsuc, nat_lt, List, ◌∷◌, Bool, true, false, Option, Some, None, slice_get, slice_set, find, nat_eq, ◌==◌, ◌||◌, not, if◌then◌else◌}
 use Rattle.std.specs.Int.{w32, int_wrapping_add, int_wrapping_sub, int_wrapping_mul}
 use Rattle.std.specs.Ordering.{int_eq}
 use Rattle.il_base.specs.declared.body.Form.{Form}
@@ -25,9 +25,14 @@ abbrev pub store_local : ℕ → Method → State → Use → Next
 store_local next m s (slot k) = popped s.top.stack s (λ v stack. given (slice_get m.locals k) s (λ t. given (stores t v) s (keep_local next k stack s)))
 store_local next m s _ = stuck s
 
+-- a constant of 32 bits
+abbrev pub int32_of : ℤ → Option ℤ
+int32_of (pos n) = if nat_lt n 2147483648 then Some (pos n) else None
+int32_of (negsuc n) = if nat_lt n 2147483648 then Some (negsuc n) else None
+
 -- `ldc.i4` (III.3.40)
 abbrev pub load_int : ℕ → State → Use → Next
-load_int next s (number n) = goes next (I4 n ∷ s.top.stack) s
+load_int next s (number n) = given (int32_of n) s (λ k. goes next (I4 k ∷ s.top.stack) s)
 load_int next s _ = stuck s
 
 -- `ldstr` (III.4.16)

@@ -9,6 +9,7 @@ mod expr;
 mod extras;
 mod known;
 mod members;
+mod opcodes;
 mod record;
 mod types;
 mod world;
@@ -31,6 +32,7 @@ pub use members::{
     EventMapRow, EventRow, FieldRow, MemberRefRow, MethodDefRow, MethodImplRow, MethodSemanticsRow,
     MethodSpecRow, ParamRow, PropertyMapRow, PropertyRow, StandAloneSigRow,
 };
+pub use opcodes::instruction_len;
 pub use record::{AsmRec, UserText};
 pub use types::{
     ClassLayoutRow, ExportedTypeRow, GenericParamConstraintRow, GenericParamRow, InterfaceImplRow,
