@@ -6,16 +6,16 @@ mod args;
 mod call;
 mod callee;
 mod forms;
+mod machine;
 mod operands;
 mod places;
 mod print;
 mod program;
-mod step;
 mod step_out;
 mod text;
 mod values;
 
 pub use callee::Callee;
+pub use machine::step;
 pub use program::Program;
-pub use step::step;
 pub use step_out::StepOut;
