@@ -85,3 +85,12 @@ step_at rec s row x e p =
     let q = queries_of rec in
     ap (λ (o : Option Method). given o s (λ m. given (instruction_at m s.top.at) s (λ i. execute q m i s i.form))) (ap (λ (o : Option MethodDefRow). option_and_then (method_of rec) o) e ∙ method_by_parts rec row ∙ ap (λ (o : Option (MethodSig × Body)). method_from rec o) p)
     ∙ ap (λ (o : Option Instruction). given o s (λ i. execute q (method_with rec x.0 x.1) i s i.form)) (instruction_by rec x.0 x.1 s.top.at)
+
+-- the method that a place names, by its row's signature and body
+pub query_at : (rec : AsmRec) (m : ℕ) (row : MethodDefRow) (o : Option (MethodSig × Body)) → slice_get rec.method_def m ≡ Some row → parts_of row ≡ o → (queries_of rec).method m ≡ method_from rec o
+unfolding queries_of
+query_at rec m row o e p = ap (λ (r : Option MethodDefRow). option_and_then (method_of rec) r) e ∙ method_by_parts rec row ∙ ap (λ (x : Option (MethodSig × Body)). method_from rec x) p
+
+pub query_none : (rec : AsmRec) (m : ℕ) → slice_get rec.method_def m ≡ None → (queries_of rec).method m ≡ None
+unfolding queries_of
+query_none rec m e = ap (λ (r : Option MethodDefRow). option_and_then (method_of rec) r) e

@@ -3,3 +3,4 @@ pub mod Took
 pub mod Operands
 pub mod Code
 pub mod Kept
+pub mod Starts

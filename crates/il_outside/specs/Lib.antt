@@ -1,0 +1,4 @@
+pub mod Faults
+pub mod Folder
+pub mod Memory
+pub mod Streams
