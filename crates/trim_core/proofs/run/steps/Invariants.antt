@@ -1,0 +1,8 @@
+use Rattle.std.proofs.Common.{◌-◌}
+use Rattle.cil_values.specs.World.{queries_of}
+use Rattle.cil_values.specs.Run.{run}
+use Rattle.trim_core.proofs.RunLemmas.{Left}
+use Rattle.trim_core.proofs.run.steps.Given as goal
+
+abbrev pub invariant-loop : goal.invariant-loop
+invariant-loop g l = Left (run (queries_of l.program.rec.now) l.n l.fn.first) (g.O.Sink.state l.initial.out) (g.O.Sink.state l.out) (run (queries_of l.program.rec.now) (l.n - l.counter) l.st)

@@ -1,0 +1,121 @@
+//! A run of a thin record over a sink.
+
+ghost use Rattle.std.specs.Prelude.{◌≡◌};
+ghost use Rattle.cil_values.specs.World.{queries_of};
+ghost use Rattle.cil_values.specs.Step.{step};
+ghost use Rattle.cil_values.specs.Run.{run, stuck_at_once};
+ghost use Rattle.trim_core.specs.Exec.{RunsTo, LoopsTo, TurnsTo, end_of, place_in, run_of};
+
+use crate::answers::{EndKind, ExecFault, Refusal};
+use cil_machine::{Program, StepOut, first_state, step};
+use cil_values::{End, State};
+use il_base::{MethodId, Place};
+use il_outside::{Sink, SinkError, write_all};
+use std::alloc::Global;
+use world_model::AsmRec;
+
+/// A place in a method of the one file.
+fn place_of(method: MethodId, offset: u32) -> Place
+    ensures { result ≡ place_in method.0 offset }
+{
+    Place {
+        asm: 0,
+        token: 0x0600_0001u32.wrapping_add(method.0),
+        offset,
+    }
+}
+
+fn end_of(end: Option<End>) -> EndKind
+    ensures { result ≡ end_of end }
+{
+    match end {
+        None => EndKind::Spent,
+        Some(End::Ended { code }) => EndKind::Ended { code },
+        Some(End::Stopped { method, offset }) => EndKind::Stopped {
+            place: place_of(method, offset),
+        },
+        Some(End::Stuck { method, offset }) => EndKind::Stuck {
+            place: place_of(method, offset),
+        },
+    }
+}
+
+/// A step, and then the writing of what it printed.
+fn turn<O: Sink>(
+    alloc: Global,
+    program: &Program,
+    st: &mut State,
+    out: &mut O,
+) -> Result<StepOut, ExecFault>
+    ensures { TurnsTo (step (queries_of program.now.rec.now) st.old) st.new (O.state out.old) (O.state out.new) result }
+{
+    let mut printed = Vec::new(alloc);
+    match step(alloc, program, st, &mut printed) {
+        Err(_) => Err(ExecFault::Refused(Refusal::NoMemory)),
+        Ok(StepOut::Over(end)) => Ok(StepOut::Over(end)),
+        Ok(StepOut::Went) => match write_all(out, printed.as_slice()) {
+            Ok(()) => Ok(StepOut::Went),
+            Err(SinkError::Failed) => Err(ExecFault::Write),
+            Err(SinkError::NoMemory) => Err(ExecFault::Refused(Refusal::NoMemory)),
+        },
+    }
+}
+
+/// At most `n` steps.
+fn steps<O: Sink>(
+    alloc: Global,
+    program: &Program,
+    first: State,
+    n: u64,
+    out: &mut O,
+) -> Result<Option<End>, ExecFault>
+    ensures { LoopsTo (run (queries_of program.now.rec.now) n first) (O.state out.old) (O.state out.new) result }
+{
+    let mut st = first;
+    for _ in 0..n {
+        match turn(alloc, program, &mut st, out) {
+            Err(fault) => return Err(fault),
+            Ok(StepOut::Over(end)) => return Ok(Some(end)),
+            Ok(StepOut::Went) => {}
+        }
+    }
+    Ok(None)
+}
+
+/// The run of a method that is no entry point: it is stuck at its first step.
+fn stuck_at_once(entry: u32, n: u64) -> EndKind
+    ensures { result ≡ end_of (stuck_at_once entry n).end }
+{
+    if n == 0 {
+        return EndKind::Spent;
+    }
+    EndKind::Stuck {
+        place: place_of(MethodId(entry), 0),
+    }
+}
+
+/// `n` steps of a record's program from its entry. Printed bytes go to `out` after the step that printed them.
+#[tactic(auto, unfolding(crate::specs::Exec::run_of))]
+pub(crate) fn run_record<O: Sink>(
+    alloc: Global,
+    rec: &AsmRec,
+    n: u64,
+    out: &mut O,
+) -> Result<EndKind, ExecFault>
+    ensures { RunsTo (run_of rec.now n) (O.state out.old) (O.state out.new) result }
+{
+    let program = match Program::new(alloc, rec) {
+        Err(_) => return Err(ExecFault::Refused(Refusal::NoMemory)),
+        Ok(program) => program,
+    };
+    let entry = (rec.entry % 0x100_0000).saturating_sub(1);
+    let first = match first_state(alloc, &program, entry) {
+        Err(_) => return Err(ExecFault::Refused(Refusal::NoMemory)),
+        Ok(None) => return Ok(stuck_at_once(entry, n)),
+        Ok(Some(first)) => first,
+    };
+    match steps(alloc, &program, first, n, out) {
+        Err(fault) => Err(fault),
+        Ok(end) => Ok(end_of(end)),
+    }
+}
