@@ -1,11 +1,14 @@
 -- What a run of a record comes to: what it prints within n steps, and how it stands then.
-use Rattle.std.specs.Prelude.{◌≡◌, ℕ, ◌+◌, ◌-◌, ◌%◌, List, [], Option, Some, None, Result, Ok, Err}
+use Rattle.std.specs.Prelude.{◌≡◌, ℕ, ◌+◌, ◌-◌, ◌%◌, List, [], ◌∷◌, Option, Some, None, Result, Ok, Err}
 use Rattle.std.specs.Io.KnownBytes.{Appends}
 use Rattle.il_base.specs.declared.ids.MethodId.{MethodId}
 use Rattle.il_base.specs.declared.ids.Place.{Place}
 use Rattle.il_outside.specs.Streams.{SinkState, AppendsPrefix}
 use Rattle.il_outside.specs.Faults.{Rose}
 use Rattle.world_model.specs.declared.record.AsmRec.{AsmRec}
+use Rattle.world_model.specs.declared.assemblies.AssemblyRow.{AssemblyRow}
+use Rattle.thin_reader.specs.Record.{thin_record}
+use Rattle.trim_core.specs.declared.answers.Ending.{Ending}
 use Rattle.cil_values.specs.declared.state.End.{End}
 use Rattle.cil_values.specs.declared.state.End.TheVariants as run_end
 use Rattle.cil_values.specs.World.{queries_of}
@@ -66,3 +69,52 @@ TurnsTo (over e) now old new (Ok (out.Over f)) = (f ≡ e) × Appends old.held n
 TurnsTo (over e) now old new (Err Write) = ⊥
 TurnsTo (over e) now old new (Err (Refused NoMemory)) = Appends old.held new.held [] × (new.faults ≡ old.faults)
 TurnsTo (over e) now old new (Err (Refused (NotYet file))) = ⊥
+
+-- What the files are: the record of the one file, or the first file that can't be taken yet. A second file can't.
+abbrev pub alone : AsmRec → List (List ℕ) → Result AsmRec Refusal
+alone rec [] = Ok rec
+alone rec (g ∷ files) = Err (NotYet 1)
+
+abbrev pub told_with : List (List ℕ) → Option AsmRec → Result AsmRec Refusal
+told_with files None = Err (NotYet 0)
+told_with files (Some rec) = alone rec files
+
+abbrev pub told_of : List (List ℕ) → Result AsmRec Refusal
+told_of [] = Err (NotYet 0)
+told_of (f ∷ files) = told_with files (thin_record f)
+
+-- an answer is what the files are, unless memory ran out
+abbrev pub ToldAs : Result AsmRec Refusal → Result AsmRec Refusal → Type 0
+ToldAs (Ok rec) told = told ≡ Ok rec
+ToldAs (Err NoMemory) told = Unit {0}
+ToldAs (Err (NotYet file)) told = told ≡ Err (NotYet file)
+
+-- What `exec_to` answers and leaves: the run's, or the refusal with nothing written; only want of memory may come in the
+-- place of either.
+abbrev pub RefusesTo : Refusal → SinkState → SinkState → Result EndKind ExecFault → Type 0
+RefusesTo r old new (Ok end) = ⊥
+RefusesTo r old new (Err Write) = ⊥
+RefusesTo r old new (Err (Refused NoMemory)) = Appends old.held new.held [] × (new.faults ≡ old.faults)
+RefusesTo r old new (Err (Refused (NotYet file))) = (r ≡ NotYet file) × Appends old.held new.held [] × (new.faults ≡ old.faults)
+
+abbrev pub ExecsTo : Result AsmRec Refusal → ℕ → SinkState → SinkState → Result EndKind ExecFault → Type 0
+ExecsTo (Ok rec) n old new r = RunsTo (run_of rec n) old new r
+ExecsTo (Err refusal) n old new r = RefusesTo refusal old new r
+
+-- what `exec` answers
+abbrev pub Execs : Result AsmRec Refusal → ℕ → Result Ending Refusal → Type 0
+Execs (Ok rec) n (Ok x) = (x.output ≡ (run_of rec n).output) × (x.end ≡ end_of (run_of rec n).end)
+Execs (Ok rec) n (Err NoMemory) = Unit {0}
+Execs (Ok rec) n (Err (NotYet file)) = ⊥
+Execs (Err refusal) n (Ok x) = ⊥
+Execs (Err refusal) n (Err NoMemory) = Unit {0}
+Execs (Err refusal) n (Err (NotYet file)) = refusal ≡ NotYet file
+
+-- the name of a record's assembly
+abbrev pub first_name : List AssemblyRow → Option (List ℕ)
+first_name [] = None
+first_name (row ∷ rows) = Some row.name
+
+abbrev pub name_of : Option AsmRec → Option (List ℕ)
+name_of None = None
+name_of (Some rec) = first_name rec.assembly

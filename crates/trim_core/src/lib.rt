@@ -3,6 +3,9 @@
 #![tactic(auto)]
 
 mod answers;
+mod collect;
+mod execute;
 mod run;
 
 pub use answers::{EndKind, Ending, ExecFault, Refusal};
+pub use execute::{assembly_name, exec, exec_to};
