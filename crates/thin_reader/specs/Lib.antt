@@ -1,1 +1,13 @@
+pub mod Reading
+pub mod Image
+pub mod Metadata
+pub mod Heaps
+pub mod Signatures
+pub mod Code
+pub mod Bodies
+pub mod Rows
+pub mod Tables
+pub mod UserTexts
 pub mod Record
+pub mod Shapes
+pub mod Others

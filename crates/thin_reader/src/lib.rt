@@ -1,17 +1,29 @@
-//! temporary
+//! Thin files: the bytes of a file go in, and its record comes out where the file is thin, and none where it isn't.
+//! `specs/Record` defines which record that is; the result is its `thin_record`.
 #![tactic(auto)]
 
-ghost use Rattle.std.specs.Prelude.{◌≡◌, IfOk};
-ghost use Rattle.thin_reader.specs.Record.{thin_record};
+mod bodies;
+mod bytes;
+mod code;
+mod core_names;
+mod heaps;
+mod image;
+mod metadata;
+mod opcodes;
+mod other_tables;
+mod record;
+mod rows;
+mod signatures;
+mod tables;
+mod thin;
+mod thin_methods;
+mod tokens;
+mod unread;
+mod user_texts;
 
-use il_base::NoMemory;
-use std::alloc::Global;
-use world_model::AsmRec;
+pub use core_names::core_member;
+pub use record::read_thin;
+pub use thin::is_thin;
 
-pub fn read_thin(alloc: Global, bytes: &[u8]) -> Result<Option<AsmRec>, NoMemory>
-    ensures { IfOk result (λ found. found ≡ thin_record bytes.now) }
-{
-    let _ = alloc;
-    let _ = bytes;
-    Err(NoMemory)
-}
+#[cfg(test)]
+mod tests;

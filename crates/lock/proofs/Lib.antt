@@ -1,0 +1,5 @@
+pub mod Words
+pub mod Calls
+pub mod Forms
+pub mod Runs
+pub mod Itself

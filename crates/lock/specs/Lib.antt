@@ -1,0 +1,4 @@
+pub mod Move
+pub mod Agree
+pub mod Lock
+pub mod Alike

@@ -1,0 +1,5 @@
+pub mod Rows
+pub mod Flags
+pub mod Steps
+pub mod Rules
+pub mod BadOperands
