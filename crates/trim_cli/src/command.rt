@@ -1,0 +1,17 @@
+/// What the words ask for. Words are named by their places, counted from 0.
+#[derive(Clone, Copy, Debug, PartialEq, Eq)]
+pub enum Command {
+    /// `exec IN [--steps N]`
+    Exec { input: usize, steps: u64 },
+}
+
+/// What was read of the words behind the command's.
+#[derive(Clone, Copy, Debug, PartialEq, Eq)]
+pub(crate) struct Progress {
+    /// Whether the word `--` was read: every later word is a name.
+    pub(crate) names_only: bool,
+    /// Whether the next word is the value of `--steps`.
+    pub(crate) expects: bool,
+    pub(crate) steps: Option<u64>,
+    pub(crate) input: Option<usize>,
+}

@@ -1,0 +1,47 @@
+ghost use Rattle.std.specs.Prelude.{◌≡◌};
+
+use il_base::Place;
+
+/// How the program answers.
+#[derive(Clone, Copy, Debug, PartialEq, Eq)]
+pub enum Status {
+    /// The program of `exec` returned from its entry point.
+    Ended { code: i32 },
+    /// The words aren't a command's: the place of the first bad word, counted from 0, or the number of words where one
+    /// is missing.
+    BadWords { place: u32 },
+    /// A file couldn't be read.
+    ReadFault,
+    /// The output, or the status line, couldn't be written.
+    WriteFault,
+    NoMemory,
+    /// The program of `exec` used up its steps.
+    Spent { steps: u64 },
+    /// The program of `exec` reached an operand that names nothing usable, or a limit.
+    Stopped { place: Place },
+    /// The program of `exec` broke a rule that the machine relies on.
+    Stuck { place: Place },
+    /// A file, counted from 0, isn't of the kind that can be taken yet.
+    NotYet { file: u32 },
+}
+
+impl Status {
+    ghost use Rattle.trim_cli.specs.Lines.{code_of};
+
+    /// The code that the program ends with.
+    pub fn code(&self) -> u8
+        ensures { result ≡ code_of self.now }
+    {
+        match self {
+            Status::Ended { .. } => 0,
+            Status::BadWords { .. } => 2,
+            Status::ReadFault => 9,
+            Status::WriteFault => 10,
+            Status::NoMemory => 11,
+            Status::Spent { .. } => 21,
+            Status::Stopped { .. } => 22,
+            Status::Stuck { .. } => 23,
+            Status::NotYet { .. } => 30,
+        }
+    }
+}

@@ -1,0 +1,180 @@
+//! Reading the program's words, from left to right.
+
+ghost use Rattle.std.specs.Prelude.{◌≡◌, ◌≤◌, ◌+◌, ◌-◌, ◌*◌, map, length, drop, true};
+ghost use Rattle.std.specs.List.{list_all};
+ghost use Rattle.std.specs.String.{string_bytes};
+ghost use Rattle.trim_cli.specs.Words.{is_digit, value_of, number_of, begins_with_dash, word_step, take_option, take_name, take_value, rest_of, finish, read_words, begin};
+
+use crate::command::{Command, Progress};
+
+/// The steps that `exec` makes where the words don't say.
+const DEFAULT_STEPS: u64 = 100_000_000;
+
+fn all_digits(word: &[u8]) -> bool
+    ensures { result ≡ list_all is_digit word.now }
+{
+    word.iter().all(|b| b'0' <= *b && *b <= b'9')
+}
+
+fn with_digit(value: u64, b: u8) -> u64
+    requires small { value ≤ 99999999999 }
+    requires digit { is_digit b ≡ true }
+    ensures { result ≡ value * 10 + (b - 48) }
+{
+    value * 10 + u64::from(b - b'0')
+}
+
+/// The number that decimal digits spell.
+#[tactic(auto, using(crate::proofs::DigitLemmas::digits))]
+fn value_of(word: &[u8]) -> u64
+    requires short { length word.now ≤ 12 }
+    requires digits { list_all is_digit word.now ≡ true }
+    ensures { result ≡ value_of 0 word.now }
+{
+    let mut value = 0u64;
+    for b in word {
+        value = with_digit(value, *b);
+    }
+    value
+}
+
+/// A number of 1 to 12 decimal digits.
+#[tactic(auto, unfolding(crate::specs::Words::number_of))]
+fn number_of(word: &[u8]) -> Option<u64>
+    ensures { result ≡ number_of word.now }
+{
+    if word.is_empty() || word.len() > 12 || !all_digits(word) {
+        return None;
+    }
+    Some(value_of(word))
+}
+
+fn take_value(progress: Progress, number: Option<u64>) -> Option<Progress>
+    ensures { result ≡ take_value progress number }
+{
+    match number {
+        None => None,
+        Some(steps) => Some(Progress {
+            names_only: progress.names_only,
+            expects: false,
+            steps: Some(steps),
+            input: progress.input,
+        }),
+    }
+}
+
+fn take_option(progress: Progress, word: &[u8]) -> Option<Progress>
+    ensures { result ≡ take_option progress word.now }
+{
+    if word == b"--".as_slice() {
+        return Some(Progress {
+            names_only: true,
+            expects: progress.expects,
+            steps: progress.steps,
+            input: progress.input,
+        });
+    }
+    if word == b"--steps".as_slice() && progress.steps.is_none() {
+        return Some(Progress {
+            names_only: progress.names_only,
+            expects: true,
+            steps: progress.steps,
+            input: progress.input,
+        });
+    }
+    None
+}
+
+fn take_name(progress: Progress, at: usize, word: &[u8]) -> Option<Progress>
+    ensures { result ≡ take_name progress at word.now }
+{
+    if word.is_empty() || progress.input.is_some() {
+        return None;
+    }
+    Some(Progress {
+        names_only: progress.names_only,
+        expects: progress.expects,
+        steps: progress.steps,
+        input: Some(at),
+    })
+}
+
+fn begins_with_dash(word: &[u8]) -> bool
+    ensures { result ≡ begins_with_dash word.now }
+{
+    match word {
+        [] => false,
+        [first, ..] => *first == b'-',
+    }
+}
+
+/// One word, at place `at`; None where it is bad.
+#[tactic(auto, unfolding(crate::specs::Words::word_step))]
+fn word_step(progress: Progress, at: usize, word: &[u8]) -> Option<Progress>
+    ensures { result ≡ word_step progress at word.now }
+{
+    if progress.expects {
+        return take_value(progress, number_of(word));
+    }
+    if !progress.names_only && begins_with_dash(word) {
+        return take_option(progress, word);
+    }
+    take_name(progress, at, word)
+}
+
+#[tactic(auto, unfolding(crate::specs::Words::finish))]
+fn finish(words: usize, progress: Progress) -> Result<Command, usize>
+    ensures { result ≡ finish words progress }
+{
+    if progress.expects {
+        return Err(words);
+    }
+    match progress.input {
+        None => Err(words),
+        Some(input) => match progress.steps {
+            None => Ok(Command::Exec {
+                input,
+                steps: DEFAULT_STEPS,
+            }),
+            Some(steps) => Ok(Command::Exec { input, steps }),
+        },
+    }
+}
+
+/// The words behind the command's, from left to right.
+fn rest_of(words: &[String]) -> Result<Progress, usize>
+    ensures { result ≡ rest_of 1 (map string_bytes (drop 1 words.now)) begin }
+{
+    let mut progress = Progress {
+        names_only: false,
+        expects: false,
+        steps: None,
+        input: None,
+    };
+    for at in 1..words.len() {
+        match word_step(progress, at, words[at].as_bytes()) {
+            None => return Err(at),
+            Some(next) => progress = next,
+        }
+    }
+    Ok(progress)
+}
+
+/// What the words ask for, or the place of the first bad word; where a word is missing, the number of words.
+#[tactic(auto, unfolding(crate::specs::Words::read_words))]
+pub(crate) fn read_words(words: &[String]) -> Result<Command, usize>
+    ensures { result ≡ read_words (map string_bytes words.now) }
+{
+    match words {
+        [] => Err(0),
+        [first, ..] => {
+            if first.as_bytes() != b"exec".as_slice() {
+                return Err(0);
+            }
+            match rest_of(words) {
+                Err(at) => Err(at),
+                Ok(progress) => finish(words.len(), progress),
+            }
+        }
+    }
+}
