@@ -1,5 +1,5 @@
 -- A form's meaning goes by what its operand is.
-use Rattle.std.proofs.Common.{◌≡◌, ℕ, ℤ, List, ◌∷◌, Option, Some, None, refl, cond}
+use Rattle.std.proofs.Common.{◌≡◌, ℕ, List, ◌∷◌, refl, cond}
 use Rattle.std.specs.Prelude.{slice_get}
 use Rattle.il_base.specs.declared.body.Form.TheVariants as form
 use Rattle.il_base.specs.declared.body.Operand.{Operand}
@@ -10,7 +10,7 @@ use Rattle.cil_values.specs.declared.value.Value.TheVariants.{I4}
 use Rattle.cil_values.specs.declared.state.State.{State}
 use Rattle.cil_values.specs.Queries.{Queries, Method}
 use Rattle.cil_values.specs.World.{use_of, callee_of, text_of}
-use Rattle.cil_values.specs.Words.{Next, stuck, goes, given, known, popped, stores}
+use Rattle.cil_values.specs.Words.{goes, given, known, popped, stores}
 use Rattle.cil_values.specs.Text.{load_text}
 use Rattle.cil_values.specs.Call.{call}
 use Rattle.cil_values.specs.Step.{load, store_local, keep_local, int32_of, load_int, load_str, branch, branch_if, branches_on, call_use}

@@ -1,5 +1,5 @@
 -- What a slot keeps goes by its type's element type.
-use Rattle.std.proofs.Common.{◌≡◌, ℕ, Bool, true, false, cond, Option, Some, None, refl, pos, eqb}
+use Rattle.std.proofs.Common.{◌≡◌, ℕ, Bool, false, cond, Option, Some, None, refl, pos, eqb}
 use Rattle.il_base.specs.declared.sig.Sig.{Sig, Prim}
 use Rattle.world_model.specs.Core.{prim_code}
 use Rattle.cil_values.specs.declared.value.Value.{Value}

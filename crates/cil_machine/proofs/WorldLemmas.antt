@@ -1,6 +1,6 @@
 -- The queries of a record, by what the code looks up.
-use Rattle.std.proofs.Common.{◌≡◌, ℕ, ◌+◌, ◌<◌, Bool, true, false, cond, eqb, List, [], ◌∷◌, length, map, Option, Some, None, refl, sym, ap, ◌∙◌, arith}
-use Rattle.std.specs.Prelude.{slice_get, find, option_map}
+use Rattle.std.proofs.Common.{◌≡◌, ℕ, ◌+◌, ◌<◌, Bool, true, false, cond, eqb, List, [], ◌∷◌, length, map, Option, Some, None, refl, ap, ◌∙◌, arith}
+use Rattle.std.specs.Prelude.{slice_get, find}
 use Rattle.std.specs.Option.{option_and_then}
 use Rattle.std.proofs.lemmas.Bool.{ne_eqb, eq-eqb}
 use Rattle.il_base.specs.declared.sig.MethodSig.{MethodSig}
@@ -13,13 +13,12 @@ use Rattle.world_model.specs.declared.core_member.CoreMember.TheVariants.{WriteL
 use Rattle.world_model.specs.declared.members.MethodDefRow.{MethodDefRow}
 use Rattle.world_model.specs.declared.record.AsmRec.{AsmRec}
 use Rattle.cil_values.specs.declared.state.State.{State}
-use Rattle.cil_values.specs.Queries.{Queries, Method, Instruction}
+use Rattle.cil_values.specs.Queries.{Method, Instruction}
 use Rattle.cil_values.specs.World.{queries_of, method_of, method_of_body, method_with, core_at, instruction_of}
-use Rattle.cil_values.specs.Words.{Next, given, stuck}
+use Rattle.cil_values.specs.Words.{given}
 use Rattle.cil_values.specs.Call.{call, call_of, core_call, own_call}
 use Rattle.cil_values.specs.Step.{instruction_at, step, execute}
-use Rattle.cil_machine.specs.declared.callee.Callee.{Callee}
-use Rattle.cil_machine.specs.declared.callee.Callee.TheVariants.{Own, Core}
+use Rattle.cil_machine.specs.declared.callee.Callee.TheVariants.{Core}
 use Rattle.cil_machine.specs.Code.{parts_of, with_body, place_of}
 
 -- a method by its signature and body

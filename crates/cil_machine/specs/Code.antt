@@ -5,7 +5,6 @@ use Rattle.il_base.specs.declared.body.Body.{Body}
 use Rattle.il_base.specs.declared.body.Instr.{Instr}
 use Rattle.world_model.specs.declared.known.Known.{Known}
 use Rattle.world_model.specs.declared.known.Known.TheVariants.{Good, Bad}
-use Rattle.world_model.specs.declared.core_member.CoreMember.{CoreMember}
 use Rattle.world_model.specs.declared.core_member.CoreMember.TheVariants.{WriteLineString, WriteLineInt}
 use Rattle.world_model.specs.declared.members.MethodDefRow.{MethodDefRow}
 use Rattle.world_model.specs.declared.record.UserText.{UserText}

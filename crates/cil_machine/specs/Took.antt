@@ -1,5 +1,5 @@
 -- What the code of a step answers, as the definition has it.
-use Rattle.std.specs.Prelude.{ℕ, List, Option, Some, None}
+use Rattle.std.specs.Prelude.{ℕ, List}
 use Rattle.il_base.specs.declared.body.Operand.{Operand}
 use Rattle.il_base.specs.declared.body.Operand.TheVariants as operand
 use Rattle.cil_values.specs.declared.state.State.{State}

@@ -66,7 +66,7 @@ units-on front item i total lt so_far =
     let high : 2 * i + 1 < length item = omega arith in
     let e : 2 * i + 1 + 1 ≡ 2 * (i + 1) = omega arith in
     let d : drop (2 * i) item ≡ get_or item (2 * i) 0 ∷ get_or item (2 * i + 1) 0 ∷ drop (2 * (i + 1)) item
-          = drop-next item (2 * i) low ∙ ap (λ (xs : List ℕ). get_or item (2 * i) 0 ∷ xs) (drop-next item (2 * i + 1) high ∙ ap (λ (n : ℕ). get_or item (2 * i + 1) 0 ∷ drop n item) e) in
+    = drop-next item (2 * i) low ∙ ap (λ (xs : List ℕ). get_or item (2 * i) 0 ∷ xs) (drop-next item (2 * i + 1) high ∙ ap (λ (n : ℕ). get_or item (2 * i + 1) 0 ∷ drop n item) e) in
     let one : front ++ units_of (drop (2 * i) item) ≡ (front ++ (get_or item (2 * i) 0 + 256 * get_or item (2 * i + 1) 0) ∷ []) ++ units_of (drop (2 * (i + 1)) item) = rw d (simp append_assoc) in
     sym one ∙ so_far
 

@@ -22,8 +22,8 @@ fat_head tail first = do
   size ← number_at 4 tail 4
   locals ← number_at 4 tail 8
   if is_fat first && second == 0x30
-    then Some (record { tiny = false; init = nat_le 0x10 first; more = first / 8 % 2 == 1; max_stack = max_stack; locals = locals; start = 12; size = size })
-    else None
+      then Some (record { tiny = false; init = nat_le 0x10 first; more = first / 8 % 2 == 1; max_stack = max_stack; locals = locals; start = 12; size = size })
+      else None
 
 unfoldable pub head_at : List ℕ → Option Head
 head_at tail = do

@@ -35,16 +35,16 @@ section_at bs at = do
   raw_at ← number_at 4 bs (at + 20)
   last ← number_at 4 bs (at + 36)
   if nat_le (raw_at + raw_len) (length bs)
-    then Some (record { address = address; size = size; raw_at = raw_at; raw_len = raw_len })
-    else None
+      then Some (record { address = address; size = size; raw_at = raw_at; raw_len = raw_len })
+      else None
 
 unfoldable pub sections_at : List ℕ → Option Sections
 sections_at bs = do
   first ← section_at bs 0x178
   second ← section_at bs 0x1a0
   if first.address == 0x2000 && first.raw_at == 0x200
-    then Some (record { first = first; second = second })
-    else None
+      then Some (record { first = first; second = second })
+      else None
 
 -- whether an address of the image lies in a section
 abbrev pub covers : Section → ℕ → Bool
@@ -88,8 +88,8 @@ cli_header header = do
   entry ← number_at 4 header 20
   managed ← has_no_native header
   if size == 72 && flags % 2 == 1 && flags / 16 % 2 == 0
-    then Some (record { metadata = metadata; metadata_len = metadata_len; flags = flags; entry = entry })
-    else None
+      then Some (record { metadata = metadata; metadata_len = metadata_len; flags = flags; entry = entry })
+      else None
 
 -- the sections, the subsystem and the CLI header of a file of at most 1048576 bytes
 unfoldable pub image_at : List ℕ → Option Image

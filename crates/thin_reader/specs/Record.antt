@@ -15,14 +15,49 @@ use Rattle.thin_reader.specs.UserTexts.{texts_of}
 
 unfoldable pub assembled : Image → FirstTables → LastTables → List UserText → AsmRec
 assembled image first last user = record {
-  bits = image.cli.flags; subsystem = image.subsystem; entry = image.cli.entry; descriptor = None;
-  «module» = first.module; type_ref = first.type_ref; type_def = first.type_def; field = []; method_def = first.method_def; param = [];
-  interface_impl = []; member_ref = last.member_ref; constant = []; custom_attribute = []; field_marshal = []; decl_security = [];
-  class_layout = []; field_layout = []; stand_alone_sig = last.stand_alone_sig; event_map = []; event = []; property_map = []; property = [];
-  method_semantics = []; method_impl = []; module_ref = []; type_spec = []; impl_map = []; field_rva = []; assembly = last.assembly;
-  assembly_processor = []; assembly_os = []; assembly_ref = last.assembly_ref; assembly_ref_processor = []; assembly_ref_os = [];
-  file = []; exported_type = []; manifest_resource = []; nested_class = []; generic_param = []; method_spec = [];
-  generic_param_constraint = []; user = user
+  bits = image.cli.flags;
+  subsystem = image.subsystem;
+  entry = image.cli.entry;
+  descriptor = None;
+  «module» = first.module;
+  type_ref = first.type_ref;
+  type_def = first.type_def;
+  field = [];
+  method_def = first.method_def;
+  param = [];
+  interface_impl = [];
+  member_ref = last.member_ref;
+  constant = [];
+  custom_attribute = [];
+  field_marshal = [];
+  decl_security = [];
+  class_layout = [];
+  field_layout = [];
+  stand_alone_sig = last.stand_alone_sig;
+  event_map = [];
+  event = [];
+  property_map = [];
+  property = [];
+  method_semantics = [];
+  method_impl = [];
+  module_ref = [];
+  type_spec = [];
+  impl_map = [];
+  field_rva = [];
+  assembly = last.assembly;
+  assembly_processor = [];
+  assembly_os = [];
+  assembly_ref = last.assembly_ref;
+  assembly_ref_processor = [];
+  assembly_ref_os = [];
+  file = [];
+  exported_type = [];
+  manifest_resource = [];
+  nested_class = [];
+  generic_param = [];
+  method_spec = [];
+  generic_param_constraint = [];
+  user = user;
 }
 
 -- what the bytes hold, as far as thin files have it

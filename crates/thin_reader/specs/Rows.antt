@@ -95,8 +95,8 @@ type_def_row n strings end row = do
   fields ← number_at 2 row 10
   methods ← number_at 2 row 12
   if fields == 1 && nat_le 1 methods && nat_le methods end
-    then Some (record { flags = flags; name = name; namespace = namespace; extends = extends; field_list_first = 1; field_list_end = 1; method_list_first = methods; method_list_end = end })
-    else None
+      then Some (record { flags = flags; name = name; namespace = namespace; extends = extends; field_list_first = 1; field_list_end = 1; method_list_first = methods; method_list_end = end })
+      else None
 
 unfoldable pub body_of : List ℕ → Sections → ℕ → Option Body
 body_of file sections rva = if rva == 0 then None else (tail_at file sections rva >>= λ tail. body_at tail)

@@ -40,8 +40,8 @@ unfoldable pub text_at : List ℕ → ℕ → Option UserText
 text_at user at = do
   item ← item_at (drop at user)
   if length item == 0 || length item % 2 == 1
-    then Some (record { token = 0x70000000 + at; text = units_of item })
-    else None
+      then Some (record { token = 0x70000000 + at; text = units_of item })
+      else None
 
 abbrev pub and_text : Option UserText → List UserText → List UserText
 and_text None texts = texts

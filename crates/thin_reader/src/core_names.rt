@@ -8,13 +8,18 @@ use world_model::{AsmRec, CoreMember, Known, MemberRefRow, MemberSig, TypeRefRow
 
 /// The element types of void, int32 and string (II.23.1.16).
 pub const VOID: u8 = 0x01;
+
 pub const I4: u8 = 0x08;
+
 pub const STRING: u8 = 0x0e;
 
 /// The numbers of tables (II.22).
 pub const TYPE_REF: u8 = 0x01;
+
 pub const METHOD_DEF: u8 = 0x06;
+
 pub const STAND_ALONE_SIG: u8 = 0x11;
+
 pub const ASSEMBLY_REF: u8 = 0x23;
 
 /// The place of the row that a token of this table names, from 0.

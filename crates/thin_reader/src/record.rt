@@ -76,7 +76,12 @@ fn record_of(alloc: Global, bytes: &[u8]) -> Result<AsmRec, Unread>
     ensures { Reads result (record_of bytes.now) }
 {
     let image = image_of(bytes)?;
-    let meta = mapped(bytes, image.sections, image.cli.metadata, image.cli.metadata_len)?;
+    let meta = mapped(
+        bytes,
+        image.sections,
+        image.cli.metadata,
+        image.cli.metadata_len,
+    )?;
     let streams = streams_of(meta)?;
     let (counts, rows) = table_counts(streams.tables)?;
     let (first, rows) = first_tables(alloc, bytes, image.sections, &counts, &streams, rows)?;

@@ -5,7 +5,7 @@ ghost use Rattle.world_model.specs.Core.{is_core_name, core_member};
 ghost use Rattle.world_model.specs.Tokens.{index_in};
 
 use crate::core_names::{
-    METHOD_DEF, I4, VOID, core_member, index_in, is_core_name, is_prim, is_system_type,
+    I4, METHOD_DEF, VOID, core_member, index_in, is_core_name, is_prim, is_system_type,
     is_type_token,
 };
 use crate::other_tables::has_no_other_rows;

@@ -1,4 +1,4 @@
-use Rattle.std.proofs.Common.{◌≡◌, ◌∷◌, ◌++◌, [], take, drop, sym, ◌∙◌, ap}
+use Rattle.std.proofs.Common.{sym, ◌∙◌}
 use Rattle.cil_machine.proofs.FitLemmas.{taken_more}
 use Rattle.cil_machine.proofs.args.take_args.Goals as goal
 

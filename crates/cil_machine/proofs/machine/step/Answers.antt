@@ -2,7 +2,7 @@ use Rattle.std.proofs.Common.{◌≡◌, List, ℕ, Option, sym, ap, subst, ◌�
 use Rattle.il_base.specs.declared.body.Instr.{Instr}
 use Rattle.cil_values.specs.Words.{Next, given}
 use Rattle.cil_values.specs.World.{queries_of, instruction_of, method_with}
-use Rattle.cil_values.specs.Step.{step, execute}
+use Rattle.cil_values.specs.Step.{execute}
 use Rattle.cil_machine.specs.Took.{next_of}
 use Rattle.cil_machine.proofs.WorldLemmas.{step_at, resolved}
 use Rattle.cil_machine.proofs.machine.step.Goals as goal

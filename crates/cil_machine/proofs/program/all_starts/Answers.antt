@@ -1,4 +1,4 @@
-use Rattle.std.proofs.Common.{◌≡◌, ◌∙◌, ◌<◌, get_or, Option, refl, ◌+◌, ◌++◌, ◌∷◌, [], ℕ, List, Some, length, sym, ap, subst, arith, length-append}
+use Rattle.std.proofs.Common.{◌≡◌, ◌∙◌, Option, refl, ◌++◌, ◌∷◌, [], ℕ, List, Some, length, sym, ap, subst, arith, length-append}
 use Rattle.std.specs.Prelude.{slice_get}
 use Rattle.std.proofs.lemmas.Option.{slice_get_read}
 use Rattle.world_model.specs.declared.members.MethodDefRow.{MethodDefRow}

@@ -12,7 +12,7 @@ returns-in-Err c = instrs-fail c.args.code.now c.in-Err.e c.loop.done (length c.
 pub loop-preserved : goal.loop-preserved
 loop-preserved c = record {
   inside = c.in-Ok.ensures.within;
-  so_far = rw c.in_ok-push-in-Ok.ensures.ok (instrs-on c.args.code.now c.loop.done (length c.args.code.now) c.loop.counter c.loop.at c.in-Ok.next c.in-Ok.end (instrs_of c.args.code.now) c.loop-test.true c.if-at-code.false c.in-Ok.ensures.value c.loop.invariant.so_far)
+  so_far = rw c.in_ok-push-in-Ok.ensures.ok (instrs-on c.args.code.now c.loop.done (length c.args.code.now) c.loop.counter c.loop.at c.in-Ok.next c.in-Ok.end (instrs_of c.args.code.now) c.loop-test.true c.if-at-code.false c.in-Ok.ensures.value c.loop.invariant.so_far);
 }
 
 pub returns-then-at-code-2 : goal.returns-then-at-code-2

@@ -6,5 +6,5 @@ use Rattle.thin_reader.proofs.code.instrs.Given as goal
 abbrev pub invariant-loop : goal.invariant-loop
 invariant-loop l = record {
   inside : l.at ≤ length l.code;
-  so_far : and_front l.done (instrs_from l.code (length l.code - l.counter) l.at) ≡ instrs_from l.code (length l.code) 0
+  so_far : and_front l.done (instrs_from l.code (length l.code - l.counter) l.at) ≡ instrs_from l.code (length l.code) 0;
 }

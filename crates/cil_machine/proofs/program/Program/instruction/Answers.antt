@@ -1,9 +1,8 @@
-use Rattle.std.proofs.Common.{◌≡◌, sym, ap, subst, ◌∙◌}
+use Rattle.std.proofs.Common.{◌≡◌, sym, subst}
 use Rattle.il_base.specs.declared.body.Instr.{Instr}
-use Rattle.std.proofs.Common.{List, Option, ℕ, Some, map, eqb}
-use Rattle.std.specs.List.{position_from}
+use Rattle.std.proofs.Common.{List, Some}
 use Rattle.std.specs.Prelude.{slice_get}
-use Rattle.cil_machine.specs.Places.{AreFirst, place_in}
+use Rattle.cil_machine.specs.Places.{AreFirst}
 use Rattle.cil_machine.specs.Code.{offsets}
 use Rattle.cil_machine.proofs.CodeLemmas.{missing, present}
 use Rattle.cil_machine.proofs.program.Program.instruction.Goals as goal
