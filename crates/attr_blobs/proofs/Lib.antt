@@ -1,0 +1,5 @@
+pub mod Names
+pub mod Texts
+pub mod Sizes
+pub mod Opened
+pub mod Layers

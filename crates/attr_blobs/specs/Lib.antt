@@ -1,0 +1,5 @@
+pub mod TypeNames
+pub mod Texts
+pub mod Values
+pub mod Writing
+pub mod Answers

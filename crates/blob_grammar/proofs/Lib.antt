@@ -1,0 +1,9 @@
+pub mod Law
+pub mod Numbers
+pub mod Tokens
+pub mod Types
+pub mod TypeLaw
+pub mod Writing
+pub mod Whole
+pub mod Methods
+pub mod Values

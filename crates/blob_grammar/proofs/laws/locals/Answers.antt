@@ -1,0 +1,11 @@
+use Rattle.blob_grammar.specs.Signatures.{AreCounted, locals_bytes}
+use Rattle.blob_grammar.specs.Reading.{counted_at}
+use Rattle.blob_grammar.proofs.Methods.{counted_law, counted_again, counted_written}
+use Rattle.blob_grammar.proofs.Whole.{reads_law, writes_law}
+use Rattle.blob_grammar.proofs.laws.locals.Goals as goal
+
+pub returns-clause-read : goal.returns-clause-read
+returns-clause-read c = reads_law (counted_at 7) (AreCounted 7) (counted_law 7) (counted_again 7)
+
+pub returns-clause-written : goal.returns-clause-written
+returns-clause-written c = writes_law (counted_at 7) (AreCounted 7) (counted_law 7) (counted_again 7) (λ ss. locals_bytes ss) (counted_written 7)

@@ -1,0 +1,11 @@
+pub mod WrittenNumbers
+pub mod WrittenOperands
+pub mod TableBounds
+pub mod WrittenCode
+pub mod WrittenClauses
+pub mod WrittenBodies
+pub mod ReadNumbers
+pub mod ReadOperands
+pub mod ReadCode
+pub mod ReadClauses
+pub mod ReadBodies

@@ -1,0 +1,11 @@
+//! The grammars of blobs and method bodies: which bytes spell which value, and where bytes that spell none go wrong.
+//! The definitions stand in `specs`; here is the data that they and the readers share.
+#![tactic(auto)]
+
+mod body;
+mod body_laws;
+
+pub use body::{BODY, FILTER, FLOAT, Fault, Header, INSTRUCTION, Inline, Range, Row};
+pub use body_laws::{
+    read_body_is_spelled, spelled_body_is_read, written_body_is_read, written_body_is_spelled,
+};

@@ -1,0 +1,4 @@
+pub mod CodeLoop
+pub mod RuleLoops
+pub mod ClauseLoop
+pub mod Written

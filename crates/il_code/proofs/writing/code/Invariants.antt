@@ -1,0 +1,6 @@
+use Rattle.std.proofs.Common.{◌≡◌, ◌++◌, drop}
+use Rattle.body_grammar.specs.BodySpelling as grammar
+use Rattle.il_code.proofs.writing.code.Given as goal
+
+abbrev pub invariant-loop-i : goal.invariant-loop-i
+invariant-loop-i l = l.out.items ++ grammar.code_bytes (drop l.i-index l.instrs) ≡ grammar.code_bytes l.instrs

@@ -1,0 +1,19 @@
+//! Method bodies: bytes go in, and a `Body` or the first fault comes out; a `Body` goes in, and its bytes come out.
+//! The results are those of the grammar of bodies, `body_grammar`'s `specs/Bodies`.
+#![tactic(auto)]
+
+mod error;
+mod header;
+mod instructions;
+mod opcodes;
+mod reading;
+mod rules;
+mod section;
+mod writing;
+
+pub use error::{BodyError, ReadBody};
+pub use reading::read_body;
+pub use writing::write_body;
+
+#[cfg(test)]
+mod tests;

@@ -1,0 +1,5 @@
+pub mod Lists
+pub mod Beside
+pub mod Rows
+pub mod Utf8
+pub mod Taken

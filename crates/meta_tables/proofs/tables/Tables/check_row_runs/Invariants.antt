@@ -1,0 +1,8 @@
+-- What was looked at so far is in order.
+use Rattle.std.proofs.Common.{◌≡◌, None}
+use Rattle.cli_format.specs.Demand.{first_fault, each_below}
+use Rattle.cli_format.specs.Metadata.{run_demands}
+use Rattle.meta_tables.proofs.tables.Tables.check_row_runs.Given as goal
+
+abbrev pub invariant-loop-c : goal.invariant-loop-c
+invariant-loop-c l = first_fault (each_below (run_demands l.self l.base l.table l.row) l.c) ≡ None

@@ -1,0 +1,8 @@
+-- What was looked at so far is in order.
+use Rattle.std.proofs.Common.{◌≡◌, None}
+use Rattle.cli_format.specs.Demand.{first_fault, each_below}
+use Rattle.cli_format.specs.Metadata.{sort_demands}
+use Rattle.meta_tables.proofs.tables.Tables.check_table_sorted.Given as goal
+
+abbrev pub invariant-loop-r : goal.invariant-loop-r
+invariant-loop-r l = first_fault (each_below (sort_demands l.self l.base l.table) l.r) ≡ None

@@ -1,0 +1,136 @@
+ghost use Rattle.std.specs.Prelude.{◌≡◌, ◌+◌, ◌<◌, ◌^◌, ◌==◌, ◌||◌, ◌≤◌, length, IfOk};
+ghost use Rattle.cli_format.specs.Demand.{Checked};
+ghost use Rattle.cli_format.specs.Image.{signature_place, signature_demands, optional_place, magic_demands, directory_place, directory_demands, directory_count_place, is_wide, header_demands, sections_demands, subsystem_of, sections_place, section_count};
+
+use crate::sections::Sections;
+use cli_format::{NO_CLI, NOT_PE, need, need_bytes, u16_in, u32_in};
+use il_base::BadAt;
+
+/// The magic of an optional header of PE32 (II.25.2.3.1).
+const PE32: u16 = 0x10b;
+
+/// The magic of an optional header of PE32+.
+const PE32_PLUS: u16 = 0x20b;
+
+/// The place of the PE signature, which the DOS header gives (II.25.2.1).
+#[tactic(auto, using(cli_format::proofs::Faults::faults), unfolding(cli_format::specs::Image::signature_place, cli_format::specs::Image::signature_demands))]
+pub fn find_signature(bytes: &[u8]) -> Result<u32, BadAt>
+    requires { length bytes.now < 2 ^ 32 }
+    ensures { Checked result (signature_demands bytes.now) (signature_place bytes.now) }
+{
+    need(u16_in(bytes, 0) == 0x5a4d, 0, NOT_PE)?;
+    need_bytes(bytes, 0x3c, 4)?;
+    let place = u32_in(bytes, 0x3c);
+    need_bytes(bytes, place as usize, 4)?;
+    need(
+        u32_in(bytes, place as usize) == 0x4550,
+        place as usize,
+        NOT_PE,
+    )?;
+    Ok(place)
+}
+
+/// The place of the optional header, behind the signature and the COFF header (II.25.2.3).
+#[tactic(auto, using(cli_format::proofs::Faults::faults), unfolding(cli_format::specs::Image::optional_place, cli_format::specs::Image::magic_demands, cli_format::specs::Image::is_wide))]
+pub fn find_optional(bytes: &[u8], signature: u32) -> Result<usize, BadAt>
+    requires small { length bytes.now < 2 ^ 32 }
+    requires place { signature ≡ signature_place bytes.now }
+    ensures checked { Checked result (magic_demands bytes.now) (optional_place bytes.now) }
+    ensures within { IfOk result (λ at. at + 2 ≤ length bytes.now) }
+{
+    let place = signature as usize + 24;
+    need_bytes(bytes, place, 2)?;
+    need(is_magic(u16_in(bytes, place)), place, NOT_PE)?;
+    Ok(place)
+}
+
+fn is_magic(magic: u16) -> bool
+    ensures { result ≡ (magic == 0x20b || magic == 0x10b) }
+{
+    magic == PE32_PLUS || magic == PE32
+}
+
+/// The place of directory 14, the CLI header's (II.25.2.3.3).
+#[tactic(auto, using(cli_format::proofs::Faults::faults), unfolding(cli_format::specs::Image::directory_place, cli_format::specs::Image::directory_demands))]
+pub fn find_directory(bytes: &[u8], optional: usize) -> Result<usize, BadAt>
+    requires small { length bytes.now < 2 ^ 32 }
+    requires place { optional ≡ optional_place bytes.now }
+    requires reach { optional < 2 ^ 33 }
+    ensures checked { Checked result (directory_demands bytes.now) (directory_place bytes.now) }
+    ensures within { IfOk result (λ at. at + 4 ≤ length bytes.now) }
+{
+    let count = count_place(bytes, optional);
+    need_bytes(bytes, count, 4)?;
+    need(15 <= u32_in(bytes, count), count, NO_CLI)?;
+    let place = count + 116;
+    need_bytes(bytes, place, 4)?;
+    need(u32_in(bytes, place) != 0, place, NO_CLI)?;
+    Ok(place)
+}
+
+/// The place of the number of directories, which lies 16 bytes further in PE32+.
+#[tactic(auto, unfolding(cli_format::specs::Image::directory_count_place, cli_format::specs::Image::is_wide))]
+fn count_place(bytes: &[u8], optional: usize) -> usize
+    requires place { optional ≡ optional_place bytes.now }
+    requires reach { optional < 2 ^ 33 }
+    ensures value { result ≡ directory_count_place bytes.now }
+    ensures reach { result < 2 ^ 34 }
+{
+    if u16_in(bytes, optional) == PE32_PLUS {
+        optional + 108
+    } else {
+        optional + 92
+    }
+}
+
+/// What the headers of a file give.
+#[derive(Debug, Drop)]
+pub struct Headers<'a> {
+    pub sections: Sections<'a>,
+    /// The place of directory 14.
+    pub directory: usize,
+    /// The subsystem (II.25.2.3.2).
+    pub subsystem: u16,
+}
+
+/// The headers of a file.
+#[tactic(auto, using(cli_format::proofs::Faults::faults), unfolding(cli_format::specs::Image::header_demands))]
+pub fn read_headers(bytes: &[u8]) -> Result<Headers<'_>, BadAt>
+    requires { length bytes.now < 2 ^ 32 }
+    ensures checked { Checked result (header_demands bytes.now) (record { sections = bytes.now; directory = directory_place bytes.now; subsystem = subsystem_of bytes.now }) }
+    ensures within { IfOk result (λ h. h.directory + 4 ≤ length bytes.now) }
+{
+    let signature = find_signature(bytes)?;
+    let optional = find_optional(bytes, signature)?;
+    let directory = find_directory(bytes, optional)?;
+    let sections = read_sections(bytes, signature, optional)?;
+    let subsystem = subsystem_in(bytes, optional);
+    Ok(Headers {
+        sections,
+        directory,
+        subsystem,
+    })
+}
+
+/// The sections, whose headers lie behind the optional header.
+#[tactic(auto, unfolding(cli_format::specs::Image::sections_place, cli_format::specs::Image::section_count))]
+fn read_sections(bytes: &[u8], signature: u32, optional: usize) -> Result<Sections<'_>, BadAt>
+    requires small { length bytes.now < 2 ^ 32 }
+    requires signature { signature ≡ signature_place bytes.now }
+    requires optional { optional ≡ optional_place bytes.now }
+    requires reach { optional < 2 ^ 32 }
+    ensures { Checked result (sections_demands bytes.now) bytes.now }
+{
+    let count = u16_in(bytes, signature as usize + 6);
+    let size = u16_in(bytes, signature as usize + 20);
+    Sections::read(bytes, optional + size as usize, count)
+}
+
+#[tactic(auto, unfolding(cli_format::specs::Image::subsystem_of))]
+fn subsystem_in(bytes: &[u8], optional: usize) -> u16
+    requires optional { optional ≡ optional_place bytes.now }
+    requires reach { optional < 2 ^ 32 }
+    ensures { result ≡ subsystem_of bytes.now }
+{
+    u16_in(bytes, optional + 68)
+}

@@ -1,0 +1,186 @@
+ghost use Rattle.std.specs.Prelude.{◌≡◌, ◌+◌, ◌*◌, ◌-◌, ◌<◌, ◌≤◌, ◌^◌, length, take, drop, IfSome, None};
+ghost use Rattle.std.specs.Option.{option_map, option_and_then};
+ghost use Rattle.cli_format.specs.Demand.{Checked, first_fault};
+ghost use Rattle.cli_format.specs.Image.{section_demands, sections_demands, section_at, nth_section, section_of, sections_of, sections_place, section_count, covers, place_in, mapped, image_tail, tail_in};
+
+use cli_format::{Section, need_bytes, u32_in};
+use il_base::BadAt;
+use std::marker::Model;
+
+/// The sections of a file (II.25.3), each of them within the file. Contracts see the bytes of the file.
+#[derive(Debug, Drop)]
+pub struct Sections<'a> {
+    bytes: &'a [u8],
+    place: usize,
+    count: u16,
+}
+
+impl<'a> Model for Sections<'a> {
+    ghost use Rattle.std.specs.Prelude.{◌≡◌, ℕ, ◌<◌, ◌^◌, List, length, None};
+    ghost use Rattle.cli_format.specs.Demand.{first_fault};
+    ghost use Rattle.cli_format.specs.Image.{sections_demands, sections_place, section_count};
+
+    ghost Value = { List ℕ };
+
+    ghost view = { λ s. s.bytes.now };
+
+    ghost invariant = { λ s. (s.place ≡ sections_place s.bytes.now) × (s.place < 2 ^ 33) × (s.count ≡ section_count s.bytes.now) × (length s.bytes.now < 2 ^ 32) × (first_fault (sections_demands s.bytes.now) ≡ None) };
+}
+
+impl<'a> Sections<'a> {
+    /// The sections whose headers begin at a place.
+    #[tactic(auto, using(cli_format::proofs::Faults::faults), unfolding(cli_format::specs::Image::sections_demands))]
+    pub fn read(bytes: &'a [u8], place: usize, count: u16) -> Result<Sections<'a>, BadAt>
+        requires small { length bytes.now < 2 ^ 32 }
+        requires place { place ≡ sections_place bytes.now }
+        requires count { count ≡ section_count bytes.now }
+        requires reach { place < 2 ^ 33 }
+        ensures { Checked result (sections_demands bytes.now) bytes.now }
+    {
+        for i in 0..count {
+            match check_section(bytes, place, i) {
+                Ok(()) => {}
+                Err(e) => return Err(e),
+            }
+        }
+        Ok(Sections {
+            bytes,
+            place,
+            count,
+        })
+    }
+
+    /// The bytes of the file.
+    pub fn bytes(&self) -> &'a [u8]
+        ensures value { result.now ≡ self.now }
+        ensures small { length self.now < 2 ^ 32 }
+    {
+        self.bytes
+    }
+
+    /// The first section in which an RVA lies.
+    #[tactic(auto, using(crate::proofs::Finding::finding))]
+    pub fn find(&self, rva: u32) -> Option<Section>
+        ensures value { result ≡ section_of (sections_of self.now) rva }
+        ensures within { IfSome result (λ s. (s.rva ≤ rva) × (s.raw + s.raw_size ≤ length self.now)) }
+    {
+        for i in 0..self.count {
+            let section = nth(self.bytes, self.place, i);
+            if is_covered(&section, rva) {
+                return Some(section);
+            }
+        }
+        None
+    }
+
+    /// The place in the file of `len` bytes from an RVA, where they lie in the raw bytes of its section.
+    #[tactic(auto, unfolding(cli_format::specs::Image::mapped))]
+    pub fn map(&self, rva: u32, len: u32) -> Option<u32>
+        ensures value { result ≡ mapped self.now rva len }
+        ensures within { IfSome result (λ at. at + len ≤ length self.now) }
+    {
+        let _small = self.bytes;
+        match self.find(rva) {
+            None => None,
+            Some(section) => place_within(&section, rva, len),
+        }
+    }
+
+    /// The bytes from an RVA to the end of its section's raw bytes.
+    #[tactic(auto, unfolding(cli_format::specs::Image::image_tail))]
+    pub fn tail(&self, rva: u32) -> Option<&'a [u8]>
+        ensures { option_map (λ b. b.now) result ≡ image_tail self.now rva }
+    {
+        match self.find(rva) {
+            None => None,
+            Some(section) => tail_within(self.bytes, &section, rva),
+        }
+    }
+}
+
+/// `len` bytes from a place.
+pub fn part(bytes: &[u8], at: usize, len: usize) -> &[u8]
+    requires { at + len ≤ length bytes.now }
+    ensures { result.now ≡ take len (drop at bytes.now) }
+{
+    &bytes[at..][..len]
+}
+
+/// A section's header and its raw bytes are within the file.
+#[tactic(auto, using(cli_format::proofs::Faults::faults), unfolding(cli_format::specs::Image::section_demands, cli_format::specs::Image::section_place))]
+fn check_section(bytes: &[u8], place: usize, i: u16) -> Result<(), BadAt>
+    requires small { length bytes.now < 2 ^ 32 }
+    requires place { place ≡ sections_place bytes.now }
+    requires reach { place < 2 ^ 33 }
+    ensures { Checked result (section_demands bytes.now i) tt }
+{
+    need_bytes(bytes, place + 40 * i as usize, 40)?;
+    let section = nth(bytes, place, i);
+    need_bytes(bytes, section.raw as usize, section.raw_size as usize)?;
+    Ok(())
+}
+
+/// The section with a number, from 0.
+#[tactic(auto, unfolding(cli_format::specs::Image::nth_section, cli_format::specs::Image::section_place))]
+fn nth(bytes: &[u8], place: usize, i: u16) -> Section
+    requires place { place ≡ sections_place bytes.now }
+    requires reach { place < 2 ^ 33 }
+    ensures { result ≡ nth_section bytes.now i }
+{
+    section_in(bytes, place + 40 * i as usize)
+}
+
+/// The section whose header is at a place.
+#[tactic(auto, unfolding(cli_format::specs::Image::section_at))]
+fn section_in(bytes: &[u8], at: usize) -> Section
+    requires { at < 2 ^ 34 }
+    ensures { result ≡ section_at bytes.now at }
+{
+    Section {
+        size: u32_in(bytes, at + 8),
+        rva: u32_in(bytes, at + 12),
+        raw_size: u32_in(bytes, at + 16),
+        raw: u32_in(bytes, at + 20),
+    }
+}
+
+/// Whether an RVA lies in the section.
+#[tactic(auto, unfolding(cli_format::specs::Image::covers))]
+fn is_covered(section: &Section, rva: u32) -> bool
+    ensures { result ≡ covers section.now rva }
+{
+    section.rva <= rva && u64::from(rva) < u64::from(section.rva) + u64::from(section.size)
+}
+
+/// The place of `len` bytes from an RVA in its section, where they lie in its raw bytes.
+#[tactic(auto, unfolding(cli_format::specs::Image::place_in))]
+fn place_within(section: &Section, rva: u32, len: u32) -> Option<u32>
+    requires covered { section.now.rva ≤ rva }
+    requires small { section.now.raw + section.now.raw_size < 2 ^ 32 }
+    ensures value { result ≡ place_in rva len section.now }
+    ensures within { IfSome result (λ at. at + len ≤ section.now.raw + section.now.raw_size) }
+{
+    let at = rva - section.rva;
+    if section.raw_size < len || section.raw_size - len < at {
+        return None;
+    }
+    Some(section.raw + at)
+}
+
+/// The bytes from an RVA to the end of its section's raw bytes.
+#[tactic(auto, unfolding(cli_format::specs::Image::tail_in, cli_format::specs::Image::place_in))]
+fn tail_within<'a>(bytes: &'a [u8], section: &Section, rva: u32) -> Option<&'a [u8]>
+    requires covered { section.now.rva ≤ rva }
+    requires small { section.now.raw + section.now.raw_size ≤ length bytes.now }
+    ensures { option_map (λ b. b.now) result ≡ tail_in bytes.now rva section.now }
+{
+    let at = rva - section.rva;
+    if section.raw_size < at {
+        return None;
+    }
+    Some(part(
+        bytes,
+        section.raw as usize + at as usize,
+        (section.raw_size - at) as usize,
+    ))
+}

@@ -1,0 +1,5 @@
+use Rattle.sig_blobs.proofs.Spelled.{counted_inside}
+use Rattle.sig_blobs.proofs.write.write_locals.Goals as goal
+
+pub put_led-put-requires : goal.put_led-put-requires
+put_led-put-requires c = rw c.as_slice.ensures (counted_inside 7 c.args.s.now c.requires.0 c.requires.1)
