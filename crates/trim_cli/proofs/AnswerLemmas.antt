@@ -14,7 +14,7 @@ use Rattle.trim_core.specs.declared.answers.EndKind.TheVariants as run_end
 use Rattle.trim_core.specs.declared.answers.Refusal.TheVariants as refusal
 use Rattle.trim_core.specs.declared.answers.ExecFault.{ExecFault}
 use Rattle.trim_core.specs.declared.answers.ExecFault.TheVariants as fault
-use Rattle.trim_core.specs.Exec.{run_of, end_of, told_with, ExecsTo}
+use Rattle.trim_core.specs.Exec.{run_of, end_of, told_alone, ExecsTo}
 use Rattle.trim_cli.specs.declared.status.Status.{Status}
 use Rattle.trim_cli.specs.declared.status.Status.TheVariants.{Ended, BadWords, ReadFault, WriteFault, NoMemory, Spent, Stopped, Stuck, NotYet}
 use Rattle.trim_cli.specs.Lines.{line_of}
@@ -85,7 +85,7 @@ file_of : (a b : ℕ) → refusal.NotYet a ≡ refusal.NotYet b → b ≡ a
 file_of a b e = cc
 
 pub file_caused : (bytes : List ℕ) (steps : ℕ) (word : List ℕ) (out0 out1 err0 err1 : SinkState) (o : Option AsmRec) (r : Result EndKind ExecFault) (answer : Status) → thin_record bytes ≡ o
-    → ExecsTo (told_with [] o) steps out0 out1 r → RunReported bytes word steps r err0 err1 answer → FileCaused bytes steps word out0 out1 err0 err1 answer
+    → ExecsTo (told_alone o) steps out0 out1 r → RunReported bytes word steps r err0 err1 answer → FileCaused bytes steps word out0 out1 err0 err1 answer
 file_caused bytes steps word out0 out1 err0 err1 (Some rec) (Ok end) answer thin out report = ran bytes steps word out0 out1 err0 err1 rec end answer thin out report
 file_caused bytes steps word out0 out1 err0 err1 (Some rec) (Err fault.Write) answer thin out report = write_fault bytes steps word out0 out1 err0 err1 answer (inr (rec, thin, out.0)) out.1 report
 file_caused bytes steps word out0 out1 err0 err1 (Some rec) (Err (fault.Refused refusal.NoMemory)) answer thin out report = no_memory bytes steps word out0 out1 err0 err1 word answer (inr (rec, thin, out.0)) report

@@ -1,5 +1,5 @@
 -- A run in turns: what was printed so far, and what is still to come.
-use Rattle.std.proofs.Common.{◌≡◌, ℕ, zero, suc, ◌+◌, ◌-◌, ◌<◌, ◌≤◌, List, [], ◌∷◌, ◌++◌, length, take, Option, Some, None, Result, Ok, Err, refl, sym, ap, subst, ◌∙◌, arith, append_assoc}
+use Rattle.std.proofs.Common.{◌≡◌, ℕ, zero, suc, ◌+◌, ◌-◌, ◌<◌, ◌≤◌, List, [], ◌∷◌, ◌++◌, take, Option, Some, None, Ok, Err, refl, sym, ap, subst, ◌∙◌, arith, append_assoc}
 use Rattle.std.proofs.lemmas.List.{append-nil}
 use Rattle.std.specs.Io.KnownBytes.{Appends}
 use Rattle.il_outside.specs.Streams.{SinkState, AppendsPrefix}
@@ -10,7 +10,6 @@ use Rattle.cil_values.specs.Queries.{Queries}
 use Rattle.cil_values.specs.Words.{Next, went, over}
 use Rattle.cil_values.specs.Step.{step}
 use Rattle.cil_values.specs.Run.{Outcome, printed_before, after, run}
-use Rattle.cil_machine.specs.declared.step_out.StepOut.{StepOut}
 use Rattle.cil_machine.specs.declared.step_out.StepOut.TheVariants as out
 use Rattle.trim_core.specs.declared.answers.Refusal.TheVariants.{NotYet, NoMemory}
 use Rattle.trim_core.specs.declared.answers.ExecFault.{ExecFault}

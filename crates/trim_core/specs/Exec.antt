@@ -1,7 +1,6 @@
 -- What a run of a record comes to: what it prints within n steps, and how it stands then.
 use Rattle.std.specs.Prelude.{◌≡◌, ℕ, ◌+◌, ◌-◌, ◌%◌, List, [], ◌∷◌, Option, Some, None, Result, Ok, Err}
 use Rattle.std.specs.Io.KnownBytes.{Appends}
-use Rattle.il_base.specs.declared.ids.MethodId.{MethodId}
 use Rattle.il_base.specs.declared.ids.Place.{Place}
 use Rattle.il_outside.specs.Streams.{SinkState, AppendsPrefix}
 use Rattle.il_outside.specs.Faults.{Rose}
@@ -70,24 +69,16 @@ TurnsTo (over e) now old new (Err Write) = ⊥
 TurnsTo (over e) now old new (Err (Refused NoMemory)) = Appends old.held new.held [] × (new.faults ≡ old.faults)
 TurnsTo (over e) now old new (Err (Refused (NotYet file))) = ⊥
 
+-- what one file is: its record, or a file that can't be taken yet
+abbrev pub told_alone : Option AsmRec → Result AsmRec Refusal
+told_alone None = Err (NotYet 0)
+told_alone (Some rec) = Ok rec
+
 -- What the files are: the record of the one file, or the first file that can't be taken yet. A second file can't.
-abbrev pub alone : AsmRec → List (List ℕ) → Result AsmRec Refusal
-alone rec [] = Ok rec
-alone rec (g ∷ files) = Err (NotYet 1)
-
-abbrev pub told_with : List (List ℕ) → Option AsmRec → Result AsmRec Refusal
-told_with files None = Err (NotYet 0)
-told_with files (Some rec) = alone rec files
-
 abbrev pub told_of : List (List ℕ) → Result AsmRec Refusal
 told_of [] = Err (NotYet 0)
-told_of (f ∷ files) = told_with files (thin_record f)
-
--- an answer is what the files are, unless memory ran out
-abbrev pub ToldAs : Result AsmRec Refusal → Result AsmRec Refusal → Type 0
-ToldAs (Ok rec) told = told ≡ Ok rec
-ToldAs (Err NoMemory) told = Unit {0}
-ToldAs (Err (NotYet file)) told = told ≡ Err (NotYet file)
+told_of (f ∷ []) = told_alone (thin_record f)
+told_of (f ∷ g ∷ files) = Err (NotYet 1)
 
 -- What `exec_to` answers and leaves: the run's, or the refusal with nothing written; only want of memory may come in the
 -- place of either.

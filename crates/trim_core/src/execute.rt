@@ -1,7 +1,7 @@
 //! `exec`: runs the program of the files.
 
 ghost use Rattle.std.specs.Prelude.{◌≡◌, IfOk};
-ghost use Rattle.trim_core.specs.Exec.{ToldAs, ExecsTo, Execs, told_of, name_of};
+ghost use Rattle.trim_core.specs.Exec.{ExecsTo, Execs, told_alone, told_of, name_of};
 ghost use Rattle.thin_reader.specs.Record.{thin_record};
 
 use crate::answers::{EndKind, Ending, ExecFault, Refusal};
@@ -11,25 +11,15 @@ use il_base::{NoMemory, Seq, Text};
 use il_outside::Sink;
 use std::alloc::Global;
 use thin_reader::read_thin;
-use world_model::AsmRec;
 
-/// The one file's record, or the first file that can't be taken yet.
-fn record_of(alloc: Global, files: &Seq<Text>) -> Result<AsmRec, Refusal>
-    ensures { ToldAs result (told_of files.now) }
+/// Runs the program of one file's bytes.
+fn exec_file<O: Sink>(alloc: Global, file: &[u8], n: u64, out: &mut O) -> Result<EndKind, ExecFault>
+    ensures { ExecsTo (told_alone (thin_record file.now)) n (O.state out.old) (O.state out.new) result }
 {
-    match files.as_slice() {
-        [] => Err(Refusal::NotYet { file: 0 }),
-        [file, ..] => match read_thin(alloc, file.as_slice()) {
-            Err(_) => Err(Refusal::NoMemory),
-            Ok(None) => Err(Refusal::NotYet { file: 0 }),
-            Ok(Some(rec)) => {
-                if files.len() == 1 {
-                    Ok(rec)
-                } else {
-                    Err(Refusal::NotYet { file: 1 })
-                }
-            }
-        },
+    match read_thin(alloc, file) {
+        Err(_) => Err(ExecFault::Refused(Refusal::NoMemory)),
+        Ok(None) => Err(ExecFault::Refused(Refusal::NotYet { file: 0 })),
+        Ok(Some(rec)) => run_record(alloc, &rec, n, out),
     }
 }
 
@@ -45,9 +35,10 @@ pub fn exec_to<O: Sink>(
 ) -> Result<EndKind, ExecFault>
     ensures { ExecsTo (told_of files.now) n (O.state out.old) (O.state out.new) result }
 {
-    match record_of(alloc, files) {
-        Err(refusal) => Err(ExecFault::Refused(refusal)),
-        Ok(rec) => run_record(alloc, &rec, n, out),
+    match files.as_slice() {
+        [] => Err(ExecFault::Refused(Refusal::NotYet { file: 0 })),
+        [file] => exec_file(alloc, file.as_slice(), n, out),
+        [_, _, ..] => Err(ExecFault::Refused(Refusal::NotYet { file: 1 })),
     }
 }
 

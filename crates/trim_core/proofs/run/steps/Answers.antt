@@ -1,8 +1,7 @@
-use Rattle.std.proofs.Common.{◌≡◌, Ok, ◌+◌, ◌-◌, ◌<◌, ◌≤◌, subst, sym, ap, arith}
-use Rattle.il_outside.specs.Streams.{SinkState}
+use Rattle.std.proofs.Common.{◌≡◌, Ok, ◌+◌, ◌-◌, subst, arith}
 use Rattle.cil_values.specs.World.{queries_of}
 use Rattle.cil_values.specs.Step.{step}
-use Rattle.cil_values.specs.Run.{Outcome, after, run}
+use Rattle.cil_values.specs.Run.{Outcome, run}
 use Rattle.cil_machine.specs.declared.step_out.StepOut.{StepOut}
 use Rattle.trim_core.specs.Exec.{TurnsTo}
 use Rattle.trim_core.proofs.RunLemmas.{Left, nothing_yet, grew_by_nothing, run_next, run_none, turn_goes_on, turn_ends, turn_fails, all_went}
