@@ -1,11 +1,11 @@
 -- What a run over a file's bytes answered, and its status line, make the answer for the file.
-use Rattle.std.proofs.Common.{◌≡◌, ◌⊎◌, ℕ, ◌+◌, ◌≤◌, List, [], ◌∷◌, ◌++◌, length, take, Option, Some, None, Result, Ok, Err, refl, sym, ap, subst, ◌∙◌, inl, inr, arith}
+use Rattle.std.proofs.Common.{◌≡◌, ◌⊎◌, ℕ, List, [], length, Option, Some, None, Result, Ok, Err, refl, sym, ap, subst, inl, inr, arith}
 use Rattle.std.proofs.lemmas.List.{take_all, append-nil}
 use Rattle.std.specs.Io.KnownBytes.{Appends}
 use Rattle.il_outside.specs.Faults.{Rose}
 use Rattle.il_outside.specs.declared.folder.FolderError.{FolderError}
 use Rattle.il_outside.specs.declared.folder.FolderError.TheVariants as folder_error
-use Rattle.il_outside.specs.Folder.{Files, FolderState, Tells, ReadFaults}
+use Rattle.il_outside.specs.Folder.{FolderState, Tells, ReadFaults}
 use Rattle.il_outside.specs.Streams.{SinkState, AppendsPrefix}
 use Rattle.world_model.specs.declared.record.AsmRec.{AsmRec}
 use Rattle.thin_reader.specs.Record.{thin_record}
@@ -18,7 +18,7 @@ use Rattle.trim_core.specs.Exec.{run_of, end_of, told_alone, ExecsTo}
 use Rattle.trim_cli.specs.declared.status.Status.{Status}
 use Rattle.trim_cli.specs.declared.status.Status.TheVariants.{Ended, BadWords, ReadFault, WriteFault, NoMemory, Spent, Stopped, Stuck, NotYet}
 use Rattle.trim_cli.specs.Lines.{line_of}
-use Rattle.trim_cli.specs.Answer.{status_of, assembly_of, named, Reports, LinePrefix, Ran, Refused, PrintsPrefix, SinkFailed, FileCaused, RunReported, FileAnswer, NamePrefix, ReadFailed, ExecCaused, WordsRefused, CausedBy, Caused, capped, word_at}
+use Rattle.trim_cli.specs.Answer.{status_of, assembly_of, named, Reports, Ran, PrintsPrefix, FileCaused, RunReported, ExecCaused}
 
 -- all of it is a prefix
 pub whole_prefix : (a b : Option (List ℕ)) (x : List ℕ) → Appends a b x → AppendsPrefix a b x

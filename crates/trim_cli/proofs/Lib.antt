@@ -1,2 +1,3 @@
 pub mod DigitLemmas
 pub mod AnswerLemmas
+pub mod CompleteLemmas

@@ -1,12 +1,11 @@
 -- When each answer of the program comes, and what it leaves.
-use Rattle.std.specs.Prelude.{◌≡◌, ◌⊎◌, ℕ, List, [], ◌∷◌, Option, Some, None, Result, Ok, Err, slice_get, unwrap_or, min}
+use Rattle.std.specs.Prelude.{◌≡◌, ◌⊎◌, ℕ, List, [], Option, Some, None, Result, Ok, Err, slice_get, unwrap_or, min}
 use Rattle.std.specs.Io.KnownBytes.{Appends}
 use Rattle.il_outside.specs.Faults.{Rose}
 use Rattle.il_outside.specs.Folder.{Files, FolderState, Tells}
 use Rattle.il_outside.specs.Streams.{SinkState, AppendsPrefix}
 use Rattle.world_model.specs.declared.record.AsmRec.{AsmRec}
 use Rattle.thin_reader.specs.Record.{thin_record}
-use Rattle.cil_values.specs.Run.{Outcome}
 use Rattle.trim_core.specs.declared.answers.EndKind.{EndKind}
 use Rattle.trim_core.specs.declared.answers.EndKind.TheVariants as run_end
 use Rattle.trim_core.specs.declared.answers.Refusal.TheVariants as refusal

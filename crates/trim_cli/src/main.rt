@@ -9,6 +9,7 @@ mod status;
 mod words;
 
 use il_outside::{DiskFolder, StdSink, StdSource};
+
 #[cfg(test)]
 mod tests;
 

@@ -1,8 +1,10 @@
 //! The program over a folder, a source and two sinks.
 
-ghost use Rattle.std.specs.Prelude.{◌≡◌, [], ◌∷◌, map, min, IfOk};
+ghost use Rattle.std.specs.Prelude.{◌≡◌, [], ◌∷◌, Some, map, IfOk};
 ghost use Rattle.std.specs.String.{string_bytes};
-ghost use Rattle.il_outside.specs.Folder.{KeepsFiles};
+ghost use Rattle.il_outside.specs.Folder.{Files, KeepsFiles};
+ghost use Rattle.trim_cli.specs.Words.{read_words};
+ghost use Rattle.trim_cli.specs.Complete.{IsQuiet, wanted, IsAnswered};
 ghost use Rattle.trim_cli.specs.Answer.{status_of, named, assembly_of, capped, word_at, RunReported, FileCaused, ExecCaused, Caused};
 
 use crate::command::Command;
@@ -142,8 +144,15 @@ fn word_at(words: &[String], at: usize) -> &str
     }
 }
 
-/// Does what the words ask for. `Caused` says for each status when it comes and what it leaves: what was printed to `out`
-/// and which status line was written to `err`. The folder keeps what it holds, and the source isn't read.
+/// Does what the words ask for.
+///
+/// `answered` says for each status when it comes and what it leaves. `Ended`, `Spent`, `Stopped` and `Stuck` are what the
+/// run's definition gives at the given steps, for the bytes that the folder told under the word; `out` is extended by
+/// exactly the run's output. `NotYet` comes exactly where those bytes aren't a thin file, `BadWords` where the words don't
+/// read, `ReadFault` only where the folder's count of failed reads rose and its last failed name is the word's,
+/// `WriteFault` only where a sink's count rose; `NoMemory` alone is free. `err` is extended by exactly the status line, and
+/// after `WriteFault` and `NoMemory` both sinks by prefixes. `complete` is the other way round: where no count rose, what
+/// the words and a told folder ask for is the answer, or `NoMemory`.
 pub fn run<F: Folder, I: Source, O: Sink, E: Sink>(
     alloc: Global,
     words: &Vec<String>,
@@ -153,14 +162,32 @@ pub fn run<F: Folder, I: Source, O: Sink, E: Sink>(
     err: &mut E,
 ) -> Status
     ensures answered { Caused (map string_bytes words.now.items) (F.state folder.old) (F.state folder.new) (O.state out.old) (O.state out.new) (E.state err.old) (E.state err.new) result }
+    ensures complete { (files : Files) → (F.state folder.old).files ≡ Some files
+        → IsQuiet (F.state folder.old) (F.state folder.new) (O.state out.old) (O.state out.new) (E.state err.old) (E.state err.new)
+        → IsAnswered (wanted (read_words (map string_bytes words.now.items)) (map string_bytes words.now.items) files) result }
+
+    // The folder keeps what it holds, and the source isn't read.
     ensures folder { KeepsFiles (F.state folder.old).files (F.state folder.new).files }
     ensures input { I.state input.new ≡ I.state input.old }
 {
     let _ = input;
-    match read_words(words.as_slice()) {
+    answer(alloc, words.as_slice(), folder, out, err)
+}
+
+fn answer<F: Folder, O: Sink, E: Sink>(
+    alloc: Global,
+    words: &[String],
+    folder: &mut F,
+    out: &mut O,
+    err: &mut E,
+) -> Status
+    ensures answered { Caused (map string_bytes words.now) (F.state folder.old) (F.state folder.new) (O.state out.old) (O.state out.new) (E.state err.old) (E.state err.new) result }
+    ensures folder { KeepsFiles (F.state folder.old).files (F.state folder.new).files }
+{
+    match read_words(words) {
         Err(at) => report(alloc, err, &[], &[], Status::BadWords { place: capped(at) }),
         Ok(Command::Exec { input: at, steps }) => {
-            let name = word_at(words.as_slice(), at);
+            let name = word_at(words, at);
             exec_word(alloc, name, steps, folder, out, err)
         }
     }
