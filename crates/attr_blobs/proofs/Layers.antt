@@ -1,18 +1,17 @@
 -- The written bytes of kinds and arguments by their outermost construct.
 use Rattle.std.proofs.Common.{Result, Ok, Err, OnOk, ◌≡◌, ℕ, List, [], ◌∷◌, ◌++◌, Option, Some, None, length, get_or, drop, map, min, refl, sym, ap, subst, ◌∙◌, ◌<◌, ◌≤◌, ◌+◌, append_assoc}
-use Rattle.std.specs.Option.{option_map}
 use Rattle.std.specs.List.{concat, flat_map}
 use Rattle.std.proofs.lemmas.List.{length-map, append-nil}
 use Rattle.std.proofs.lemmas.List.Concat.{flat_map-cons}
 use Rattle.byteorder.specs.Endian.{little_bytes}
-use Rattle.attr_blobs.specs.declared.kind.ParamKind.{ParamKind, out-ParamKind, fold-ParamKind, fold-roll-ParamKind}
+use Rattle.attr_blobs.specs.declared.kind.ParamKind.{ParamKind, fold-ParamKind, fold-roll-ParamKind}
 use Rattle.attr_blobs.specs.declared.kind.ParamKind.TheOpen.{ParamKind-F}
 use Rattle.attr_blobs.specs.declared.kind.ParamKind.TheVariants as k
 use Rattle.attr_blobs.specs.declared.value.Arg.{Arg, fold-Arg, fold-roll-Arg}
 use Rattle.attr_blobs.specs.declared.value.Arg.TheOpen.{Arg-F}
 use Rattle.attr_blobs.specs.declared.value.Arg.TheVariants as a
 use Rattle.attr_blobs.specs.Answers.{Extends}
-use Rattle.attr_blobs.specs.Writing.{text_bytes, text_or_null_bytes, kind_layer, kind_bytes, arg_layer, arg_bytes, vector_bytes, number_bytes, element_of, list_bytes, fixed_bytes}
+use Rattle.attr_blobs.specs.Writing.{text_bytes, text_or_null_bytes, kind_layer, kind_bytes, arg_layer, arg_bytes, vector_bytes, number_bytes, element_of, fixed_bytes}
 use Rattle.std.proofs.Math.ListN.{drop_of_length-le}
 use Rattle.attr_blobs.proofs.Sizes.{at_drop}
 

@@ -3,3 +3,9 @@ pub mod Texts
 pub mod Sizes
 pub mod Opened
 pub mod Layers
+pub mod Again
+pub mod NumbersBack
+pub mod TextsBack
+pub mod KindsBack
+pub mod ArgsBack
+pub mod WholeBack

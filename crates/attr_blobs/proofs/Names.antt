@@ -1,12 +1,12 @@
 -- Marks, one by one.
-use Rattle.std.proofs.Common.{◌≡◌, ◌≢◌, ◌<◌, ◌≤◌, ◌+◌, ◌-◌, ℕ, suc, List, [], ◌∷◌, ◌++◌, Bool, true, false, Option, Some, None, length, get_or, take, drop, refl, ap, sym, subst, ◌∙◌, arith, add-one, drop-cons, append_assoc, append-nil, cond, not, ◌&&◌, if◌then◌else◌, encode_utf8, nat_lt, position, add_comm, ltb-false, zero}
+use Rattle.std.proofs.Common.{◌≡◌, ◌<◌, ◌≤◌, ◌+◌, ◌-◌, ℕ, suc, List, [], ◌∷◌, ◌++◌, Bool, true, false, Option, Some, None, length, get_or, take, drop, refl, ap, sym, subst, ◌∙◌, arith, add-one, drop-cons, append_assoc, append-nil, cond, not, if◌then◌else◌, encode_utf8, nat_lt, position, ltb-false, zero}
 use Rattle.std.proofs.lemmas.List.{take_rest}
 use Rattle.std.proofs.Math.Seq.{take-suc}
 use Rattle.std.proofs.Math.ListN.{drop_of_length-le}
 use Rattle.std.specs.List.{position_or_len, list_any}
 use Rattle.std.specs.Char.Utf16.{utf16_chars, lone_unit_char, surrogate_pair_char}
 use Rattle.attr_blobs.specs.declared.mark.Mark.{Mark}
-use Rattle.attr_blobs.specs.TypeNames.{mark, marks, begins_taken, begins_pair, is_letter, is_sign, letter_of, text_of, in_front, cut, parts, longer, texts_of, with_text, filled, cut_by, is_blank, without_front, without_end, unless_blank, opens_other, assembly_of, named, name_of}
+use Rattle.attr_blobs.specs.TypeNames.{mark, marks, begins_taken, begins_pair, is_sign, letter_of, text_of, in_front, cut, parts, longer, texts_of, with_text, filled, cut_by, is_blank, without_front, without_end, opens_other, assembly_of, named, name_of}
 use Rattle.attr_blobs.specs.declared.name.NameRead.TheVariants.{Other}
 
 -- a text, and what stands behind it

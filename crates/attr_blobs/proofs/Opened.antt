@@ -1,5 +1,5 @@
 -- Kinds and arguments where one more construct may open.
-use Rattle.std.proofs.Common.{◌≡◌, ◌<◌, ◌≤◌, ◌-◌, ◌+◌, ◌++◌, Result, Ok, Err, append_assoc, append-nil, ℕ, zero, suc, List, [], ◌∷◌, length, get_or, take, drop, refl, ap, sym, ◌∙◌, arith}
+use Rattle.std.proofs.Common.{◌≡◌, ◌<◌, ◌≤◌, ◌-◌, ◌+◌, ◌++◌, Ok, Err, append_assoc, append-nil, ℕ, zero, suc, List, [], ◌∷◌, length, get_or, drop, refl, ap, sym, ◌∙◌, arith}
 use Rattle.attr_blobs.specs.declared.kind.ParamKind.{ParamKind, out-ParamKind}
 use Rattle.attr_blobs.specs.declared.value.EnumSize.{EnumSize}
 use Rattle.attr_blobs.specs.declared.value.Arg.{Arg}

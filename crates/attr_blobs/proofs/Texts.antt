@@ -1,8 +1,8 @@
 -- Reading texts byte by byte.
-use Rattle.std.proofs.Common.{◌≡◌, ◌<◌, ◌≤◌, ◌+◌, ◌-◌, ℕ, zero, suc, List, [], ◌∷◌, Option, Some, None, Result, Ok, Err, length, get_or, take, drop, refl, ap, sym, subst, ◌∙◌, arith, length-drop}
+use Rattle.std.proofs.Common.{◌≡◌, ◌<◌, ◌≤◌, ◌+◌, ◌-◌, ℕ, suc, List, [], ◌∷◌, Option, Some, None, Ok, Err, length, get_or, drop, refl, ap, sym, subst, ◌∙◌, arith, length-drop}
 use Rattle.std.proofs.lemmas.List.{drop-drop}
 use Rattle.attr_blobs.specs.declared.text.Expect.{Expect}
-use Rattle.attr_blobs.specs.Texts.{Read, cut, bad, go_on, behind_text, expected}
+use Rattle.attr_blobs.specs.Texts.{Read, go_on, behind_text, expected}
 use Rattle.attr_blobs.proofs.Names.{from, from_is}
 
 counted : (n i : ℕ) → i < n → n - i ≡ suc (n - (i + 1))

@@ -3,3 +3,4 @@ pub mod Texts
 pub mod Values
 pub mod Writing
 pub mod Answers
+pub mod Laws

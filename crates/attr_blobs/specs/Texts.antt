@@ -1,5 +1,5 @@
 -- Reading a blob from left to right, with the first byte that no value allows: numbers and texts (II.23.2, II.23.3).
-use Rattle.std.specs.Prelude.{ℕ, zero, suc, ◌-◌, ◌+◌, nat_lt, nat_le, ◌==◌, ◌&&◌, Bool, List, [], ◌∷◌, length, take, drop, Option, Some, None, Result, Ok, Err, if◌then◌else◌}
+use Rattle.std.specs.Prelude.{ℕ, zero, suc, ◌-◌, nat_lt, nat_le, ◌==◌, ◌&&◌, Bool, List, [], ◌∷◌, length, take, drop, Option, Some, None, Result, Ok, Err, if◌then◌else◌}
 use Rattle.il_base.specs.Bytes.{compressed_at, number_at}
 use Rattle.attr_blobs.specs.declared.text.Expect.{Expect}
 use Rattle.attr_blobs.specs.declared.text.Width.{Width}

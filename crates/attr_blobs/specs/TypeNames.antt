@@ -3,7 +3,6 @@ use Rattle.std.specs.Prelude.{ℕ, Bool, true, false, not, ◌&&◌, ◌||◌, �
 use Rattle.std.specs.Option.{option_map}
 use Rattle.std.specs.List.{list_any}
 use Rattle.std.specs.Char.Utf16.{utf16_chars, is_high_surrogate, is_low_surrogate}
-use Rattle.attr_blobs.specs.declared.name.TypeName.{TypeName}
 use Rattle.attr_blobs.specs.declared.name.NameRead.{NameRead}
 use Rattle.attr_blobs.specs.declared.name.NameRead.TheVariants.{Name, Other, Malformed}
 use Rattle.attr_blobs.specs.declared.mark.Mark.{Mark}

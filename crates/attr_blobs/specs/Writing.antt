@@ -1,10 +1,10 @@
 -- The spelling of an attribute's value that is written: each number in its shortest form.
-use Rattle.std.specs.Prelude.{ℕ, ◌+◌, ◌*◌, ◌/◌, ◌%◌, min, nat_lt, Bool, List, [], ◌∷◌, ◌++◌, length, map, Option, Some, None, if◌then◌else◌, unwrap_or}
+use Rattle.std.specs.Prelude.{ℕ, ◌+◌, ◌/◌, ◌%◌, min, nat_lt, List, [], ◌∷◌, ◌++◌, length, map, Option, Some, None, if◌then◌else◌, unwrap_or}
 use Rattle.std.specs.List.{concat, flat_map}
 use Rattle.std.specs.Option.{option_map}
 use Rattle.byteorder.specs.Endian.{little_bytes}
 use Rattle.attr_blobs.specs.declared.text.Width.{Width}
-use Rattle.attr_blobs.specs.declared.text.Width.TheVariants.{One, Two, Four, Eight}
+use Rattle.attr_blobs.specs.declared.text.Width.TheVariants.{Eight}
 use Rattle.attr_blobs.specs.declared.kind.ParamKind.{ParamKind, out-ParamKind, fold-ParamKind}
 use Rattle.attr_blobs.specs.declared.kind.ParamKind.TheOpen.{ParamKind-F}
 use Rattle.attr_blobs.specs.declared.value.Arg.{Arg, fold-Arg}

@@ -6,6 +6,7 @@ ghost use Rattle.cli_format.specs.Streams.{heap};
 ghost use Rattle.cli_format.specs.Heaps.{string_of, blob_of, user_string_of, guid_of};
 ghost use Rattle.cli_format.specs.Tables.{cell_of};
 ghost use Rattle.cli_format.specs.Metadata.{Read, form_demands, content_demands, heap_demands, tables_demands, tables_stream, tables_base, table_rows};
+ghost use Rattle.meta_tables.specs.Places.{row_offset_of};
 
 use crate::directory::Streams;
 use crate::heaps::{blob_item, guid_item, text_item, user_item};
@@ -81,6 +82,19 @@ impl<'a> Tables<'a> {
         ensures { result ≡ cell_of (tables_stream self.now) table row column }
     {
         self.layout.cell(table, row, column)
+    }
+
+    /// The place in the file of a row of a table, counted from 1, where the metadata's root is at `base`. None where the
+    /// table doesn't have that row.
+    #[tactic(auto, unfolding(cli_format::specs::Metadata::tables_base, cli_format::specs::Tables::names_row))]
+    pub fn row_offset(&self, base: u32, table: u8, row: u32) -> Option<u32>
+        requires { base + length self.now < 2 ^ 32 }
+        ensures { result ≡ row_offset_of self.now base table row }
+    {
+        if table >= 45 || row < 1 || self.rows(table) < row {
+            return None;
+        }
+        Some(base + self.start + self.layout.row_place(table, row) as u32)
     }
 
     /// The text at a place of `#Strings` (II.24.2.3). None where none begins there, or it isn't UTF-8.

@@ -54,6 +54,7 @@ fn reads_tables(rt: HostRuntime) -> Result<(), Fail> {
     assert_eq!(rt; tables.rows(0x02), 2);
     assert_eq!(rt; tables.cell(0x02, 2, 1), Some(40));
     assert_eq!(rt; tables.cell(0x02, 3, 1), None);
+    assert_eq!(rt; tables.row_offset(604, 0x02, 2), Some(800));
     assert_eq!(rt; tables.cell(0x02, 2, 6), None);
     assert_eq!(rt; tables.string(40).ok_or("a text")?, b"Program".as_slice());
     assert_eq!(rt; tables.blob(5).ok_or("a blob")?, [0, 1, 1, 14].as_slice());

@@ -80,7 +80,8 @@ impl<'a> Image<'a> {
     /// The bytes of the metadata (II.24).
     #[tactic(auto, unfolding(cli_format::specs::Image::metadata_of, cli_format::specs::Image::metadata_place_of, cli_format::specs::Image::metadata_size))]
     pub fn metadata(&self) -> &'a [u8]
-        ensures { result.now ≡ metadata_of self.now }
+        ensures value { result.now ≡ metadata_of self.now }
+        ensures within { metadata_place_of self.now + length result.now ≤ length self.now }
     {
         let bytes = self.sections.bytes();
         let size = u32_in(bytes, self.cli as usize + 12);

@@ -1,7 +1,6 @@
-use Rattle.std.proofs.Common.{◌≡◌, ◌-◌, ◌<◌, ◌≤◌, arith}
 use Rattle.std.proofs.lemmas.Result.{err_from_is_err_and}
 use Rattle.attr_blobs.specs.Values.{arg_at, args_at}
-use Rattle.attr_blobs.proofs.Opened.{goes_on, ends, is_done, arg_opened}
+use Rattle.attr_blobs.proofs.Opened.{goes_on, ends, is_done}
 use Rattle.attr_blobs.proofs.args.+args.Goals as goal
 
 pub args_of-returns-in_err-one : goal.args_of-returns-in_err-one

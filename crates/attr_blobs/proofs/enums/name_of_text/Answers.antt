@@ -1,4 +1,4 @@
-use Rattle.std.proofs.Common.{◌≡◌, Some, map, ap, sym, ◌∙◌, rules}
+use Rattle.std.proofs.Common.{◌≡◌, Some, map, sym, ◌∙◌, rules}
 use Rattle.std.specs.Str.{chars}
 use Rattle.attr_blobs.specs.TypeNames.{name_of}
 use Rattle.attr_blobs.proofs.Sizes.{text_named, text_malformed}

@@ -1,4 +1,4 @@
-use Rattle.std.proofs.Common.{◌≡◌, ◌<◌, ◌++◌, encode_utf8, length, sym, ◌∙◌, rules}
+use Rattle.std.proofs.Common.{◌≡◌, ◌++◌, encode_utf8, sym, rules}
 use Rattle.attr_blobs.proofs.Names.{text_step, text_none, text_end}
 use Rattle.attr_blobs.proofs.mark.text_of.Goals as goal
 

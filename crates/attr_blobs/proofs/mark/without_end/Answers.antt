@@ -1,4 +1,4 @@
-use Rattle.std.proofs.Common.{◌≡◌, ◌<◌, ◌≤◌, ◌-◌, length, sym, ◌∙◌, rules, arith}
+use Rattle.std.proofs.Common.{◌≡◌, ◌<◌, sym, ◌∙◌, arith}
 use Rattle.attr_blobs.proofs.Names.{end_step, end_stop, end_empty}
 use Rattle.attr_blobs.proofs.mark.without_end.Goals as goal
 

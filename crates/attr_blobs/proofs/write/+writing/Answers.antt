@@ -1,5 +1,4 @@
 use Rattle.std.proofs.Common.{◌≡◌, ◌++◌, Some, None, length, min, ap, ◌∙◌, rules}
-use Rattle.std.specs.List.{flat_map}
 use Rattle.byteorder.specs.Endian.{little_bytes}
 use Rattle.attr_blobs.specs.declared.value.Arg.{Arg}
 use Rattle.attr_blobs.specs.declared.value.Arg.TheVariants as a
