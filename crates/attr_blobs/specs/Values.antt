@@ -1,5 +1,5 @@
 -- The values of custom attributes (II.23.3).
-use Rattle.std.specs.Prelude.{ℕ, zero, suc, ◌==◌, ◌&&◌, ◌||◌, ◌-◌, is_some, Bool, true, false, List, [], ◌∷◌, length, map, Option, Some, None, Result, Ok, Err, if◌then◌else◌}
+use Rattle.std.specs.Prelude.{ℕ, zero, suc, ◌==◌, ◌&&◌, ◌||◌, ◌-◌, min, is_some, Bool, true, false, List, [], ◌∷◌, length, map, Option, Some, None, Result, Ok, Err, if◌then◌else◌}
 use Rattle.std.specs.Cmp.Lexicographic.{pointwise}
 use Rattle.std.specs.Str.{bytes_eq, chars, is_utf8}
 use Rattle.attr_blobs.specs.declared.name.TypeName.{TypeName}
@@ -190,10 +190,10 @@ ended (x, b ∷ bs) = bad (b ∷ bs)
 abbrev pub whole_at : List EnumSize → List ParamKind → List ℕ → Read AttrValue
 whole_at enums kinds bs = value_at enums kinds bs >>= λ x. ended x
 
--- the place of a fault, counted from the front
+-- The place of a fault, counted from the front. A place past 2^32 - 1 is given as this number.
 abbrev pub placed : {A : Type 0} → ℕ → Read A → Result A ℕ
 placed size (Ok x) = Ok x
-placed size (Err left) = Err (size - left)
+placed size (Err left) = Err (min (size - left) 4294967295)
 
 -- what a blob gives: the value, or the place of the first byte that no value allows
 abbrev pub value_of_blob : List EnumSize → List ParamKind → List ℕ → Result AttrValue ℕ

@@ -7,7 +7,7 @@ use il_base::NoMemory;
 #[derive(Clone, Copy, Debug, PartialEq, Eq)]
 pub enum AttrError {
     /// `at` is the first byte that no value allows, counted from the blob's first byte; the blob's length where it
-    /// ends too early.
+    /// ends too early. A place past 2^32 - 1 is given as this number.
     Bad { at: u32 },
     /// The allocator refused.
     NoMemory,

@@ -1,4 +1,4 @@
-ghost use Rattle.std.specs.Prelude.{◌≡◌, ◌≤◌, ◌<◌, ◌-◌, ◌^◌, length};
+ghost use Rattle.std.specs.Prelude.{◌≡◌};
 ghost use Rattle.attr_blobs.specs.Values.{fixed_at, named_by, named_at, nameds_at, prolog_at, value_at, whole_at, value_of_blob};
 ghost use Rattle.attr_blobs.specs.Answers.{Gives, Answers};
 
@@ -22,13 +22,12 @@ pub fn read_attribute(
     params: &Seq<ParamKind>,
     enums: &Seq<EnumSize>,
 ) -> Result<AttrValue, AttrError>
-    requires { length bytes.now < 2 ^ 32 }
     ensures { Answers result (value_of_blob enums.now params.now bytes.now) }
 {
     match whole_of(alloc, enums.as_slice(), params.as_slice(), bytes) {
         Ok(value) => Ok(value),
         Err(Unread::Bad { left }) => Err(AttrError::Bad {
-            at: bytes.len().saturating_sub(left) as u32,
+            at: bytes.len().saturating_sub(left).min(0xffff_ffff) as u32,
         }),
         Err(Unread::Exhausted) => Err(AttrError::NoMemory),
     }
