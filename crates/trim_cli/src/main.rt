@@ -8,7 +8,8 @@ mod run;
 mod status;
 mod words;
 
-use il_outside::{DiskFolder, StdSink, StdSource};
+use il_base::NoMemory;
+use il_outside::{DiskFolder, StdSink, StdSource, write_all};
 
 #[cfg(test)]
 mod tests;
@@ -18,29 +19,30 @@ pub use status::Status;
 use std::env;
 use std::process::ExitCode;
 
-/// The words behind the program's name; None where one isn't text or can't be had.
-fn words_of(rt: &HostRuntime) -> Option<Vec<String>> {
-    let Ok(args) = env::args(rt) else {
-        return None;
-    };
+/// The words behind the program's name; none where one of them isn't text.
+fn words_of(rt: &HostRuntime) -> Result<Vec<String>, NoMemory> {
     let mut words = Vec::new(rt.alloc());
+    let Ok(args) = env::args(rt) else {
+        return Ok(words);
+    };
     for word in args.skip(1) {
-        if words.push(word).is_err() {
-            return None;
-        }
+        words.push(word)?;
     }
-    Some(words)
+    Ok(words)
 }
 
 fn main(rt: HostRuntime) -> ExitCode {
+    let mut err = StdSink::new(rt.stderr());
     let words = match words_of(&rt) {
-        Some(words) => words,
-        None => Vec::new(rt.alloc()),
+        Ok(words) => words,
+        Err(_) => {
+            let _ = write_all(&mut err, b"no memory\n");
+            return ExitCode::from(Status::NoMemory.code());
+        }
     };
     let mut folder = DiskFolder::new(rt.alloc(), &rt);
     let mut input = StdSource::new(rt.stdin());
     let mut out = StdSink::new(rt.stdout());
-    let mut err = StdSink::new(rt.stderr());
     let status = run(
         rt.alloc(),
         &words,

@@ -135,14 +135,29 @@ fn words_of(alloc: Global, words: &[&str]) -> Result<Vec<String>, AllocError> {
     Ok(all)
 }
 
-/// A folder with the one file `hello.exe`.
-fn folder_of(alloc: Global) -> Result<MemFolder, NoMemory> {
-    let bytes = hello(alloc)?;
-    let mut files = Seq::new(alloc);
-    files.push(NamedFile {
-        name: Seq::from_slice(alloc, b"hello.exe")?,
+/// The same with the body `br.s` to itself.
+fn endless(alloc: Global) -> Result<Vec<u8>, AllocError> {
+    let mut bytes = hello(alloc)?;
+    for (at, value) in [(592usize, 0x0au8), (593, 0x2b), (594, 0xfe)] {
+        if let Some(byte) = bytes.get_mut(at) {
+            *byte = value;
+        }
+    }
+    Ok(bytes)
+}
+
+fn named(alloc: Global, name: &[u8], bytes: Vec<u8>) -> Result<NamedFile, NoMemory> {
+    Ok(NamedFile {
+        name: Seq::from_slice(alloc, name)?,
         bytes: Seq::from_vec(bytes),
-    })?;
+    })
+}
+
+/// A folder with the files `hello.exe` and `loop.exe`.
+fn folder_of(alloc: Global) -> Result<MemFolder, NoMemory> {
+    let mut files = Seq::new(alloc);
+    files.push(named(alloc, b"hello.exe", hello(alloc)?)?)?;
+    files.push(named(alloc, b"loop.exe", endless(alloc)?)?)?;
     Ok(MemFolder::honest(files))
 }
 
@@ -181,6 +196,27 @@ fn a_program_prints_and_ends(rt: HostRuntime) -> Result<(), Fail> {
         b"spent 2\n",
     );
     assert!(rt; spent.ok().ok_or("memory")?);
+    Ok(())
+}
+
+#[test]
+fn steps_are_used_up(rt: HostRuntime) -> Result<(), Fail> {
+    let none = answers(
+        rt.alloc(),
+        &["exec", "hello.exe", "--steps", "0"],
+        Status::Spent { steps: 0 },
+        b"",
+        b"spent 0\n",
+    );
+    assert!(rt; none.ok().ok_or("memory")?);
+    let endless = answers(
+        rt.alloc(),
+        &["exec", "loop.exe", "--steps", "1000"],
+        Status::Spent { steps: 1000 },
+        b"",
+        b"spent 1000\n",
+    );
+    assert!(rt; endless.ok().ok_or("memory")?);
     Ok(())
 }
 

@@ -74,7 +74,8 @@ abbrev pub told_alone : Option AsmRec → Result AsmRec Refusal
 told_alone None = Err (NotYet 0)
 told_alone (Some rec) = Ok rec
 
--- What the files are: the record of the one file, or the first file that can't be taken yet. A second file can't.
+-- What the files are: the record of the one file, or a file that can't be taken yet. Of two files the second can't,
+-- whatever they are; of none the first isn't there.
 abbrev pub told_of : List (List ℕ) → Result AsmRec Refusal
 told_of [] = Err (NotYet 0)
 told_of (f ∷ []) = told_alone (thin_record f)

@@ -3,7 +3,7 @@ use il_base::{NoMemory, Place, Text};
 /// Why a call gave no result.
 #[derive(Clone, Copy, Debug, PartialEq, Eq)]
 pub enum Refusal {
-    /// The file, counted from 0, isn't thin: files of its kind can't be taken yet.
+    /// The file, counted from 0, can't be taken yet: it isn't thin, or it is the second one.
     NotYet { file: u32 },
     NoMemory,
 }
