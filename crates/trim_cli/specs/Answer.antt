@@ -39,47 +39,47 @@ Reports line status old new answer =
     ⊎ ((answer ≡ WriteFault) × AppendsPrefix old.held new.held line × Rose old.faults new.faults)
     ⊎ ((answer ≡ NoMemory) × AppendsPrefix old.held new.held line × (new.faults ≡ old.faults))
 
--- a prefix of some status line
-abbrev pub LinePrefix : SinkState → SinkState → Type 0
-LinePrefix old new = (asm word : List ℕ) × (status : Status) × AppendsPrefix old.held new.held (line_of asm word status)
-
--- ---- a file
-
--- the run of the file: its output, its status and the status line
-pub record Ran (bytes : List ℕ) (steps : ℕ) (word : List ℕ) (old_out new_out old_err new_err : SinkState) (status : Status) : Type 0 where
-  pub rec : AsmRec
-  pub thin : thin_record bytes ≡ Some rec
-  pub answer : status ≡ status_of steps (end_of (run_of rec steps).end)
-  pub printed : Appends old_out.held new_out.held (run_of rec steps).output
-  pub line : Appends old_err.held new_err.held (line_of (assembly_of bytes) word status)
-
--- the file isn't thin: nothing is printed but the status line
-pub record Refused (bytes word : List ℕ) (old_out new_out old_err new_err : SinkState) (file : ℕ) : Type 0 where
-  pub first : file ≡ 0
-  pub not_thin : thin_record bytes ≡ None
-  pub printed : Appends old_out.held new_out.held []
-  pub line : Appends old_err.held new_err.held (line_of [] word (NotYet file))
-
--- a prefix of what the file's run prints
-abbrev pub PrintsPrefix : List ℕ → ℕ → SinkState → SinkState → Type 0
-PrintsPrefix bytes steps old new =
-    Appends old.held new.held [] ⊎ ((rec : AsmRec) × (thin_record bytes ≡ Some rec) × AppendsPrefix old.held new.held (run_of rec steps).output)
-
 -- a sink failed in this call
 abbrev pub SinkFailed : SinkState → SinkState → SinkState → SinkState → Type 0
 SinkFailed old_out new_out old_err new_err = Rose old_out.faults new_out.faults ⊎ Rose old_err.faults new_err.faults
 
--- when each status comes for the bytes of a file
-abbrev pub FileCaused : List ℕ → ℕ → List ℕ → SinkState → SinkState → SinkState → SinkState → Status → Type 0
-FileCaused bytes steps word out0 out1 err0 err1 (Ended code) = Ran bytes steps word out0 out1 err0 err1 (Ended code)
-FileCaused bytes steps word out0 out1 err0 err1 (Spent n) = Ran bytes steps word out0 out1 err0 err1 (Spent n)
-FileCaused bytes steps word out0 out1 err0 err1 (Stopped place) = Ran bytes steps word out0 out1 err0 err1 (Stopped place)
-FileCaused bytes steps word out0 out1 err0 err1 (Stuck place) = Ran bytes steps word out0 out1 err0 err1 (Stuck place)
-FileCaused bytes steps word out0 out1 err0 err1 (NotYet file) = Refused bytes word out0 out1 err0 err1 file
-FileCaused bytes steps word out0 out1 err0 err1 WriteFault = SinkFailed out0 out1 err0 err1 × PrintsPrefix bytes steps out0 out1 × LinePrefix err0 err1
-FileCaused bytes steps word out0 out1 err0 err1 NoMemory = PrintsPrefix bytes steps out0 out1 × LinePrefix err0 err1
-FileCaused bytes steps word out0 out1 err0 err1 (BadWords place) = ⊥
-FileCaused bytes steps word out0 out1 err0 err1 ReadFault = ⊥
+-- ---- a file
+
+-- the run of the file printed its whole output, and stands so
+pub record Ran (bytes : List ℕ) (steps : ℕ) (out0 out1 : SinkState) (due : Status) : Type 0 where
+  pub rec : AsmRec
+  pub thin : thin_record bytes ≡ Some rec
+  pub answer : due ≡ status_of steps (end_of (run_of rec steps).end)
+  pub printed : Appends out0.held out1.held (run_of rec steps).output
+
+-- the file isn't thin, and nothing was printed
+pub record Refused (bytes : List ℕ) (out0 out1 : SinkState) (file : ℕ) : Type 0 where
+  pub first : file ≡ 0
+  pub not_thin : thin_record bytes ≡ None
+  pub printed : Appends out0.held out1.held []
+
+-- a prefix of what the file's run prints
+abbrev pub PrintsPrefix : List ℕ → ℕ → SinkState → SinkState → Type 0
+PrintsPrefix bytes steps out0 out1 =
+    Appends out0.held out1.held [] ⊎ ((rec : AsmRec) × (thin_record bytes ≡ Some rec) × AppendsPrefix out0.held out1.held (run_of rec steps).output)
+
+-- which status is due for the bytes of a file, with what was printed
+abbrev pub IsDue : List ℕ → ℕ → SinkState → SinkState → Status → Type 0
+IsDue bytes steps out0 out1 (Ended code) = Ran bytes steps out0 out1 (Ended code)
+IsDue bytes steps out0 out1 (Spent n) = Ran bytes steps out0 out1 (Spent n)
+IsDue bytes steps out0 out1 (Stopped place) = Ran bytes steps out0 out1 (Stopped place)
+IsDue bytes steps out0 out1 (Stuck place) = Ran bytes steps out0 out1 (Stuck place)
+IsDue bytes steps out0 out1 (NotYet file) = Refused bytes out0 out1 file
+IsDue bytes steps out0 out1 WriteFault = PrintsPrefix bytes steps out0 out1 × Rose out0.faults out1.faults
+IsDue bytes steps out0 out1 NoMemory = PrintsPrefix bytes steps out0 out1
+IsDue bytes steps out0 out1 (BadWords place) = ⊥
+IsDue bytes steps out0 out1 ReadFault = ⊥
+
+-- the status that was due, and its line
+pub record FileCaused (bytes : List ℕ) (steps : ℕ) (word : List ℕ) (out0 out1 err0 err1 : SinkState) (answer : Status) : Type 0 where
+  pub due : Status
+  pub cause : IsDue bytes steps out0 out1 due
+  pub reported : Reports (line_of (assembly_of bytes) word due) due err0 err1 answer
 
 -- ---- the status line of a run
 
@@ -99,34 +99,29 @@ RunReported bytes word steps (Err (fault.Refused (refusal.NotYet file))) old new
 
 -- ---- a name in a folder
 
--- the bytes under the name, and the answer for them
-pub record FileAnswer (name : List ℕ) (steps : ℕ) (files : Option Files) (out0 out1 err0 err1 : SinkState) (status : Status) : Type 0 where
+-- the bytes that were read under the name, and the answer for them
+pub record FileAnswer (name : List ℕ) (steps : ℕ) (files : Option Files) (out0 out1 err0 err1 : SinkState) (answer : Status) : Type 0 where
   pub bytes : List ℕ
   pub told : Tells files name bytes
-  pub caused : FileCaused bytes steps name out0 out1 err0 err1 status
+  pub caused : FileCaused bytes steps name out0 out1 err0 err1 answer
 
--- a prefix of what the run of the name's file prints, or nothing
-abbrev pub NamePrefix : List ℕ → ℕ → Option Files → SinkState → SinkState → Type 0
-NamePrefix name steps files old new = Appends old.held new.held [] ⊎ ((bytes : List ℕ) × Tells files name bytes × PrintsPrefix bytes steps old new)
-
--- The read of the name failed in this call: nothing is printed but the status line.
-pub record ReadFailed (name : List ℕ) (old new : FolderState) (out0 out1 err0 err1 : SinkState) : Type 0 where
-  pub rose : Rose old.read_faults new.read_faults
-  pub failed : new.failed ≡ Some name
+-- the read of the name failed in this call: nothing is printed but the status line
+pub record ReadFailed (name : List ℕ) (was now : FolderState) (out0 out1 err0 err1 : SinkState) (answer : Status) : Type 0 where
+  pub rose : Rose was.read_faults now.read_faults
+  pub failed : now.failed ≡ Some name
   pub printed : Appends out0.held out1.held []
-  pub line : Appends err0.held err1.held (line_of [] [] ReadFault)
+  pub reported : Reports (line_of [] [] ReadFault) ReadFault err0 err1 answer
 
--- when each status comes for a name
+-- memory ran out at the read
+pub record ReadStarved (out0 out1 err0 err1 : SinkState) (answer : Status) : Type 0 where
+  pub printed : Appends out0.held out1.held []
+  pub reported : Reports (line_of [] [] NoMemory) NoMemory err0 err1 answer
+
+-- the answer for a name
 abbrev pub ExecCaused : List ℕ → ℕ → FolderState → FolderState → SinkState → SinkState → SinkState → SinkState → Status → Type 0
-ExecCaused name steps was now out0 out1 err0 err1 ReadFault = ReadFailed name was now out0 out1 err0 err1
-ExecCaused name steps was now out0 out1 err0 err1 WriteFault = SinkFailed out0 out1 err0 err1 × NamePrefix name steps was.files out0 out1 × LinePrefix err0 err1
-ExecCaused name steps was now out0 out1 err0 err1 NoMemory = NamePrefix name steps was.files out0 out1 × LinePrefix err0 err1
-ExecCaused name steps was now out0 out1 err0 err1 (BadWords place) = ⊥
-ExecCaused name steps was now out0 out1 err0 err1 (Ended code) = FileAnswer name steps was.files out0 out1 err0 err1 (Ended code)
-ExecCaused name steps was now out0 out1 err0 err1 (Spent n) = FileAnswer name steps was.files out0 out1 err0 err1 (Spent n)
-ExecCaused name steps was now out0 out1 err0 err1 (Stopped place) = FileAnswer name steps was.files out0 out1 err0 err1 (Stopped place)
-ExecCaused name steps was now out0 out1 err0 err1 (Stuck place) = FileAnswer name steps was.files out0 out1 err0 err1 (Stuck place)
-ExecCaused name steps was now out0 out1 err0 err1 (NotYet file) = FileAnswer name steps was.files out0 out1 err0 err1 (NotYet file)
+ExecCaused name steps was now out0 out1 err0 err1 answer =
+    FileAnswer name steps was.files out0 out1 err0 err1 answer
+    ⊎ (ReadFailed name was now out0 out1 err0 err1 answer ⊎ ReadStarved out0 out1 err0 err1 answer)
 
 -- ---- the words
 

@@ -2,13 +2,13 @@ use Rattle.std.proofs.Common.{◌≡◌, ℕ, List, [], ◌∷◌, get_or, refl,
 use Rattle.thin_reader.specs.Record.{thin_record}
 use Rattle.trim_core.specs.Exec.{told_of, ExecsTo}
 use Rattle.trim_cli.specs.Answer.{RunReported}
-use Rattle.trim_cli.proofs.AnswerLemmas.{grew_by_nothing, no_memory, file_caused}
+use Rattle.trim_cli.proofs.AnswerLemmas.{grew_by_nothing, starved, file_caused}
 use Rattle.trim_cli.proofs.run.run_file.Goals as goal
 
 pub returns-in-Err : goal.returns-in-Err
 returns-in-Err g c =
     let out = g.O.Sink.state c.args.out.now in
-    no_memory c.args.file c.args.steps c.args.word.now out out (g.E.Sink.state c.args.err.now) (g.E.Sink.state c.report.new.err) c.args.word.now c.report.result (inl (grew_by_nothing out.held)) c.report.ensures
+    starved c.args.file c.args.steps c.args.word.now out out (g.E.Sink.state c.args.err.now) (g.E.Sink.state c.report.new.err) c.report.result (inl (grew_by_nothing out.held)) c.report.ensures
 
 pub returns : goal.returns
 returns g c =
