@@ -4,3 +4,5 @@ pub mod OperandLemmas
 pub mod FitLemmas
 pub mod CodeLemmas
 pub mod WorldLemmas
+pub mod MemoLemmas
+pub mod KeepLemmas

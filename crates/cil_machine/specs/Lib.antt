@@ -4,3 +4,4 @@ pub mod Operands
 pub mod Code
 pub mod Kept
 pub mod Starts
+pub mod Memo

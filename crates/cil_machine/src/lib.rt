@@ -7,6 +7,7 @@ mod call;
 mod callee;
 mod forms;
 mod machine;
+mod memo;
 mod operands;
 mod places;
 mod print;
@@ -18,6 +19,7 @@ mod values;
 
 pub use callee::Callee;
 pub use machine::step;
+pub use memo::Memo;
 pub use program::Program;
 pub use start::first_state;
 pub use step_out::StepOut;

@@ -1,12 +1,13 @@
 //! A step: the instruction at the top frame's offset, by its form.
 
-ghost use Rattle.std.specs.Prelude.{◌≡◌, ◌+◌, ◌%◌, ◌<◌, [], length, IfOk};
+ghost use Rattle.std.specs.Prelude.{◌≡◌, ◌≢◌, ◌+◌, ◌%◌, ◌<◌, [], length, IfOk};
 ghost use Rattle.il_base.specs.declared.body.Form.TheVariants as form;
 ghost use Rattle.cil_values.specs.World.{queries_of, instruction_of, method_with, use_of};
 ghost use Rattle.cil_values.specs.Step.{step, execute, call_use};
 ghost use Rattle.cil_values.specs.Call.{call};
 ghost use Rattle.world_model.specs.Opcodes.{instruction_len};
 ghost use Rattle.cil_machine.specs.Took.{next_of};
+ghost use Rattle.cil_machine.specs.Memo.{IsMemo, MemoAfter};
 ghost use Rattle.cil_machine.specs.Code.{parts_of, place_of};
 
 use crate::args::local_types;
@@ -15,6 +16,7 @@ use crate::callee::{Callee, callee_of};
 use crate::forms::{
     binary, branch, branch_if, load_arg, load_int, load_local, pop, stopped, store_local, stuck,
 };
+use crate::memo::Memo;
 use crate::operands::token_in;
 use crate::print::core_call;
 use crate::program::{Program, parts_of};
@@ -77,9 +79,9 @@ fn next_at(i: &Instr) -> u32
     i.at.wrapping_add(instruction_len(i.opcode))
 }
 
-/// One instruction of the method of this signature and body; `next` is the offset behind it.
+/// One instruction that isn't an `ldstr`, of the method of this signature and body; `next` is the offset behind it.
 #[tactic(auto, using(crate::proofs::OperandLemmas::plain), unfolding(cil_values::specs::Step::execute, cil_values::specs::World::instruction_of))]
-fn execute(
+fn execute_plain(
     alloc: Global,
     program: &Program,
     st: &mut State,
@@ -88,7 +90,8 @@ fn execute(
     i: &Instr,
     printed: &mut Vec<u8>,
 ) -> Result<StepOut, NoMemory>
-    requires { printed.old.items ≡ [] }
+    requires printed { printed.old.items ≡ [] }
+    requires other { i.now.form ≢ form.LdStr }
     ensures { IfOk result (λ out. next_of out st.new printed.new.items ≡ execute (queries_of program.now.rec.now) (method_with program.now.rec.now sig.now body.now) (instruction_of program.now.rec.now i.now) st.old i.now.form) }
 {
     let next = next_at(i);
@@ -101,7 +104,6 @@ fn execute(
         Form::LdLoc => load_local(st, next, &i.operand),
         Form::StLoc => Ok(store_local(st, next, local_types(program.rec, body.locals), &i.operand)),
         Form::LdI4 => load_int(st, next, &i.operand),
-        Form::LdStr => load_str(alloc, program, st, next, &i.operand),
         Form::Pop => Ok(pop(st, next)),
         Form::Br => Ok(branch(st, &i.operand)),
         Form::BrIf => Ok(branch_if(st, next, i.opcode, &i.operand)),
@@ -112,17 +114,46 @@ fn execute(
     }
 }
 
-/// One step of the machine. `printed` is empty before it and holds what the step printed after it. After want of memory
-/// the state can only be dropped.
+/// One instruction of the method of this signature and body.
+#[tactic(auto, unfolding(cil_values::specs::Step::execute, cil_values::specs::World::instruction_of))]
+fn execute(
+    alloc: Global,
+    program: &Program,
+    memo: &mut Memo,
+    st: &mut State,
+    sig: &MethodSig,
+    body: &Body,
+    i: &Instr,
+    printed: &mut Vec<u8>,
+) -> Result<StepOut, NoMemory>
+    requires printed { printed.old.items ≡ [] }
+    requires memo { IsMemo program.now.rec.now memo.old st.old }
+    ensures out { IfOk result (λ out. next_of out st.new printed.new.items ≡ execute (queries_of program.now.rec.now) (method_with program.now.rec.now sig.now body.now) (instruction_of program.now.rec.now i.now) st.old i.now.form) }
+    ensures memo { IfOk result (λ out. MemoAfter program.now.rec.now memo.new out st.new) }
+{
+    match i.form {
+        Form::LdStr => load_str(alloc, program, memo, st, next_at(i), &i.operand),
+        _ => {
+            let out = execute_plain(alloc, program, st, sig, body, i, printed)?;
+            Ok(out)
+        }
+    }
+}
+
+/// One step of the machine. `memo` is that of the steps before it, a new one at the first step. `printed` is empty before it
+/// and holds what the step printed after it. After want of memory the state and the memo can only be dropped.
 #[tactic(auto, unfolding(cil_values::specs::Step::step, cil_values::specs::World::queries_of))]
 pub fn step(
     alloc: Global,
     program: &Program,
+    memo: &mut Memo,
     st: &mut State,
     printed: &mut Vec<u8>,
 ) -> Result<StepOut, NoMemory>
-    requires { printed.old.items ≡ [] }
-    ensures { IfOk result (λ out. next_of out st.new printed.new.items ≡ step (queries_of program.now.rec.now) st.old) }
+    requires printed { printed.old.items ≡ [] }
+    requires memo { IsMemo program.now.rec.now memo.old st.old }
+    ensures out { IfOk result (λ out. next_of out st.new printed.new.items ≡ step (queries_of program.now.rec.now) st.old) }
+    ensures memo { IfOk result (λ out. MemoAfter program.now.rec.now memo.new out st.new) }
 {
     let at = st.top.method.0;
     match program.rec.method_def.get(at as usize) {
@@ -131,7 +162,7 @@ pub fn step(
             None => Ok(stuck(st)),
             Some((sig, body)) => match program.instruction(at, body, st.top.at) {
                 None => Ok(stuck(st)),
-                Some(i) => execute(alloc, program, st, sig, body, i, printed),
+                Some(i) => execute(alloc, program, memo, st, sig, body, i, printed),
             },
         },
     }

@@ -1,6 +1,6 @@
 //! The state before the first step.
 
-ghost use Rattle.std.specs.Prelude.{◌≡◌, [], map, IfOk};
+ghost use Rattle.std.specs.Prelude.{◌≡◌, [], map, IfOk, IfSome};
 ghost use Rattle.cil_values.specs.Words.{zero_of};
 ghost use Rattle.cil_values.specs.World.{queries_of, expr_of, locals_of};
 ghost use Rattle.cil_values.specs.Run.{is_entry_form};
@@ -38,10 +38,11 @@ fn frame_of(alloc: Global, rec: &AsmRec, method: MethodId, body: &Body) -> Resul
 }
 
 /// The state before the first step of the method at place `entry` of the world, None where there is no such method or it
-/// hasn't an entry point's form: its run is stuck at its first step.
+/// hasn't an entry point's form: its run is stuck at its first step. No text has an object in it yet.
 #[tactic(auto, using(crate::proofs::WorldLemmas::method_by_parts), unfolding(cil_values::specs::World::queries_of))]
 pub fn first_state(alloc: Global, program: &Program, entry: u32) -> Result<Option<State>, NoMemory>
-    ensures { IfOk result (StartsAt (queries_of program.now.rec.now) entry) }
+    ensures runs { IfOk result (StartsAt (queries_of program.now.rec.now) entry) }
+    ensures texts { IfOk result (λ first. IfSome first (λ s. s.texts ≡ [])) }
 {
     match program.rec.method_def.get(entry as usize) {
         None => Ok(None),

@@ -6,8 +6,11 @@ ghost use Rattle.cil_values.specs.World.{use_of, text_of, units_of};
 ghost use Rattle.cil_values.specs.Text.{holds_text, object_of, with_object, load_text};
 ghost use Rattle.cil_values.specs.Step.{load_str};
 ghost use Rattle.cil_machine.specs.Took.{next_of};
+ghost use Rattle.cil_machine.specs.Memo.{AreThere, IsMemo, MemoAfter, Gives};
+ghost use Rattle.world_model.specs.declared.known.Known.TheVariants.{Good};
 
 use crate::forms::{stopped, stuck};
+use crate::memo::Memo;
 use crate::operands::token_in;
 use crate::program::Program;
 use crate::step_out::StepOut;
@@ -50,13 +53,38 @@ fn new_object(alloc: Global, st: &mut State, units: &Units) -> Result<u32, NoMem
     Ok(at)
 }
 
-fn load_text(alloc: Global, st: &mut State, next: u32, units: &Units) -> Result<StepOut, NoMemory>
-    ensures { IfOk result (λ out. next_of out st.new [] ≡ load_text next st.old units.now) }
+/// The object of a text, which is made now where it wasn't there.
+#[tactic(auto, using(crate::proofs::MemoLemmas::gives_found, crate::proofs::MemoLemmas::gives_new))]
+fn object_for(alloc: Global, st: &mut State, units: &Units) -> Result<u32, NoMemory>
+    requires { AreThere st.old.heap st.old.texts }
+    ensures { IfOk result (λ at. Gives st.old units.now at st.new) }
 {
-    let at = match object_of(&st.heap, &st.texts, units) {
-        Some(at) => at,
-        None => new_object(alloc, st, units)?,
-    };
+    match object_of(&st.heap, &st.texts, units) {
+        Some(at) => Ok(at),
+        None => {
+            let at = new_object(alloc, st, units)?;
+            Ok(at)
+        }
+    }
+}
+
+/// The first load of a token, whose text is this.
+fn load_text(
+    alloc: Global,
+    program: &Program,
+    memo: &mut Memo,
+    st: &mut State,
+    next: u32,
+    token: u32,
+    units: &Units,
+) -> Result<StepOut, NoMemory>
+    requires names { text_of program.now.rec.now token ≡ Good units.now }
+    requires memo { IsMemo program.now.rec.now memo.old st.old }
+    ensures out { IfOk result (λ out. next_of out st.new [] ≡ load_text next st.old units.now) }
+    ensures memo { IfOk result (λ out. MemoAfter program.now.rec.now memo.new out st.new) }
+{
+    let at = object_for(alloc, st, units)?;
+    memo.put(token, at)?;
     st.top.stack.push(Value::Object(at))?;
     st.top.at = next;
     Ok(StepOut::Went)
@@ -67,17 +95,25 @@ fn load_text(alloc: Global, st: &mut State, next: u32, units: &Units) -> Result<
 pub(crate) fn load_str(
     alloc: Global,
     program: &Program,
+    memo: &mut Memo,
     st: &mut State,
     next: u32,
     operand: &Operand,
 ) -> Result<StepOut, NoMemory>
-    ensures { IfOk result (λ out. next_of out st.new [] ≡ load_str next st.old (use_of program.now.rec.now form.LdStr operand.now)) }
+    requires { IsMemo program.now.rec.now memo.old st.old }
+    ensures out { IfOk result (λ out. next_of out st.new [] ≡ load_str next st.old (use_of program.now.rec.now form.LdStr operand.now)) }
+    ensures memo { IfOk result (λ out. MemoAfter program.now.rec.now memo.new out st.new) }
 {
     let Some(token) = token_in(operand) else {
         return Ok(stuck(st));
     };
+    if let Some(at) = memo.get(token) {
+        st.top.stack.push(Value::Object(at))?;
+        st.top.at = next;
+        return Ok(StepOut::Went);
+    }
     let Some(text) = program.text(token) else {
         return Ok(stopped(st));
     };
-    load_text(alloc, st, next, &text.text)
+    load_text(alloc, program, memo, st, next, token, &text.text)
 }

@@ -1,13 +1,14 @@
 //! A run of a thin record over a sink.
 
-ghost use Rattle.std.specs.Prelude.{◌≡◌};
+ghost use Rattle.std.specs.Prelude.{◌≡◌, [], IfOk};
 ghost use Rattle.cil_values.specs.World.{queries_of};
 ghost use Rattle.cil_values.specs.Step.{step};
 ghost use Rattle.cil_values.specs.Run.{run, stuck_at_once};
+ghost use Rattle.cil_machine.specs.Memo.{IsMemo, MemoAfter};
 ghost use Rattle.trim_core.specs.Exec.{RunsTo, LoopsTo, TurnsTo, end_of, place_in, run_of};
 
 use crate::answers::{EndKind, ExecFault, Refusal};
-use cil_machine::{Program, StepOut, first_state, step};
+use cil_machine::{Memo, Program, StepOut, first_state, step};
 use cil_values::{End, State};
 use il_base::{MethodId, Place};
 use il_outside::{Sink, SinkError, write_all};
@@ -44,13 +45,16 @@ fn end_of(end: Option<End>) -> EndKind
 fn turn<O: Sink>(
     alloc: Global,
     program: &Program,
+    memo: &mut Memo,
     st: &mut State,
     out: &mut O,
 ) -> Result<StepOut, ExecFault>
-    ensures { TurnsTo (step (queries_of program.now.rec.now) st.old) st.new (O.state out.old) (O.state out.new) result }
+    requires { IsMemo program.now.rec.now memo.old st.old }
+    ensures memo { IfOk result (λ next. MemoAfter program.now.rec.now memo.new next st.new) }
+    ensures turn { TurnsTo (step (queries_of program.now.rec.now) st.old) st.new (O.state out.old) (O.state out.new) result }
 {
     let mut printed = Vec::new(alloc);
-    match step(alloc, program, st, &mut printed) {
+    match step(alloc, program, memo, st, &mut printed) {
         Err(_) => Err(ExecFault::Refused(Refusal::NoMemory)),
         Ok(StepOut::Over(end)) => Ok(StepOut::Over(end)),
         Ok(StepOut::Went) => match write_all(out, printed.as_slice()) {
@@ -69,11 +73,13 @@ fn steps<O: Sink>(
     n: u64,
     out: &mut O,
 ) -> Result<Option<End>, ExecFault>
+    requires { first.texts ≡ [] }
     ensures { LoopsTo (run (queries_of program.now.rec.now) n first) (O.state out.old) (O.state out.new) result }
 {
+    let mut memo = Memo::new(alloc);
     let mut st = first;
     for _ in 0..n {
-        match turn(alloc, program, &mut st, out) {
+        match turn(alloc, program, &mut memo, &mut st, out) {
             Err(fault) => return Err(fault),
             Ok(StepOut::Over(end)) => return Ok(Some(end)),
             Ok(StepOut::Went) => {}

@@ -7,19 +7,19 @@ use Rattle.cil_machine.specs.Took.{next_of}
 use Rattle.cil_machine.proofs.WorldLemmas.{step_at, resolved}
 use Rattle.cil_machine.proofs.machine.step.Goals as goal
 
-pub returns-in-None-instruction : goal.returns-in-None-instruction
-returns-in-None-instruction c =
+pub returns-in-None-instruction-clause-out : goal.returns-in-None-instruction-clause-out
+returns-in-None-instruction-clause-out c =
     let rec = c.args.program.now.rec.now in
     let s = c.args.st.now in
     let here = step_at rec s c.in-Some.row.now (c.in-Some-parts_of.sig.now, c.in-Some-parts_of.body.now) (sym c.in-Some.ensures.value) (sym c.in-Some-parts_of.ensures) in
     let none = ap (λ (o : Option Instr). given (resolved rec o) s (λ i. execute (queries_of rec) (method_with rec c.in-Some-parts_of.sig.now c.in-Some-parts_of.body.now) i s i.form)) (sym c.in-None-instruction.ensures) in
-    ap (λ (bytes : List ℕ). next_of c.stuck-in-None-instruction.result s bytes) c.requires ∙ c.stuck-in-None-instruction.ensures ∙ sym (here ∙ none)
+    ap (λ (bytes : List ℕ). next_of c.stuck-in-None-instruction.result s bytes) c.requires.printed ∙ c.stuck-in-None-instruction.ensures ∙ sym (here ∙ none)
 
-pub returns-in-Some-instruction : goal.returns-in-Some-instruction
+pub returns-in-Some-instruction-clause-out : goal.returns-in-Some-instruction-clause-out
 unfolding instruction_of
-returns-in-Some-instruction c =
+returns-in-Some-instruction-clause-out c =
     let rec = c.args.program.now.rec.now in
     let s = c.args.st.now in
     let here = step_at rec s c.in-Some.row.now (c.in-Some-parts_of.sig.now, c.in-Some-parts_of.body.now) (sym c.in-Some.ensures.value) (sym c.in-Some-parts_of.ensures) in
     let found = ap (λ (o : Option Instr). given (resolved rec o) s (λ i. execute (queries_of rec) (method_with rec c.in-Some-parts_of.sig.now c.in-Some-parts_of.body.now) i s i.form)) (sym c.in-Some-instruction.ensures) in
-    subst (λ (n : Next). IfOk c.execute.result (λ out. next_of out c.execute.new.st c.execute.new.printed.items ≡ n)) (sym (here ∙ found)) c.execute.ensures
+    subst (λ (n : Next). IfOk c.execute.result (λ out. next_of out c.execute.new.st c.execute.new.printed.items ≡ n)) (sym (here ∙ found)) c.execute.ensures.out

@@ -3,6 +3,7 @@ use Rattle.cil_values.specs.World.{queries_of}
 use Rattle.cil_values.specs.Step.{step}
 use Rattle.cil_values.specs.Run.{Outcome, run}
 use Rattle.cil_machine.specs.declared.step_out.StepOut.{StepOut}
+use Rattle.cil_machine.specs.Memo.{MemoAfter}
 use Rattle.trim_core.specs.Exec.{TurnsTo}
 use Rattle.trim_core.proofs.RunLemmas.{Left, nothing_yet, grew_by_nothing, run_next, run_none, turn_goes_on, turn_ends, turn_fails, all_went}
 use Rattle.trim_core.proofs.run.steps.Goals as goal
@@ -12,7 +13,7 @@ loop-init g c =
     let q = queries_of c.args.program.now.rec.now in
     let s = g.O.Sink.state c.args.out.now in
     let whole : c.args.n - 0 ≡ c.args.n = omega arith in
-    rw whole (nothing_yet (run q c.args.n c.args.first) s (grew_by_nothing s.held))
+    (c.new-memo.ensures c.args.program.now.rec.now c.args.first c.requires, rw whole (nothing_yet (run q c.args.n c.args.first) s (grew_by_nothing s.held)))
 
 pub loop-preserved : goal.loop-preserved
 loop-preserved g c =
@@ -20,8 +21,10 @@ loop-preserved g c =
     let total = run q c.args.n c.args.first in
     let old = g.O.Sink.state c.args.out.now in
     let now = g.O.Sink.state c.loop.out in
-    let left = subst (λ (o : Outcome). Left total old now o) (run_next q c.args.n c.loop.counter c.loop.st c.loop-test.true) c.loop.invariant in
-    turn_goes_on total old now (g.O.Sink.state c.turn.new.out) (step q c.loop.st) c.turn.new.st (run q (c.args.n - (c.loop.counter + 1))) left (subst (λ (o : StepOut). TurnsTo (step q c.loop.st) c.turn.new.st now (g.O.Sink.state c.turn.new.out) (Ok o)) c.in-Ok-Went.field-0-is c.in-Ok-Went.ensures)
+    let left = subst (λ (o : Outcome). Left total old now o) (run_next q c.args.n c.loop.counter c.loop.st c.loop-test.true) c.loop.invariant.1 in (
+      subst (λ (o : StepOut). MemoAfter c.args.program.now.rec.now c.turn.new.memo o c.turn.new.st) c.in-Ok-Went.field-0-is c.in-Ok-Went.ensures.memo,
+      turn_goes_on total old now (g.O.Sink.state c.turn.new.out) (step q c.loop.st) c.turn.new.st (run q (c.args.n - (c.loop.counter + 1))) left (subst (λ (o : StepOut). TurnsTo (step q c.loop.st) c.turn.new.st now (g.O.Sink.state c.turn.new.out) (Ok o)) c.in-Ok-Went.field-0-is c.in-Ok-Went.ensures.turn),
+    )
 
 pub returns-in-Ok-Over : goal.returns-in-Ok-Over
 returns-in-Ok-Over g c =
@@ -29,8 +32,8 @@ returns-in-Ok-Over g c =
     let total = run q c.args.n c.args.first in
     let old = g.O.Sink.state c.args.out.now in
     let now = g.O.Sink.state c.loop.out in
-    let left = subst (λ (o : Outcome). Left total old now o) (run_next q c.args.n c.loop.counter c.loop.st c.loop-test.true) c.loop.invariant in
-    turn_ends total old now (g.O.Sink.state c.turn.new.out) (step q c.loop.st) c.turn.new.st c.in-Ok-Over.end (run q (c.args.n - (c.loop.counter + 1))) left (subst (λ (o : StepOut). TurnsTo (step q c.loop.st) c.turn.new.st now (g.O.Sink.state c.turn.new.out) (Ok o)) c.in-Ok-Over.field-0-is c.in-Ok-Over.ensures)
+    let left = subst (λ (o : Outcome). Left total old now o) (run_next q c.args.n c.loop.counter c.loop.st c.loop-test.true) c.loop.invariant.1 in
+    turn_ends total old now (g.O.Sink.state c.turn.new.out) (step q c.loop.st) c.turn.new.st c.in-Ok-Over.end (run q (c.args.n - (c.loop.counter + 1))) left (subst (λ (o : StepOut). TurnsTo (step q c.loop.st) c.turn.new.st now (g.O.Sink.state c.turn.new.out) (Ok o)) c.in-Ok-Over.field-0-is c.in-Ok-Over.ensures.turn)
 
 pub returns-in-Err : goal.returns-in-Err
 returns-in-Err g c =
@@ -38,10 +41,10 @@ returns-in-Err g c =
     let total = run q c.args.n c.args.first in
     let old = g.O.Sink.state c.args.out.now in
     let now = g.O.Sink.state c.loop.out in
-    let left = subst (λ (o : Outcome). Left total old now o) (run_next q c.args.n c.loop.counter c.loop.st c.loop-test.true) c.loop.invariant in
-    turn_fails total old now (g.O.Sink.state c.turn.new.out) (step q c.loop.st) c.turn.new.st c.in-Err.fault (run q (c.args.n - (c.loop.counter + 1))) left c.in-Err.ensures
+    let left = subst (λ (o : Outcome). Left total old now o) (run_next q c.args.n c.loop.counter c.loop.st c.loop-test.true) c.loop.invariant.1 in
+    turn_fails total old now (g.O.Sink.state c.turn.new.out) (step q c.loop.st) c.turn.new.st c.in-Err.fault (run q (c.args.n - (c.loop.counter + 1))) left c.in-Err.ensures.turn
 
 pub returns : goal.returns
 returns g c =
     let q = queries_of c.args.program.now.rec.now in
-    all_went (run q c.args.n c.args.first) (g.O.Sink.state c.args.out.now) (g.O.Sink.state c.loop.out) (run q (c.args.n - c.loop.counter) c.loop.st) (run_none q c.args.n c.loop.counter c.loop.st c.loop-test.false) c.loop.invariant
+    all_went (run q c.args.n c.args.first) (g.O.Sink.state c.args.out.now) (g.O.Sink.state c.loop.out) (run q (c.args.n - c.loop.counter) c.loop.st) (run_none q c.args.n c.loop.counter c.loop.st c.loop-test.false) c.loop.invariant.1
