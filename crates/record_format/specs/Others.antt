@@ -1,0 +1,58 @@
+-- The rows that hang on members (II.22). `bs` are the bytes of the file, `m` those of its metadata; rows are counted from 1.
+use Rattle.std.specs.Prelude.{ℕ, List}
+use Rattle.world_model.specs.declared.types.ClassLayoutRow.{ClassLayoutRow}
+use Rattle.world_model.specs.declared.members.FieldRow.{FieldRow}
+use Rattle.world_model.specs.declared.extras.ConstantRow.{ConstantRow}
+use Rattle.world_model.specs.declared.extras.CustomAttributeRow.{CustomAttributeRow}
+use Rattle.world_model.specs.declared.extras.FieldMarshalRow.{FieldMarshalRow}
+use Rattle.world_model.specs.declared.extras.DeclSecurityRow.{DeclSecurityRow}
+use Rattle.world_model.specs.declared.extras.FieldLayoutRow.{FieldLayoutRow}
+use Rattle.world_model.specs.declared.extras.FieldRvaRow.{FieldRvaRow}
+use Rattle.world_model.specs.declared.extras.ImplMapRow.{ImplMapRow}
+use Rattle.world_model.specs.declared.extras.ManifestResourceRow.{ManifestResourceRow}
+use Rattle.world_model.specs.declared.extras.FileRow.{FileRow}
+use Rattle.record_format.specs.Cells.{number_in, text_in, blob_in, token_in}
+use Rattle.record_format.specs.Parts.{bytes_by, size_by}
+
+-- the padding beside the type isn't looked at
+unfoldable pub constant_row : List ℕ → ℕ → ConstantRow
+constant_row m r = record { kind = number_in m 0x0b 0 r; parent = token_in m 0x0b 2 r; value = blob_in m 0x0b 3 r }
+
+unfoldable pub custom_attribute_row : List ℕ → ℕ → CustomAttributeRow
+custom_attribute_row m r = record { parent = token_in m 0x0c 0 r; ctor = token_in m 0x0c 1 r; value = blob_in m 0x0c 2 r }
+
+unfoldable pub field_marshal_row : List ℕ → ℕ → FieldMarshalRow
+field_marshal_row m r = record { parent = token_in m 0x0d 0 r; native_type = blob_in m 0x0d 1 r }
+
+unfoldable pub decl_security_row : List ℕ → ℕ → DeclSecurityRow
+decl_security_row m r = record { action = number_in m 0x0e 0 r; parent = token_in m 0x0e 1 r; permission_set = blob_in m 0x0e 2 r }
+
+unfoldable pub field_layout_row : List ℕ → ℕ → FieldLayoutRow
+field_layout_row m r = record { offset = number_in m 0x10 0 r; field = token_in m 0x10 1 r }
+
+unfoldable pub impl_map_row : List ℕ → ℕ → ImplMapRow
+impl_map_row m r = record {
+  mapping_flags = number_in m 0x1c 0 r;
+  member_forwarded = token_in m 0x1c 1 r;
+  import_name = text_in m 0x1c 2 r;
+  import_scope = token_in m 0x1c 3 r;
+}
+
+-- by the rows of ClassLayout and of Field, which say how many bytes a field has
+unfoldable pub field_rva_row : List ℕ → List ℕ → List ClassLayoutRow → List FieldRow → ℕ → FieldRvaRow
+field_rva_row bs m layouts fields r = record {
+  rva = number_in m 0x1d 0 r;
+  field = token_in m 0x1d 1 r;
+  bytes = bytes_by bs (number_in m 0x1d 0 r) (size_by layouts fields (token_in m 0x1d 1 r));
+}
+
+unfoldable pub file_row : List ℕ → ℕ → FileRow
+file_row m r = record { flags = number_in m 0x26 0 r; name = text_in m 0x26 1 r; hash_value = blob_in m 0x26 2 r }
+
+unfoldable pub manifest_resource_row : List ℕ → ℕ → ManifestResourceRow
+manifest_resource_row m r = record {
+  offset = number_in m 0x28 0 r;
+  flags = number_in m 0x28 1 r;
+  name = text_in m 0x28 2 r;
+  implementation = token_in m 0x28 3 r;
+}
