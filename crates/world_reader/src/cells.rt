@@ -3,6 +3,8 @@
 ghost use Rattle.std.specs.Prelude.{◌≡◌, ◌<◌, ◌≤◌, ◌/◌, ◌^◌, length, IfOk};
 ghost use Rattle.cli_format.specs.declared.column.Column.TheVariants as columns;
 ghost use Rattle.cli_format.specs.Image.{metadata_of};
+ghost use Rattle.cli_format.specs.declared.stream.StreamName.TheVariants.{UserStrings};
+ghost use Rattle.cli_format.specs.Streams.{heap};
 ghost use Rattle.cli_format.specs.Coded.{tag_bits_of};
 ghost use Rattle.cli_format.specs.Tables.{column_of};
 ghost use Rattle.cli_format.specs.Metadata.{most_rows};
@@ -144,6 +146,13 @@ impl<'a> Assembly<'a> {
             Some(guid) => Seq::from_slice(alloc, guid),
             None => Ok(Seq::new(alloc)),
         }
+    }
+
+    /// The bytes of `#US` (II.24.2.4).
+    pub fn user_strings(&self) -> &'a [u8]
+        ensures { result.now ≡ heap (metadata_of self.now) UserStrings }
+    {
+        self.tables.user_strings()
     }
 
     /// The token in a cell, 0 for none.

@@ -6,10 +6,17 @@ mod assemblies;
 mod assembly;
 mod bodies;
 mod cells;
+mod descriptor;
 mod extras;
+mod field_data;
+mod layouts;
 mod members;
 mod parts;
+mod record;
 mod row;
+mod tables;
 mod types;
+mod user_texts;
 
 pub use cli_format::TablesError as RecordError;
+pub use record::read_record;
