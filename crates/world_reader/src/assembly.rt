@@ -1,7 +1,7 @@
-ghost use Rattle.std.specs.Prelude.{◌≡◌, ◌<◌, ◌^◌, length, map};
-ghost use Rattle.cli_format.specs.Image.{image_demands, metadata_of, metadata_place_of};
+ghost use Rattle.std.specs.Prelude.{◌≡◌, ◌<◌, ◌/◌, ◌%◌, ◌^◌, length, map};
+ghost use Rattle.cli_format.specs.Image.{image_demands, metadata_of};
 ghost use Rattle.cli_format.specs.Metadata.{Read};
-ghost use Rattle.record_format.specs.Record.{as_demand, record_demands};
+ghost use Rattle.record_format.specs.Record.{as_demand, record_demands, place_by};
 
 use cli_format::TablesError;
 use meta_tables::Tables;
@@ -18,7 +18,7 @@ pub struct Assembly<'a> {
 }
 
 impl<'a> Model for Assembly<'a> {
-    ghost use Rattle.std.specs.Prelude.{◌≡◌, ◌<◌, ◌^◌, ℕ, List, length, None};
+    ghost use Rattle.std.specs.Prelude.{◌≡◌, ◌+◌, ◌<◌, ◌^◌, ℕ, List, length, None};
     ghost use Rattle.cli_format.specs.Demand.{first_fault};
     ghost use Rattle.cli_format.specs.Image.{metadata_of, metadata_place_of};
     ghost use Rattle.cli_format.specs.Metadata.{tables_demands};
@@ -27,7 +27,7 @@ impl<'a> Model for Assembly<'a> {
 
     ghost view = { λ a. a.image };
 
-    ghost invariant = { λ a. (a.tables ≡ metadata_of a.image) × (first_fault (tables_demands (metadata_of a.image) (metadata_place_of a.image)) ≡ None) × (length a.image < 2 ^ 32) };
+    ghost invariant = { λ a. (a.tables ≡ metadata_of a.image) × (first_fault (tables_demands (metadata_of a.image) (metadata_place_of a.image)) ≡ None) × (metadata_place_of a.image + length (metadata_of a.image) < 2 ^ 32) };
 }
 
 impl<'a> Assembly<'a> {
@@ -40,6 +40,15 @@ impl<'a> Assembly<'a> {
         let image = open_image(bytes)?;
         let tables = Tables::read(alloc, image.metadata(), image.metadata_place())?;
         Ok(Assembly { image, tables })
+    }
+
+    /// The place in the file of the row that a token names (II.22). None where there is no such row.
+    pub fn row_place(&self, token: u32) -> Option<u32>
+        ensures { result ≡ place_by self.now (metadata_of self.now) (token / 16777216) (token % 16777216) }
+    {
+        let base = self.image.metadata_place();
+        self.tables
+            .row_offset(base, (token / 0x100_0000) as u8, token % 0x100_0000)
     }
 }
 

@@ -19,4 +19,4 @@ mod types;
 mod user_texts;
 
 pub use cli_format::TablesError as RecordError;
-pub use record::read_record;
+pub use record::{read_record, row_place};
