@@ -59,9 +59,9 @@ rows_few bs base t p =
     elim (cases_lt t 45) [
       | inl below ↦ few_law bs base t p below
       | inr above ↦ elim (cases_lt t 64) [
-          | inl few ↦ (let e = rows_unknown bs base t p above few in rw e (omega arith))
-          | inr past ↦ (let e = rows_beyond (tables_stream bs) t past in rw e (omega arith))
-        ]
+        | inl few ↦ (let e = rows_unknown bs base t p above few in rw e (omega arith))
+        | inr past ↦ (let e = rows_beyond (tables_stream bs) t past in rw e (omega arith))
+      ]
     ]
 
 -- ---- what a cell names
@@ -110,14 +110,14 @@ item_fits bs base Guid n p q = tt
 item_fits bs base (Run t) n p q = tt
 item_fits bs base (Index t) n p q = row_few bs base t n p q
 item_fits bs base (IndexOrNone t) n p q = elim (either (n == 0) (names_row (tables_stream bs) t n) q) [
-    | inl none ↦ (let e : n ≡ 0 = eqb-true n 0 none in omega arith)
-    | inr named ↦ row_few bs base t n p named
-  ]
+  | inl none ↦ (let e : n ≡ 0 = eqb-true n 0 none in omega arith)
+  | inr named ↦ row_few bs base t n p named
+]
 item_fits bs base (Coded index) n p q = coded_few bs base index n p q
 item_fits bs base (CodedOrNone index) n p q = elim (either (n == 0) (names_coded (tables_stream bs) index n) q) [
-    | inl none ↦ (let e : n ≡ 0 = eqb-true n 0 none in rw e (no_row index))
-    | inr named ↦ coded_few bs base index n p named
-  ]
+  | inl none ↦ (let e : n ≡ 0 = eqb-true n 0 none in rw e (no_row index))
+  | inr named ↦ coded_few bs base index n p named
+]
 
 pub cell_fits : (m : List ℕ) (base t c r : ℕ) → first_fault (tables_demands m base) ≡ None → HasRow m t r → HasColumn t c → FitsToken (column_of t c) (number_in m t c r)
 unfolding number_in count_of

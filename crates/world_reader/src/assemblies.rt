@@ -10,7 +10,10 @@ use crate::assembly::Assembly;
 use crate::row::Row;
 use il_base::NoMemory;
 use std::alloc::Global;
-use world_model::{AssemblyOsRow, AssemblyProcessorRow, AssemblyRefOsRow, AssemblyRefProcessorRow, AssemblyRefRow, AssemblyRow, ExportedTypeRow, FileRow, ManifestResourceRow, ModuleRefRow, ModuleRow};
+use world_model::{
+    AssemblyOsRow, AssemblyProcessorRow, AssemblyRefOsRow, AssemblyRefProcessorRow, AssemblyRefRow,
+    AssemblyRow, ExportedTypeRow, FileRow, ManifestResourceRow, ModuleRefRow, ModuleRow,
+};
 
 /// Module (II.22.30).
 impl Row for ModuleRow {
@@ -46,9 +49,7 @@ impl Row for ModuleRefRow {
 
     fn read(alloc: Global, file: &Assembly, row: u32) -> Result<ModuleRefRow, NoMemory> {
         let name = file.text(alloc, 0x1a, 0, row)?;
-        Ok(ModuleRefRow {
-            name,
-        })
+        Ok(ModuleRefRow { name })
     }
 }
 
@@ -94,9 +95,7 @@ impl Row for AssemblyProcessorRow {
 
     fn read(_alloc: Global, file: &Assembly, row: u32) -> Result<AssemblyProcessorRow, NoMemory> {
         let processor = file.word(0x21, 0, row);
-        Ok(AssemblyProcessorRow {
-            processor,
-        })
+        Ok(AssemblyProcessorRow { processor })
     }
 }
 
@@ -160,7 +159,11 @@ impl Row for AssemblyRefProcessorRow {
 
     ghost row_of = { λ bs r. assembly_ref_processor_row (metadata_of bs) r };
 
-    fn read(_alloc: Global, file: &Assembly, row: u32) -> Result<AssemblyRefProcessorRow, NoMemory> {
+    fn read(
+        _alloc: Global,
+        file: &Assembly,
+        row: u32,
+    ) -> Result<AssemblyRefProcessorRow, NoMemory> {
         let processor = file.word(0x24, 0, row);
         let assembly_ref = file.token(0x24, 1, row);
         Ok(AssemblyRefProcessorRow {

@@ -129,7 +129,13 @@ impl<'a> Assembly<'a> {
     }
 
     /// A copy of the blob that a cell names.
-    pub fn blob_copy(&self, alloc: Global, table: u8, column: usize, row: u32) -> Result<Text, NoMemory>
+    pub fn blob_copy(
+        &self,
+        alloc: Global,
+        table: u8,
+        column: usize,
+        row: u32,
+    ) -> Result<Text, NoMemory>
         requires { HasRow (metadata_of self.now) table row }
         ensures { IfOk result (λ blob. blob ≡ cells.blob_in (metadata_of self.now) table column row) }
     {

@@ -40,7 +40,10 @@ fn first_descriptor(rows: &[ManifestResourceRow]) -> Option<&ManifestResourceRow
 }
 
 /// The bytes of the descriptor among the resources.
-fn find_descriptor<'a>(rows: &[ManifestResourceRow], resources: Option<&'a [u8]>) -> Option<&'a [u8]>
+fn find_descriptor<'a>(
+    rows: &[ManifestResourceRow],
+    resources: Option<&'a [u8]>,
+) -> Option<&'a [u8]>
     ensures { option_map (λ b. b.now) result ≡ texts.descriptor_in rows.now (option_map (λ b. b.now) resources.entry) }
 {
     match resources {

@@ -9,7 +9,9 @@ use crate::assembly::Assembly;
 use crate::row::Row;
 use il_base::NoMemory;
 use std::alloc::Global;
-use world_model::{ConstantRow, CustomAttributeRow, DeclSecurityRow, FieldLayoutRow, FieldMarshalRow, ImplMapRow};
+use world_model::{
+    ConstantRow, CustomAttributeRow, DeclSecurityRow, FieldLayoutRow, FieldMarshalRow, ImplMapRow,
+};
 
 /// Constant (II.22.9).
 impl Row for ConstantRow {
@@ -100,10 +102,7 @@ impl Row for FieldLayoutRow {
     fn read(_alloc: Global, file: &Assembly, row: u32) -> Result<FieldLayoutRow, NoMemory> {
         let offset = file.word(0x10, 0, row);
         let field = file.token(0x10, 1, row);
-        Ok(FieldLayoutRow {
-            offset,
-            field,
-        })
+        Ok(FieldLayoutRow { offset, field })
     }
 }
 

@@ -44,10 +44,18 @@ fn size_of_type(layouts: &Layouts, sig: &Sig) -> Option<u32>
         Sig::Named { value: _, token } => layouts.size(*token),
         Sig::Array(_) => None,
         Sig::ByRef(_) => None,
-        Sig::Inst { value: _, token: _, args: _ } => None,
+        Sig::Inst {
+            value: _,
+            token: _,
+            args: _,
+        } => None,
         Sig::Var(_) => None,
         Sig::MVar(_) => None,
-        Sig::Mod { required: _, token: _, inner: _ } => None,
+        Sig::Mod {
+            required: _,
+            token: _,
+            inner: _,
+        } => None,
         Sig::Pinned(_) => None,
     }
 }

@@ -20,3 +20,6 @@ mod user_texts;
 
 pub use cli_format::TablesError as RecordError;
 pub use record::{read_record, row_place};
+
+#[cfg(test)]
+mod tests;

@@ -12,7 +12,10 @@ use crate::row::Row;
 use il_base::NoMemory;
 use sig_blobs::{read_field, read_instance, read_locals, read_method, read_property};
 use std::alloc::Global;
-use world_model::{EventMapRow, EventRow, FieldRow, MemberRefRow, MethodDefRow, MethodImplRow, MethodSemanticsRow, MethodSpecRow, ParamRow, PropertyMapRow, PropertyRow, StandAloneSigRow};
+use world_model::{
+    EventMapRow, EventRow, FieldRow, MemberRefRow, MethodDefRow, MethodImplRow, MethodSemanticsRow,
+    MethodSpecRow, ParamRow, PropertyMapRow, PropertyRow, StandAloneSigRow,
+};
 
 /// Field (II.22.15).
 impl Row for FieldRow {
@@ -115,9 +118,7 @@ impl Row for StandAloneSigRow {
 
     fn read(alloc: Global, file: &Assembly, row: u32) -> Result<StandAloneSigRow, NoMemory> {
         let signature = known(read_locals(alloc, file.blob(0x11, 0, row)))?;
-        Ok(StandAloneSigRow {
-            signature,
-        })
+        Ok(StandAloneSigRow { signature })
     }
 }
 

@@ -11,7 +11,15 @@ use crate::row::all_rows;
 use crate::user_texts::texts_of;
 use il_base::{NoMemory, Seq, Text};
 use std::alloc::Global;
-use world_model::{AssemblyOsRow, AssemblyProcessorRow, AssemblyRefOsRow, AssemblyRefProcessorRow, AssemblyRefRow, AssemblyRow, ClassLayoutRow, ConstantRow, CustomAttributeRow, DeclSecurityRow, EventMapRow, EventRow, ExportedTypeRow, FieldLayoutRow, FieldMarshalRow, FieldRow, FieldRvaRow, FileRow, GenericParamConstraintRow, GenericParamRow, ImplMapRow, InterfaceImplRow, ManifestResourceRow, MemberRefRow, MethodDefRow, MethodImplRow, MethodSemanticsRow, MethodSpecRow, ModuleRefRow, ModuleRow, NestedClassRow, ParamRow, PropertyMapRow, PropertyRow, StandAloneSigRow, TypeDefRow, TypeRefRow, TypeSpecRow, UserText};
+use world_model::{
+    AssemblyOsRow, AssemblyProcessorRow, AssemblyRefOsRow, AssemblyRefProcessorRow, AssemblyRefRow,
+    AssemblyRow, ClassLayoutRow, ConstantRow, CustomAttributeRow, DeclSecurityRow, EventMapRow,
+    EventRow, ExportedTypeRow, FieldLayoutRow, FieldMarshalRow, FieldRow, FieldRvaRow, FileRow,
+    GenericParamConstraintRow, GenericParamRow, ImplMapRow, InterfaceImplRow, ManifestResourceRow,
+    MemberRefRow, MethodDefRow, MethodImplRow, MethodSemanticsRow, MethodSpecRow, ModuleRefRow,
+    ModuleRow, NestedClassRow, ParamRow, PropertyMapRow, PropertyRow, StandAloneSigRow, TypeDefRow,
+    TypeRefRow, TypeSpecRow, UserText,
+};
 
 /// The tables of assemblies and modules.
 #[derive(Drop)]

@@ -6,12 +6,15 @@ ghost use Rattle.cli_format.specs.Image.{metadata_of};
 ghost use Rattle.record_format.specs.Types.{type_ref_row, type_def_row, interface_impl_row, class_layout_row, type_spec_row, nested_class_row, generic_param_row, generic_param_constraint_row};
 
 use crate::assembly::Assembly;
-use crate::row::Row;
 use crate::parts::known;
+use crate::row::Row;
 use il_base::NoMemory;
 use sig_blobs::read_type;
 use std::alloc::Global;
-use world_model::{ClassLayoutRow, GenericParamConstraintRow, GenericParamRow, InterfaceImplRow, NestedClassRow, TypeDefRow, TypeRefRow, TypeSpecRow};
+use world_model::{
+    ClassLayoutRow, GenericParamConstraintRow, GenericParamRow, InterfaceImplRow, NestedClassRow,
+    TypeDefRow, TypeRefRow, TypeSpecRow,
+};
 
 /// TypeRef (II.22.38).
 impl Row for TypeRefRow {
@@ -74,10 +77,7 @@ impl Row for InterfaceImplRow {
     fn read(_alloc: Global, file: &Assembly, row: u32) -> Result<InterfaceImplRow, NoMemory> {
         let class = file.token(0x09, 0, row);
         let interface = file.token(0x09, 1, row);
-        Ok(InterfaceImplRow {
-            class,
-            interface,
-        })
+        Ok(InterfaceImplRow { class, interface })
     }
 }
 
@@ -111,9 +111,7 @@ impl Row for TypeSpecRow {
 
     fn read(alloc: Global, file: &Assembly, row: u32) -> Result<TypeSpecRow, NoMemory> {
         let signature = known(read_type(alloc, file.blob(0x1b, 0, row)))?;
-        Ok(TypeSpecRow {
-            signature,
-        })
+        Ok(TypeSpecRow { signature })
     }
 }
 
@@ -165,12 +163,13 @@ impl Row for GenericParamConstraintRow {
 
     ghost row_of = { λ bs r. generic_param_constraint_row (metadata_of bs) r };
 
-    fn read(_alloc: Global, file: &Assembly, row: u32) -> Result<GenericParamConstraintRow, NoMemory> {
+    fn read(
+        _alloc: Global,
+        file: &Assembly,
+        row: u32,
+    ) -> Result<GenericParamConstraintRow, NoMemory> {
         let owner = file.token(0x2c, 0, row);
         let constraint = file.token(0x2c, 1, row);
-        Ok(GenericParamConstraintRow {
-            owner,
-            constraint,
-        })
+        Ok(GenericParamConstraintRow { owner, constraint })
     }
 }
