@@ -1,5 +1,5 @@
 -- In tables whose demands hold, the rows that cells name have 24 bits.
-use Rattle.std.proofs.Common.{◌≡◌, ℕ, zero, suc, ◌+◌, ◌-◌, ◌*◌, ◌/◌, ◌%◌, ◌^◌, ◌<◌, ◌≤◌, Bool, true, false, cond, List, [], ◌∷◌, ◌++◌, length, get_or, Option, Some, None, ◌⊎◌, inl, inr, refl, ap, sym, ◌∙◌, arith}
+use Rattle.std.proofs.Common.{◌≡◌, ℕ, ◌+◌, ◌-◌, ◌/◌, ◌%◌, ◌^◌, ◌<◌, ◌≤◌, Bool, true, false, List, [], ◌++◌, length, Option, Some, None, ◌⊎◌, inl, inr, refl, arith}
 use Rattle.std.specs.Prelude.{not, ◌||◌, ◌&&◌, ◌==◌, nat_le, nat_lt, unwrap_or}
 use Rattle.std.specs.Option.{option_map}
 use Rattle.std.proofs.lemmas.Bool.{leb-true, cases_lt, le-ltb, ltb-true, eqb-true}
@@ -7,7 +7,7 @@ use Rattle.std.proofs.lemmas.List.{get_or_past}
 use Rattle.cli_format.specs.declared.column.Column.{Column}
 use Rattle.cli_format.specs.declared.column.Column.TheVariants.{U8, U16, U32, Text, Blob, Guid, Index, IndexOrNone, Run, Coded, CodedOrNone}
 use Rattle.cli_format.specs.declared.column.CodedIndex.{CodedIndex}
-use Rattle.cli_format.specs.Demand.{Demand, demand, first_fault, each_below}
+use Rattle.cli_format.specs.Demand.{first_fault, each_below}
 use Rattle.cli_format.specs.Columns.{columns_of, schema}
 use Rattle.cli_format.specs.Coded.{tag_bits_of}
 use Rattle.cli_format.specs.Tables.{rows_of, is_present, cell_number, column_of, names_row, names_coded, target_of}

@@ -1,5 +1,5 @@
 -- A flag for each offset of `#US` says whether a body loads the text there.
-use Rattle.std.proofs.Common.{◌≡◌, ◌≢◌, ℕ, zero, suc, ◌-◌, ◌+◌, ◌≤◌, ◌<◌, min, Bool, true, false, ◌||◌, ◌&&◌, ◌==◌, nat_lt, nat_le, List, [], ◌∷◌, ◌++◌, length, get_or, replicate, refl, sym, ap, ◌∙◌, arith, if◌then◌else◌}
+use Rattle.std.proofs.Common.{◌≡◌, ◌≢◌, ℕ, zero, suc, ◌-◌, ◌+◌, ◌≤◌, ◌<◌, Bool, true, false, ◌||◌, ◌&&◌, ◌==◌, nat_lt, nat_le, List, [], ◌∷◌, length, get_or, replicate, refl, sym, ap, ◌∙◌, arith, if◌then◌else◌}
 use Rattle.std.proofs.lemmas.Bool.{ltb-true, ltb-false, leb-true, leb-false, eqb-true, eq-eqb, ne_eqb}
 use Rattle.std.proofs.lemmas.Bool.Decides.{same_from_decides, Decides-eqb, Decides-like}
 use Rattle.std.proofs.lemmas.List.{get_or-set_same, get_or-set_other, length-set}
@@ -14,7 +14,7 @@ use Rattle.il_base.specs.declared.body.Operand.TheVariants as operand
 use Rattle.world_model.specs.declared.known.Known.{Known}
 use Rattle.world_model.specs.declared.known.Known.TheVariants.{Good, Bad}
 use Rattle.world_model.specs.declared.members.MethodDefRow.{MethodDefRow}
-use Rattle.record_format.specs.Texts.{is_token, is_ldstr, loads, body_loads, is_loaded, user_token, user_text_at, and_text, text_if_loaded, texts_below, text_offsets, all_texts}
+use Rattle.record_format.specs.Texts.{is_token, is_ldstr, loads, body_loads, is_loaded, user_token, user_text_at, and_text, texts_below, text_offsets, all_texts}
 use Rattle.world_reader.specs.Marks.{marked_at, marked_by_operand, marked_by, marked_in, marked_body, marked, marks_of, texts_marked}
 
 or_false : (a : Bool) → (a || false) ≡ a

@@ -1,5 +1,5 @@
 -- One row more.
-use Rattle.std.proofs.Common.{◌≡◌, ℕ, zero, suc, ◌+◌, List, [], ◌∷◌, ◌++◌, refl, arith}
+use Rattle.std.proofs.Common.{◌≡◌, ℕ, suc, ◌+◌, [], ◌∷◌, ◌++◌, refl, arith}
 use Rattle.record_format.specs.Cells.{first_rows}
 
 pub rows_none : {A : Type 0} (row : ℕ → A) → first_rows row 0 ≡ []

@@ -1,5 +1,5 @@
 -- A flag for each offset of `#US` that a token can have: whether a body has an `ldstr` of it (III.4.16).
-use Rattle.std.specs.Prelude.{◌≡◌, ℕ, zero, suc, ◌+◌, ◌-◌, ◌<◌, Bool, true, false, nat_lt, nat_le, slice_set, List, [], ◌∷◌, length, get_or, replicate, Option, Some, None, if◌then◌else◌}
+use Rattle.std.specs.Prelude.{ℕ, zero, suc, ◌-◌, Bool, true, false, nat_lt, nat_le, slice_set, List, [], ◌∷◌, length, get_or, replicate, Option, Some, None, if◌then◌else◌}
 use Rattle.il_base.specs.declared.body.Body.{Body}
 use Rattle.il_base.specs.declared.body.Instr.{Instr}
 use Rattle.il_base.specs.declared.body.Operand.{Operand}
@@ -8,7 +8,7 @@ use Rattle.world_model.specs.declared.known.Known.{Known}
 use Rattle.world_model.specs.declared.known.Known.TheVariants.{Good, Bad}
 use Rattle.world_model.specs.declared.members.MethodDefRow.{MethodDefRow}
 use Rattle.world_model.specs.declared.record.UserText.{UserText}
-use Rattle.record_format.specs.Texts.{is_ldstr, user_token, user_text_at, and_text}
+use Rattle.record_format.specs.Texts.{is_ldstr, user_text_at, and_text}
 
 abbrev pub marked_at : List Bool → ℕ → List Bool
 marked_at marks k = if nat_lt k (length marks) then slice_set marks k true else marks

@@ -1,8 +1,10 @@
+ghost use Rattle.std.specs.Prelude.{◌<◌, length};
+
 use super::*;
-use il_base::Operand;
+use il_base::{BadAt, Operand};
 use std::alloc::{AllocError, Global};
 use std::test::*;
-use world_model::{AsmRec, BadKind, Known};
+use world_model::{AsmRec, BadKind, Known, MethodDefRow};
 
 /// Puts a part at a place, behind zeros.
 fn put(bytes: &mut Vec<u8>, at: usize, part: &[u8]) -> Result<(), AllocError> {
@@ -141,28 +143,43 @@ fn token_of(operand: &Operand) -> u32 {
     }
 }
 
-/// The numbers of the headers, the counts of rows, the rows of the types, and each instruction's offset, opcode and token.
+/// The number of what is bad in a method's signature and in its body, 0 for nothing.
+fn bad_parts(m: &MethodDefRow) -> (u8, u8) {
+    let signature = match &m.signature {
+        Known::Bad(BadKind::Outside(what)) => *what,
+        _ => 0,
+    };
+    let body = match &m.body {
+        Some(Known::Bad(BadKind::Outside(what))) => *what,
+        _ => 0,
+    };
+    (signature, body)
+}
+
+/// Of each instruction of a method its offset, its opcode and its token.
+fn put_code(found: &mut Vec<u32>, m: &MethodDefRow) -> Result<(), AllocError> {
+    if let Some(Known::Good(body)) = &m.body {
+        for i in body.code.as_slice() {
+            found.push(i.at)?;
+            found.push(u32::from(i.opcode))?;
+            found.push(token_of(&i.operand))?;
+        }
+    }
+    Ok(())
+}
+
+/// The numbers of the headers, the types' runs and bases, of each method its address, what is bad and where, and its code,
+/// and the tokens of the texts.
 fn parts_of(alloc: Global, rec: &AsmRec) -> Result<Vec<u32>, AllocError> {
     let mut found = Vec::new(alloc);
-    found.push(rec.bits)?;
-    found.push(u32::from(rec.subsystem))?;
-    found.push(rec.entry)?;
+    found.extend_from_slice(&[rec.bits, u32::from(rec.subsystem), rec.entry])?;
     for t in rec.type_def.as_slice() {
-        found.push(t.flags)?;
-        found.push(t.extends)?;
-        found.push(t.method_list_first)?;
-        found.push(t.method_list_end)?;
+        found.extend_from_slice(&[t.flags, t.extends, t.method_list_first, t.method_list_end])?;
     }
     for m in rec.method_def.as_slice() {
-        found.push(m.rva)?;
-        found.push(m.bad_at)?;
-        if let Some(Known::Good(body)) = &m.body {
-            for i in body.code.as_slice() {
-                found.push(i.at)?;
-                found.push(u32::from(i.opcode))?;
-                found.push(token_of(&i.operand))?;
-            }
-        }
+        let (signature, body) = bad_parts(m);
+        found.extend_from_slice(&[m.rva, u32::from(signature), u32::from(body), m.bad_at])?;
+        put_code(&mut found, m)?;
     }
     for text in rec.user.as_slice() {
         found.push(text.token)?;
@@ -170,21 +187,23 @@ fn parts_of(alloc: Global, rec: &AsmRec) -> Result<Vec<u32>, AllocError> {
     Ok(found)
 }
 
-/// The number of what is bad in the first method's signature and in its body, 0 for nothing.
-fn bad_parts(rec: &AsmRec) -> (u8, u8) {
-    match rec.method_def.as_slice() {
-        [] => (0, 0),
-        [m, ..] => {
-            let signature = match &m.signature {
-                Known::Bad(BadKind::Outside(what)) => *what,
-                _ => 0,
-            };
-            let body = match &m.body {
-                Some(Known::Bad(BadKind::Outside(what))) => *what,
-                _ => 0,
-            };
-            (signature, body)
-        }
+/// The same of a file; none where it has no record.
+fn read_parts(alloc: Global, bytes: &[u8]) -> Result<Vec<u32>, AllocError>
+    requires { length bytes.now < 4096 }
+{
+    match read_record(alloc, bytes) {
+        Ok(rec) => parts_of(alloc, &rec),
+        Err(_) => Ok(Vec::new(alloc)),
+    }
+}
+
+/// The refusal of a file; none where it has a record.
+fn refusal(alloc: Global, bytes: &[u8]) -> Option<BadAt>
+    requires { length bytes.now < 4096 }
+{
+    match read_record(alloc, bytes) {
+        Err(RecordError::Bad(bad)) => Some(bad),
+        _ => None,
     }
 }
 
@@ -193,48 +212,17 @@ fn reads_a_record(rt: HostRuntime) -> Result<(), Fail> {
     let alloc = rt.alloc();
     let bytes = hello(alloc)?;
     assert!(rt; bytes.len() < 4096);
-    match read_record(alloc, &bytes) {
-        Err(_) => assert!(rt; false),
-        Ok(rec) => {
-            let parts = parts_of(alloc, &rec)?;
-            let wanted = [
-                1u32,
-                3,
-                0x0600_0001,
-                0,
-                0,
-                1,
-                1,
-                0x0010_0180,
-                0x0100_0001,
-                1,
-                2,
-                0x2050,
-                0,
-                0,
-                0x72,
-                0x7000_0001,
-                5,
-                0x28,
-                0x0a00_0001,
-                10,
-                0x2a,
-                0,
-                0x7000_0001,
-            ];
-            assert_eq!(rt; parts.as_slice(), wanted.as_slice());
-            let ty = rec.type_def.get(1).ok_or("a type")?;
-            assert_eq!(rt; ty.name.as_slice(), b"Program".as_slice());
-            let text = rec.user.get(0).ok_or("a text")?;
-            assert_eq!(rt; text.text.as_slice(), [0x48u16, 0x69].as_slice());
-            let core = rec.assembly_ref.get(0).ok_or("a reference")?;
-            assert_eq!(rt; core.major_version, 8);
-            assert_eq!(rt;
-                core.public_key_or_token.as_slice(),
-                [0xb0u8, 0x3f, 0x5f, 0x7f, 0x11, 0xd5, 0x0a, 0x3a].as_slice()
-            );
-        }
-    }
+    let parts = read_parts(alloc, &bytes)?;
+    #[rattlefmt::skip]
+    let wanted = [
+        1u32, 3, 0x0600_0001, // the headers
+        0, 0, 1, 1, // <Module>
+        0x0010_0180, 0x0100_0001, 1, 2, // Program
+        0x2050, 0, 0, 0, // Main
+        0, 0x72, 0x7000_0001, 5, 0x28, 0x0a00_0001, 10, 0x2a, 0, // its code
+        0x7000_0001, // the text
+    ];
+    assert_eq!(rt; parts.as_slice(), wanted.as_slice());
     Ok(())
 }
 
@@ -245,15 +233,25 @@ fn bad_parts_stand_in_their_places(rt: HostRuntime) -> Result<(), Fail> {
     set(&mut bytes, 0x3fe, 5);
     set(&mut bytes, 0x256, 0x24);
     assert!(rt; bytes.len() < 4096);
-    match read_record(alloc, &bytes) {
-        Err(_) => assert!(rt; false),
-        Ok(rec) => {
-            assert!(rt; bad_parts(&rec) == (5, 2));
-            let method = rec.method_def.get(0).ok_or("a method")?;
-            assert_eq!(rt; method.bad_at, 5);
-            assert_eq!(rt; rec.user.len(), 0);
-        }
-    }
+    let parts = read_parts(alloc, &bytes)?;
+    let wanted = [
+        1u32,
+        3,
+        0x0600_0001,
+        0,
+        0,
+        1,
+        1,
+        0x0010_0180,
+        0x0100_0001,
+        1,
+        2,
+        0x2050,
+        5,
+        2,
+        5,
+    ];
+    assert_eq!(rt; parts.as_slice(), wanted.as_slice());
     Ok(())
 }
 
@@ -273,9 +271,8 @@ fn places_rows(rt: HostRuntime) -> Result<(), Fail> {
     let cut = &bytes[..2000];
     let found = row_place(alloc, cut, 0x0200_0002).ok().ok_or("memory")?;
     assert!(rt; found.is_none());
-    match read_record(alloc, cut) {
-        Err(RecordError::Bad(bad)) => assert!(rt; bad.offset == 2000 && bad.why == 5),
-        _ => assert!(rt; false),
-    }
+    let bad = refusal(alloc, cut).ok_or("a refusal")?;
+    assert_eq!(rt; bad.offset, 2000);
+    assert_eq!(rt; bad.why, 5);
     Ok(())
 }

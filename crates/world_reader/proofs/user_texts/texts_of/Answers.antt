@@ -1,5 +1,5 @@
 -- The flags are those of the methods, one for each offset that a token can have.
-use Rattle.std.proofs.Common.{◌≡◌, ◌∙◌, ℕ, Bool, List, length, min, ap}
+use Rattle.std.proofs.Common.{◌≡◌, ◌∙◌, ℕ, List, length, min, ap}
 use Rattle.cli_format.specs.declared.stream.StreamName.TheVariants.{UserStrings}
 use Rattle.cli_format.specs.Image.{metadata_of}
 use Rattle.cli_format.specs.Streams.{heap}

@@ -1,4 +1,3 @@
-use Rattle.std.proofs.Common.{◌≡◌}
 use Rattle.record_format.specs.Texts.{units_of}
 use Rattle.world_reader.proofs.Units.{units_on, units_done}
 use Rattle.world_reader.proofs.user_texts.units_of.Goals as goal

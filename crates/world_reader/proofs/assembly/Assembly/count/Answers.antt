@@ -1,4 +1,4 @@
-use Rattle.std.proofs.Common.{◌≡◌, ◌≤◌, None}
+use Rattle.std.proofs.Common.{◌≡◌, None}
 use Rattle.cli_format.specs.Demand.{first_fault}
 use Rattle.cli_format.specs.Image.{metadata_of, metadata_place_of}
 use Rattle.cli_format.specs.Tables.{rows_of}

@@ -1,5 +1,5 @@
 -- The size that was kept, or else the one that the rest has.
-use Rattle.std.proofs.Common.{◌≡◌, ℕ, drop, Option, Some, None}
+use Rattle.std.proofs.Common.{◌≡◌, ℕ, drop}
 use Rattle.std.specs.HashMap.{get}
 use Rattle.std.specs.Prelude.{nat_eq}
 use Rattle.record_format.specs.Parts.{layout_size}
