@@ -1,7 +1,6 @@
 //! Rows on assemblies, modules, files and resources.
 #![tactic(auto, unfolding(cli_format::specs::Tables::column_of, cli_format::specs::Columns::columns_of, cli_format::specs::Columns::schema, record_format::specs::Types::module_row, record_format::specs::Types::module_ref_row, record_format::specs::Types::assembly_row, record_format::specs::Types::assembly_processor_row, record_format::specs::Types::assembly_os_row, record_format::specs::Types::assembly_ref_row, record_format::specs::Types::assembly_ref_processor_row, record_format::specs::Types::assembly_ref_os_row, record_format::specs::Types::exported_type_row, record_format::specs::Others::file_row, record_format::specs::Others::manifest_resource_row))]
 
-ghost use Rattle.std.specs.Prelude.{◌≡◌, IfOk};
 ghost use Rattle.cli_format.specs.Image.{metadata_of};
 ghost use Rattle.record_format.specs.Types.{module_row, module_ref_row, assembly_row, assembly_processor_row, assembly_os_row, assembly_ref_row, assembly_ref_processor_row, assembly_ref_os_row, exported_type_row};
 ghost use Rattle.record_format.specs.Others.{file_row, manifest_resource_row};

@@ -1,7 +1,6 @@
 //! Rows that hang on members.
 #![tactic(auto, unfolding(cli_format::specs::Tables::column_of, cli_format::specs::Columns::columns_of, cli_format::specs::Columns::schema, record_format::specs::Others::constant_row, record_format::specs::Others::custom_attribute_row, record_format::specs::Others::field_marshal_row, record_format::specs::Others::decl_security_row, record_format::specs::Others::field_layout_row, record_format::specs::Others::impl_map_row))]
 
-ghost use Rattle.std.specs.Prelude.{◌≡◌, IfOk};
 ghost use Rattle.cli_format.specs.Image.{metadata_of};
 ghost use Rattle.record_format.specs.Others.{constant_row, custom_attribute_row, field_marshal_row, decl_security_row, field_layout_row, impl_map_row};
 

@@ -1,7 +1,6 @@
 //! Rows on members.
 #![tactic(auto, unfolding(cli_format::specs::Tables::column_of, cli_format::specs::Columns::columns_of, cli_format::specs::Columns::schema, record_format::specs::Members::field_row, record_format::specs::Members::method_def_row, record_format::specs::Members::param_row, record_format::specs::Members::member_ref_row, record_format::specs::Members::stand_alone_sig_row, record_format::specs::Members::event_map_row, record_format::specs::Members::event_row, record_format::specs::Members::property_map_row, record_format::specs::Members::property_row, record_format::specs::Members::method_semantics_row, record_format::specs::Members::method_impl_row, record_format::specs::Members::method_spec_row))]
 
-ghost use Rattle.std.specs.Prelude.{◌≡◌, IfOk};
 ghost use Rattle.cli_format.specs.Image.{metadata_of};
 ghost use Rattle.record_format.specs.Members.{field_row, method_def_row, param_row, member_ref_row, stand_alone_sig_row, event_map_row, event_row, property_map_row, property_row, method_semantics_row, method_impl_row, method_spec_row};
 

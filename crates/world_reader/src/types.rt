@@ -1,7 +1,6 @@
 //! Rows on types.
 #![tactic(auto, unfolding(cli_format::specs::Tables::column_of, cli_format::specs::Columns::columns_of, cli_format::specs::Columns::schema, record_format::specs::Types::type_ref_row, record_format::specs::Types::type_def_row, record_format::specs::Types::interface_impl_row, record_format::specs::Types::class_layout_row, record_format::specs::Types::type_spec_row, record_format::specs::Types::nested_class_row, record_format::specs::Types::generic_param_row, record_format::specs::Types::generic_param_constraint_row))]
 
-ghost use Rattle.std.specs.Prelude.{◌≡◌, IfOk};
 ghost use Rattle.cli_format.specs.Image.{metadata_of};
 ghost use Rattle.record_format.specs.Types.{type_ref_row, type_def_row, interface_impl_row, class_layout_row, type_spec_row, nested_class_row, generic_param_row, generic_param_constraint_row};
 
