@@ -1,0 +1,35 @@
+ghost use Rattle.std.specs.Prelude.{◌≡◌, ◌≤◌, ◌^◌, ℕ, List, Bool, IsTrue};
+ghost use Rattle.blob_grammar.specs.Laws.{AreBytes};
+ghost use Rattle.world_model.specs.declared.record.AsmRec.{AsmRec};
+ghost use Rattle.record_format.specs.Record.{HasRecord};
+ghost use Rattle.file_layout.specs.Laid.{laid, laid_length};
+ghost use Rattle.world_model.specs.Thin.{is_thin};
+ghost use Rattle.restriction.specs.Restricted.{restricted};
+ghost use Rattle.written_record.specs.Premises.{CanRestrict};
+ghost use Rattle.written_record.specs.Fits.{Fits};
+ghost use Rattle.written_record.specs.LaidOut.{LaidOut};
+
+/// The rows of a file's record, where it is thin, have what a file can hold.
+pub fn fits()
+    ensures { (bs : List ℕ) (rec : AsmRec) → AreBytes bs → HasRecord bs rec → IsTrue (is_thin rec) → Fits rec }
+{}
+
+/// What is left of such a record stands as the layout has it.
+pub fn stands()
+    ensures { (rec : AsmRec) (flags : List Bool) → Fits rec → CanRestrict rec flags → LaidOut (restricted rec flags) }
+{}
+
+/// A record that stands as the layout has it is that of the file that it is laid out in, where that has at most 2^28 bytes.
+pub fn reads_back()
+    ensures { (rec : AsmRec) → LaidOut rec → laid_length rec ≤ 2 ^ 28 → HasRecord (laid rec) rec }
+{}
+
+/// Of a file's record that can be restricted, what is left is laid out in a file that has what is left as its record.
+pub fn restricted_record()
+    ensures { (bs : List ℕ) (rec : AsmRec) (flags : List Bool) → AreBytes bs → HasRecord bs rec → CanRestrict rec flags
+        → laid_length (restricted rec flags) ≤ 2 ^ 28 → HasRecord (laid (restricted rec flags)) (restricted rec flags) }
+{
+    fits();
+    stands();
+    reads_back();
+}
