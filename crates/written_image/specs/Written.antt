@@ -1,11 +1,11 @@
 -- When an image and metadata can be laid out, and what they read back as.
-use Rattle.std.specs.Prelude.{◌≡◌, ℕ, ◌+◌, ◌-◌, ◌<◌, ◌^◌, ◌%◌, bit_and, List, [], ◌++◌, length, Option, Some, None}
+use Rattle.std.specs.Prelude.{◌≡◌, ℕ, ◌+◌, ◌-◌, ◌<◌, ◌^◌, bit_and, List, ◌++◌, length, Some, None}
 use Rattle.cli_format.specs.declared.stream.StreamName.TheVariants as names
 use Rattle.cli_format.specs.Demand.{first_fault}
-use Rattle.cli_format.specs.Image.{image_demands, metadata_of, metadata_place_of, cli_flags_of, subsystem_of, entry_token_of, resources_of, image_tail}
+use Rattle.cli_format.specs.Image.{image_demands, metadata_of, metadata_place_of, cli_flags_of, subsystem_of, entry_token_of, resources_of, image_at, image_tail}
 use Rattle.cli_format.specs.Streams.{heap, heap_place}
 use Rattle.cli_format.specs.Metadata.{root_demands, streams_demands}
-use Rattle.file_layout.specs.Image.{Parts, image_bytes, image_length, metadata_rva, text_rva, code_rva}
+use Rattle.file_layout.specs.Image.{Parts, image_length, metadata_rva, text_rva, code_rva}
 use Rattle.file_layout.specs.Metadata.{Streams, metadata_bytes, tables_at}
 
 -- its numbers fit their fields, the flags say ILONLY and not NATIVE_ENTRYPOINT, and all of it has less than 2^31 bytes
@@ -30,6 +30,8 @@ pub record ReadsBack (p : Parts) (bs : List ℕ) : Type 0 where
   -- at an address in the code stands what was put there, with other bytes behind it
   pub code : (before after : List ℕ) → p.code ≡ before ++ after
       → (rest : List ℕ) × (image_tail bs (code_rva + length before) ≡ Some (after ++ rest))
+  -- and where only some bytes are asked for, these alone
+  pub bytes : (before here after : List ℕ) → p.code ≡ before ++ here ++ after → image_at bs (code_rva + length before) (length here) ≡ Some here
 
 -- the streams that metadata can be made of: all of it has less than 2^31 bytes
 pub record CanStream (s : Streams) : Type 0 where

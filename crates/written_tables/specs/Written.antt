@@ -1,5 +1,5 @@
 -- When tables and heaps can be laid out, and what they read back as.
-use Rattle.std.specs.Prelude.{◌≡◌, ℕ, suc, ◌+◌, ◌*◌, ◌-◌, ◌<◌, ◌≤◌, ◌^◌, List, [], ◌∷◌, ◌++◌, length, map, get_or, slice_get, slice_index, is_some, Option, Some, None, IsTrue}
+use Rattle.std.specs.Prelude.{◌≡◌, ℕ, suc, ◌+◌, ◌*◌, ◌-◌, ◌<◌, ◌≤◌, ◌^◌, List, [], ◌∷◌, ◌++◌, length, get_or, slice_get, Some, None, IsTrue}
 use Rattle.std.specs.List.{AllByRecursion}
 use Rattle.std.specs.Str.{is_utf8}
 use Rattle.cli_format.specs.declared.column.Column.{Column}
@@ -84,7 +84,8 @@ pub record UsersReadBack (texts : List (List ℕ)) : Type 0 where
       → user_string_of (users_heap texts) (user_place texts units) ≡ Some (units_bytes units ++ last_byte units ∷ [])
   pub within : (units : List ℕ) → IsIn texts units → user_place texts units < length (users_heap texts)
 
--- each list's items once
+-- the items of a list, each once
 pub record Once (xs : List (List ℕ)) : Type 0 where
   pub all : (x : List ℕ) → IsIn xs x → IsIn (each_once xs) x
   pub only : (x : List ℕ) → IsIn (each_once xs) x → IsIn xs x
+  pub once : (j k : ℕ) (x : List ℕ) → slice_get (each_once xs) j ≡ Some x → slice_get (each_once xs) k ≡ Some x → j ≡ k

@@ -15,7 +15,7 @@ pub fn heaps()
     ensures users { (texts : List (List ℕ)) → UsersReadBack texts }
 {}
 
-/// A list with each item once has the same items.
+/// A list with each item once has the same items, and no two places with one of them.
 pub fn each_once()
     ensures { (xs : List (List ℕ)) → Once xs }
 {}
