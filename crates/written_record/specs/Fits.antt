@@ -18,7 +18,7 @@ use Rattle.world_model.specs.declared.assemblies.AssemblyRefRow.{AssemblyRefRow}
 use Rattle.world_model.specs.declared.record.AsmRec.{AsmRec}
 use Rattle.world_model.specs.declared.record.UserText.{UserText}
 use Rattle.world_model.specs.Tokens.{index_in}
-use Rattle.written_record.specs.WrittenTables.{IsText}
+use Rattle.written_tables.specs.Written.{IsText}
 
 -- each row of a table
 abbrev pub Each : {A : Type 0} → (A → Type 0) → List A → Type 0

@@ -21,7 +21,7 @@ use Rattle.record_format.specs.Texts.{is_loaded}
 use Rattle.file_layout.specs.Bodies.{rvas_behind}
 use Rattle.file_layout.specs.Heaps.{user_place}
 use Rattle.written_record.specs.Fits.{Fits, Each, Names}
-use Rattle.written_record.specs.WrittenTables.{IsText}
+use Rattle.written_tables.specs.Written.{IsText}
 
 -- a reference to a type, whose scope is one of so many assembly references
 pub record LaidTypeRef (assemblies : ℕ) (row : TypeRefRow) : Type 0 where

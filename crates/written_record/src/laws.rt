@@ -9,6 +9,11 @@ ghost use Rattle.written_record.specs.Premises.{CanRestrict};
 ghost use Rattle.written_record.specs.Fits.{Fits};
 ghost use Rattle.written_record.specs.LaidOut.{LaidOut};
 
+use blob_grammar::laws::{locals, methods, values};
+use body_grammar::written_body_is_read;
+use written_image::laws::{images, metadata};
+use written_tables::laws::{each_once, heaps, tables};
+
 /// The rows of a file's record, where it is thin, have what a file can hold.
 pub fn fits()
     ensures { (bs : List ℕ) (rec : AsmRec) → AreBytes bs → HasRecord bs rec → IsTrue (is_thin rec) → Fits rec }
@@ -22,7 +27,17 @@ pub fn stands()
 /// A record that stands as the layout has it is that of the file that it is laid out in, where that has at most 2^28 bytes.
 pub fn reads_back()
     ensures { (rec : AsmRec) → LaidOut rec → laid_length rec ≤ 2 ^ 28 → HasRecord (laid rec) rec }
-{}
+{
+    images();
+    metadata();
+    tables();
+    heaps();
+    each_once();
+    methods();
+    locals();
+    values();
+    written_body_is_read();
+}
 
 /// Of a file's record that can be restricted, what is left is laid out in a file that has what is left as its record.
 pub fn restricted_record()

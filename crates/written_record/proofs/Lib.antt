@@ -1,0 +1,17 @@
+pub mod BackLists
+pub mod BackCells
+pub mod BackLower
+pub mod BackPools
+pub mod BackTables
+pub mod BackReads
+pub mod BackThin
+pub mod BackCoded
+pub mod BackRows
+pub mod BackLayout
+pub mod BackTypes
+pub mod BackMembers
+pub mod BackSizes
+pub mod BackBodies
+pub mod BackTexts
+pub mod BackRecord
+pub mod BackDemands
