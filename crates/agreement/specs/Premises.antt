@@ -1,5 +1,5 @@
 -- When a thin record can be restricted, and how a run of what is left stands to a run of the whole.
-use Rattle.std.specs.Prelude.{◌≡◌, ℕ, zero, suc, ◌+◌, ◌≤◌, ◌^◌, Bool, true, false, List, [], ◌∷◌, length, replicate, get_or, nat_lt, Option, Some, None, IsTrue, if◌then◌else◌}
+use Rattle.std.specs.Prelude.{◌≡◌, ℕ, ◌+◌, ◌≤◌, ◌^◌, Bool, true, false, List, length, replicate, get_or, nat_lt, Some, None, IsTrue, if◌then◌else◌}
 use Rattle.world_model.specs.declared.record.AsmRec.{AsmRec}
 use Rattle.world_model.specs.Thin.{is_thin}
 use Rattle.cil_values.specs.World.{queries_of, entry_of}
@@ -18,7 +18,6 @@ use Rattle.restriction.specs.Restricted.{restricted}
 pub record CanRestrict (rec : AsmRec) (flags : List Bool) : Type 0 where
   pub thin : IsTrue (is_thin rec)
   pub few_methods : length rec.method_def ≤ 2 ^ 20
-  pub few_locals : length rec.stand_alone_sig ≤ 2 ^ 20
   pub marking : IsMarking rec flags
   pub good : first_bad rec flags ≡ None
   pub small : length (users_heap (texts_met rec flags)) ≤ 2 ^ 28

@@ -11,7 +11,10 @@ pub fn agrees()
 /// For every number of steps, what is left prints, ends, stops or goes on as the whole.
 pub fn runs_alike()
     ensures { (rec : AsmRec) (flags : List Bool) → CanRestrict rec flags → RunsAlike rec flags }
-{}
+{
+    agrees();
+    lock::runs_alike();
+}
 
 /// What is left is thin, all of it is marked, and it is its own restricted record.
 pub fn settles()

@@ -1,0 +1,16 @@
+pub mod Keep
+pub mod Members
+pub mod FirstMet
+pub mod Tokens
+pub mod Places
+pub mod Equal
+pub mod ThinParts
+pub mod Left
+pub mod Types
+pub mod Callees
+pub mod Texts
+pub mod Locals
+pub mod Good
+pub mod Methods
+pub mod Entry
+pub mod Agreement
