@@ -48,7 +48,7 @@ unfolding rvas_behind
 length_rvas before [] = refl
 length_rvas before (b ∷ bs) = ap suc (length_rvas (behind before b) bs)
 
-length_moved : (rec : AsmRec) (flags : List Bool) (rvas : List ℕ) (ms : List MethodDefRow) → length rvas ≡ length ms → length (moved_methods rec flags rvas ms) ≡ length ms
+pub length_moved : (rec : AsmRec) (flags : List Bool) (rvas : List ℕ) (ms : List MethodDefRow) → length rvas ≡ length ms → length (moved_methods rec flags rvas ms) ≡ length ms
 unfolding moved_methods
 length_moved rec flags [] [] e = refl
 length_moved rec flags [] (m ∷ ms) e = absurd (omega arith)
@@ -59,7 +59,7 @@ pub record MovedRow (rec : AsmRec) (flags : List Bool) (rows : List MethodDefRow
   pub rva : ℕ
   pub is : slice_get rows k ≡ Some (moved_method rec flags rva m)
 
-moved_row : (rec : AsmRec) (flags : List Bool) (rvas : List ℕ) (ms : List MethodDefRow) (k : ℕ) (m : MethodDefRow) → length rvas ≡ length ms → slice_get ms k ≡ Some m
+pub moved_row : (rec : AsmRec) (flags : List Bool) (rvas : List ℕ) (ms : List MethodDefRow) (k : ℕ) (m : MethodDefRow) → length rvas ≡ length ms → slice_get ms k ≡ Some m
     → MovedRow rec flags (moved_methods rec flags rvas ms) k m
 unfolding moved_methods
 moved_row rec flags rvas [] k m e f = cc
@@ -68,7 +68,7 @@ moved_row rec flags (rva ∷ rvas) (n ∷ ms) zero m e f = let g : n ≡ m = cc 
 moved_row rec flags (rva ∷ rvas) (n ∷ ms) (suc k) m e f =
     let r : MovedRow rec flags (moved_methods rec flags rvas ms) k m = moved_row rec flags rvas ms k m (omega arith) f in record { rva = r.rva; is = r.is }
 
-rvas_each : (rec : AsmRec) (flags : List Bool) → length (kept_rvas rec flags) ≡ length (kept_methods rec flags)
+pub rvas_each : (rec : AsmRec) (flags : List Bool) → length (kept_rvas rec flags) ≡ length (kept_methods rec flags)
 rvas_each rec flags = length_rvas [] (map (λ m. moved_known rec flags m.body) (kept_methods rec flags)) ∙ length-map (kept_methods rec flags) (λ m. moved_known rec flags m.body)
 
 pub left_length : (left rec : AsmRec) (flags : List Bool) → Left left rec flags → length left.method_def ≡ rank flags (length rec.method_def)
@@ -111,7 +111,7 @@ pub kept_stays : (rec : AsmRec) (flags : List Bool) (m : ℕ) → IsTrue (is_kep
 unfolding is_kept
 kept_stays rec flags m h = stays_by rec flags m (nat_lt m (length rec.method_def)) refl h
 
-own_kept : (rec : AsmRec) (flags : List Bool) (m : ℕ) → m < length rec.method_def → slice_get flags m ≡ Some true → IsTrue (is_kept rec flags m)
+pub own_kept : (rec : AsmRec) (flags : List Bool) (m : ℕ) → m < length rec.method_def → slice_get flags m ≡ Some true → IsTrue (is_kept rec flags m)
 unfolding is_kept
 own_kept rec flags m h e = let f : nat_lt m (length rec.method_def) ≡ true = lt-ltb m (length rec.method_def) h in rw f (flag_set flags m e)
 
@@ -119,7 +119,7 @@ member_behind : (rec : AsmRec) (c : CoreMember) → (length rec.method_def ≤ c
 member_behind rec WriteLineString = (omega arith, omega arith)
 member_behind rec WriteLineInt = (omega arith, omega arith)
 
-member_kept : (rec : AsmRec) (flags : List Bool) (m : ℕ) (c : CoreMember) → m ≡ core_index rec c → IsTrue (is_kept rec flags m)
+pub member_kept : (rec : AsmRec) (flags : List Bool) (m : ℕ) (c : CoreMember) → m ≡ core_index rec c → IsTrue (is_kept rec flags m)
 unfolding is_kept
 member_kept rec flags m c e =
     let h : (length rec.method_def ≤ core_index rec c) × (core_index rec c < length rec.method_def + 2) = member_behind rec c in
@@ -135,7 +135,7 @@ pub record KeptMethod (rec : AsmRec) (m : ℕ) : Type 0 where
   pub is : slice_get rec.method_def m ≡ Some row
   pub thin : ThinMethod rec row
 
-row_by : (rows : List MethodDefRow) (m : ℕ) → m < length rows → (row : MethodDefRow) × (slice_get rows m ≡ Some row)
+pub row_by : (rows : List MethodDefRow) (m : ℕ) → m < length rows → (row : MethodDefRow) × (slice_get rows m ≡ Some row)
 row_by [] m h = absurd (omega arith)
 row_by (r ∷ rows) zero h = (r, refl)
 row_by (r ∷ rows) (suc m) h = row_by rows m (omega arith)
@@ -174,18 +174,15 @@ use_callee rec f (operand.Target k) c e = cc
 use_callee rec f (operand.Targets k) c e = cc
 
 module _ (rec : AsmRec) (flags : List Bool) (can : CanRestrict rec flags) where
-  abbrev left : AsmRec
-  left = restricted rec flags
-
-  is_left_here : Left (restricted rec flags) rec flags
+  pub is_left_here : Left (restricted rec flags) rec flags
   is_left_here = is_left rec flags
 
-  length_here : length (restricted rec flags).method_def ≡ rank flags (length rec.method_def)
+  pub length_here : length (restricted rec flags).method_def ≡ rank flags (length rec.method_def)
   length_here = left_length (restricted rec flags) rec flags is_left_here
 
   -- ---- members of the core library
 
-  core_of : (m : ℕ) → Stays rec flags m → core_at (restricted rec flags) (rho rec flags m) ≡ core_at rec m
+  pub core_of : (m : ℕ) → Stays rec flags m → core_at (restricted rec flags) (rho rec flags m) ≡ core_at rec m
   core_of m (method h e) =
       let f : rank flags m < rank flags (length rec.method_def) = rank_below flags m (length rec.method_def) e h in
       let n : length (restricted rec flags).method_def ≡ rank flags (length rec.method_def) = length_here in
@@ -198,11 +195,11 @@ module _ (rec : AsmRec) (flags : List Bool) (can : CanRestrict rec flags) where
 
   -- ---- methods
 
-  good_in : (m : ℕ) (row : MethodDefRow) (body : Body) (i : Instr) → slice_get flags m ≡ Some true → slice_get rec.method_def m ≡ Some row → row.body ≡ Some (Good body) → In i body.code
+  pub good_in : (m : ℕ) (row : MethodDefRow) (body : Body) (i : Instr) → slice_get flags m ≡ Some true → slice_get rec.method_def m ≡ Some row → row.body ≡ Some (Good body) → In i body.code
       → GoodInstr rec flags i
   good_in m row body i e f b w = good_instr rec flags can.marking can.good m row i e f (subst (λ o. In i (code_in o)) (sym b) w)
 
-  locals_here : (m : ℕ) (row : MethodDefRow) (body : Body) (types : List Sig) → slice_get flags m ≡ Some true → slice_get rec.method_def m ≡ Some row → row.body ≡ Some (Good body)
+  pub locals_here : (m : ℕ) (row : MethodDefRow) (body : Body) (types : List Sig) → slice_get flags m ≡ Some true → slice_get rec.method_def m ≡ Some row → row.body ≡ Some (Good body)
       → locals_by rec body.locals ≡ Some types → In types (flat_map (λ r. one_or_none (locals_in rec r.body)) (kept_methods rec flags))
   locals_here m row body types e f b h = in_flat_map (λ r. one_or_none (locals_in rec r.body)) (kept_methods rec flags) row types
       (kept_method rec flags can.marking can.good m row e f) (in_option (locals_in rec row.body) types (ap (locals_in rec) b ∙ h))

@@ -119,10 +119,29 @@ new_core left rec flags WriteLineString e =
     ap (λ k. new_place flags (length rec.method_def) k) (sym g) ∙ f ∙ h ∙ sym e
 new_core left rec flags WriteLineInt e = new_behind flags (length rec.method_def) 1 ∙ ap (λ k. k + 1) (sym e)
 
+-- ---- the token of a callee
+
+pub token_own_of : (rec : AsmRec) (flags : List Bool) (token m : ℕ) → m < length rec.method_def → callee_token rec flags token (Good m) ≡ method_token flags m
+token_own_of rec flags token m h = let e : nat_lt m (length rec.method_def) ≡ true = lt-ltb m (length rec.method_def) h in rw e refl
+
+token_core_by : (rec : AsmRec) (flags : List Bool) (token m : ℕ) (below : Bool) (c : CoreMember) → below ≡ false → core_at rec m ≡ Some c
+    → (if below then method_token flags m else member_token rec flags token (core_at rec m)) ≡ token_32 0x0a (row_of same_member (members_met rec flags) c)
+token_core_by rec flags token m below c e f = rw (e, f) refl
+
+core_behind : (rec : AsmRec) (c : CoreMember) → length rec.method_def ≤ core_index rec c
+core_behind rec WriteLineString = omega arith
+core_behind rec WriteLineInt = omega arith
+
+pub token_core_of : (rec : AsmRec) (flags : List Bool) (token : ℕ) (c : CoreMember) → callee_token rec flags token (Good (core_index rec c)) ≡ token_32 0x0a (row_of same_member (members_met rec flags) c)
+token_core_of rec flags token c =
+    let h : length rec.method_def ≤ core_index rec c = core_behind rec c in
+    let e : nat_lt (core_index rec c) (length rec.method_def) ≡ false = search rules in
+    token_core_by rec flags token (core_index rec c) (nat_lt (core_index rec c) (length rec.method_def)) c e (core_here rec c)
+
 -- ---- in what is left
 
 module _ (left rec : AsmRec) (flags : List Bool) (l : Left left rec flags) (n : length left.method_def ≡ rank flags (length rec.method_def)) (few : length rec.method_def ≤ 2 ^ 20) where
-  own_placed : (at : Option ℕ) (k : ℕ) → at ≡ Some k → k < length left.method_def → own_place left at ≡ Good k
+  pub own_placed : (at : Option ℕ) (k : ℕ) → at ≡ Some k → k < length left.method_def → own_place left at ≡ Good k
   own_placed at k e h = let f : nat_lt k (length left.method_def) ≡ true = lt-ltb k (length left.method_def) h in rw (e, f) refl
 
   pub left_own_place : (m : ℕ) → slice_get flags m ≡ Some true → m < length rec.method_def → own_place left (index_in 0x06 (method_token flags m)) ≡ Good (rank flags m)
@@ -144,7 +163,7 @@ module _ (left rec : AsmRec) (flags : List Bool) (l : Left left rec flags) (n : 
       (eq-eqb (table_of (method_token flags m)) 0x06 t) (left_own_place m e h)
 
   -- a member of the core library that is met
-  member_row : (c : CoreMember) → In c (flat_map (λ i. one_or_none (member_called rec i)) (kept_code rec flags))
+  pub member_row : (c : CoreMember) → In c (flat_map (λ i. one_or_none (member_called rec i)) (kept_code rec flags))
       → Found (same_member c) (members_met rec flags) (place_of (same_member c) (members_met rec flags))
   unfolding members_met
   member_row c h = has_row same_member (flat_map (λ i. one_or_none (member_called rec i)) (kept_code rec flags)) c (member_itself c) h
@@ -178,33 +197,14 @@ module _ (left rec : AsmRec) (flags : List Bool) (l : Left left rec flags) (n : 
       (index_of_token 0x0a (place_of (same_member c) (members_met rec flags)) (omega arith) (omega arith)) row (left_member left rec flags l c is_met t)
       ∙ core_placed left c)
 
-  -- ---- the token of a callee
-
-  token_own : (token m : ℕ) → m < length rec.method_def → callee_token rec flags token (Good m) ≡ method_token flags m
-  token_own token m h = let e : nat_lt m (length rec.method_def) ≡ true = lt-ltb m (length rec.method_def) h in rw e refl
-
-  token_core_by : (token m : ℕ) (below : Bool) (c : CoreMember) → below ≡ false → core_at rec m ≡ Some c
-      → (if below then method_token flags m else member_token rec flags token (core_at rec m)) ≡ token_32 0x0a (row_of same_member (members_met rec flags) c)
-  token_core_by token m below c e f = rw (e, f) refl
-
-  core_behind : (c : CoreMember) → length rec.method_def ≤ core_index rec c
-  core_behind WriteLineString = omega arith
-  core_behind WriteLineInt = omega arith
-
-  token_core : (token : ℕ) (c : CoreMember) → callee_token rec flags token (Good (core_index rec c)) ≡ token_32 0x0a (row_of same_member (members_met rec flags) c)
-  token_core token c =
-      let h : length rec.method_def ≤ core_index rec c = core_behind c in
-      let e : nat_lt (core_index rec c) (length rec.method_def) ≡ false = search rules in
-      token_core_by token (core_index rec c) (nat_lt (core_index rec c) (length rec.method_def)) c e (core_here rec c)
-
   callee_moved : (token m : ℕ) → IsCallee rec m → (m < length rec.method_def → slice_get flags m ≡ Some true)
       → ((c : CoreMember) → core_at rec m ≡ Some c → In c (flat_map (λ i. one_or_none (member_called rec i)) (kept_code rec flags)))
       → callee_of left (callee_token rec flags token (Good m)) ≡ Good (new_place flags (length rec.method_def) m)
   callee_moved token m (own h) kept met =
-      ap (λ t. callee_of left t) (token_own token m h) ∙ left_own m (kept h) h ∙ ap (λ k. Good k) (sym (new_own flags (length rec.method_def) m h))
+      ap (λ t. callee_of left t) (token_own_of rec flags token m h) ∙ left_own m (kept h) h ∙ ap (λ k. Good k) (sym (new_own flags (length rec.method_def) m h))
   callee_moved token m (core c e t) kept met =
       ap (λ k. callee_of left (callee_token rec flags token (Good k))) e
-      ∙ ap (λ t. callee_of left t) (token_core token c) ∙ left_core c (met c (ap (core_at rec) e ∙ core_here rec c)) t
+      ∙ ap (λ t. callee_of left t) (token_core_of rec flags token c) ∙ left_core c (met c (ap (core_at rec) e ∙ core_here rec c)) t
       ∙ ap (λ k. Good k) (sym (new_core left rec flags c n)) ∙ ap (λ k. Good (new_place flags (length rec.method_def) k)) (sym e)
 
   pub callee_moves : (token m : ℕ) → callee_of rec token ≡ Good m → (m < length rec.method_def → slice_get flags m ≡ Some true)

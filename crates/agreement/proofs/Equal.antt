@@ -9,7 +9,7 @@ use Rattle.world_model.specs.declared.core_member.CoreMember.TheVariants.{WriteL
 use Rattle.world_model.specs.declared.assemblies.AssemblyRefRow.{AssemblyRefRow}
 use Rattle.world_model.specs.Core.{same_name}
 use Rattle.world_model.specs.Thin.{is_slot_type, same_type}
-use Rattle.restriction.specs.References.{same_member, same_assembly, same_locals}
+use Rattle.restriction.specs.References.{same_member, same_assembly, same_locals, bare_ref}
 use Rattle.agreement.proofs.Members.{and_left, and_right, both}
 use Rattle.agreement.proofs.Places.{bytes_same, bytes_itself}
 
@@ -73,3 +73,33 @@ last_but_one a b c e = and_right a b (and_left (a && b) c e)
 
 pub assembly_name : (a b : AssemblyRefRow) → same_assembly a b ≡ true → a.name ≡ b.name
 assembly_name a b e = name_same a.name b.name (last_but_one _ (same_name a.name b.name) (same_name a.culture b.culture) e)
+
+record_of : (a b c d e : ℕ) (f g h : List ℕ) → AssemblyRefRow
+record_of a b c d e f g h = record { major_version = a; minor_version = b; build_number = c; revision_number = d; flags = e; public_key_or_token = f; name = g; culture = h; hash_value = [] }
+
+same_fields : (a b c d e a' b' c' d' e' : ℕ) (f g h f' g' h' : List ℕ)
+    → (a == a' && b == b' && c == c' && d == d' && e == e' && same_name f f' && same_name g g' && same_name h h') ≡ true
+    → record_of a b c d e f g h ≡ record_of a' b' c' d' e' f' g' h'
+same_fields a b c d e a' b' c' d' e' f g h f' g' h' t =
+    let t7 : (a == a' && b == b' && c == c' && d == d' && e == e' && same_name f f' && same_name g g') ≡ true = and_left _ (same_name h h') t in
+    let t6 : (a == a' && b == b' && c == c' && d == d' && e == e' && same_name f f') ≡ true = and_left _ (same_name g g') t7 in
+    let t5 : (a == a' && b == b' && c == c' && d == d' && e == e') ≡ true = and_left _ (same_name f f') t6 in
+    let t4 : (a == a' && b == b' && c == c' && d == d') ≡ true = and_left _ (e == e') t5 in
+    let t3 : (a == a' && b == b' && c == c') ≡ true = and_left _ (d == d') t4 in
+    let t2 : (a == a' && b == b') ≡ true = and_left _ (c == c') t3 in
+    rw (
+      eqb-true a a' (and_left (a == a') (b == b') t2),
+      eqb-true b b' (and_right (a == a') (b == b') t2),
+      eqb-true c c' (and_right _ (c == c') t3),
+      eqb-true d d' (and_right _ (d == d') t4),
+      eqb-true e e' (and_right _ (e == e') t5),
+      name_same f f' (and_right _ (same_name f f') t6),
+      name_same g g' (and_right _ (same_name g g') t7),
+      name_same h h' (and_right _ (same_name h h') t),
+    ) refl
+
+-- rows that are the same without the hash
+pub assembly_same : (a b : AssemblyRefRow) → same_assembly a b ≡ true → bare_ref a ≡ bare_ref b
+unfolding record_of
+assembly_same a b e = same_fields a.major_version a.minor_version a.build_number a.revision_number a.flags b.major_version b.minor_version b.build_number b.revision_number b.flags
+    a.public_key_or_token a.name a.culture b.public_key_or_token b.name b.culture e

@@ -1,5 +1,6 @@
 -- Items that are written once: each has a row, in which the same item stands.
-use Rattle.std.proofs.Common.{◌≡◌, ◌≤◌, ◌<◌, ℕ, suc, ◌+◌, List, [], ◌∷◌, ◌++◌, length, cond, Bool, true, false, Some, None, ◌⊎◌, inl, inr, refl, sym, subst, ◌||◌, arith, unwrap_or, nat_lt, not, rules, length-append}
+use Rattle.std.proofs.Common.{◌≡◌, ◌≤◌, ◌<◌, ℕ, suc, ◌+◌, List, [], ◌∷◌, ◌++◌, length, map, cond, Bool, true, false, Some, None, ◌⊎◌, inl, inr, refl, ap, ap₂, sym, subst, ◌∙◌, ◌||◌, arith, unwrap_or, nat_lt, not, rules, length-append}
+use Rattle.std.proofs.lemmas.List.{map-append}
 use Rattle.std.specs.Prelude.{slice_get, position, if◌then◌else◌}
 use Rattle.std.specs.List.{list_any, position_or_len}
 use Rattle.std.proofs.lemmas.List.Sums.{prefix_len-le-length}
@@ -189,3 +190,33 @@ module _ {A : Type 0} (same : A → A → Bool) (a b : A) (first : same a a ≡ 
 
   pub of_two : (ys : List A) → ((y : A) → In y ys → (y ≡ a) ⊎ (y ≡ b)) → OfTwo a b (first_met same ys)
   of_two ys each = met_of_two [] ys none_met each
+
+-- ---- items that have moved, where the test doesn't see it
+
+module _ {A : Type 0} (same : A → A → Bool) (v : A → A) (blind : (x y : A) → same (v x) (v y) ≡ same x y) where
+  any_moved : (x : A) (xs : List A) → list_any (same (v x)) (map v xs) ≡ list_any (same x) xs
+  any_moved x [] = refl
+  any_moved x (y ∷ ys) = ap₂ (λ a b. a || b) (blind x y) (any_moved x ys)
+
+  if_moved : (xs : List A) (y : A) (b : Bool) → (if b then map v xs else map v xs ++ v y ∷ []) ≡ map v (if b then xs else xs ++ y ∷ [])
+  if_moved xs y true = refl
+  if_moved xs y false = sym (map-append v xs (y ∷ []))
+
+  met_moved : (xs : List A) (y : A) → met same (map v xs) (v y) ≡ map v (met same xs y)
+  unfolding met
+  met_moved xs y = ap (λ b. if b then map v xs else map v xs ++ v y ∷ []) (any_moved y xs) ∙ if_moved xs y (list_any (same y) xs)
+
+  met_all_moved : (xs ys : List A) → met_all same (map v xs) (map v ys) ≡ map v (met_all same xs ys)
+  unfolding met_all
+  met_all_moved xs [] = refl
+  met_all_moved xs (y ∷ ys) = ap (λ zs. met_all same zs (map v ys)) (met_moved xs y) ∙ met_all_moved (met same xs y) ys
+
+  pub first_met_moved : (ys : List A) → first_met same (map v ys) ≡ map v (first_met same ys)
+  first_met_moved ys = met_all_moved [] ys
+
+  len_moved : (x : A) (xs : List A) → position_or_len (same (v x)) (map v xs) ≡ position_or_len (same x) xs
+  len_moved x [] = refl
+  len_moved x (y ∷ ys) = ap₂ (λ b k. cond (not b) (1 + k) 0) (blind x y) (len_moved x ys)
+
+  pub place_moved : (x : A) (xs : List A) → place_of (same (v x)) (map v xs) ≡ place_of (same x) xs
+  place_moved x xs = place_is (same (v x)) (map v xs) ∙ len_moved x xs ∙ sym (place_is (same x) xs)

@@ -1,7 +1,8 @@
 -- What flags keep of a list, and the places of what is kept.
-use Rattle.std.proofs.Common.{◌≡◌, ◌≤◌, ◌<◌, ℕ, zero, suc, List, [], ◌∷◌, length, Bool, true, false, Some, refl, ap, arith}
+use Rattle.std.proofs.Common.{◌≡◌, ◌≤◌, ◌<◌, ℕ, zero, suc, List, [], ◌∷◌, length, Bool, true, false, Some, inl, inr, refl, ap, sym, arith}
 use Rattle.std.specs.Prelude.{slice_get, replicate}
 use Rattle.restriction.specs.Numbering.{keep, rank}
+use Rattle.agreement.proofs.Members.{In}
 
 -- a kept item stands at its rank
 pub keep_rank : {A : Type 0} (flags : List Bool) (xs : List A) (m : ℕ) → slice_get flags m ≡ Some true → slice_get (keep flags xs) (rank flags m) ≡ slice_get xs m
@@ -71,3 +72,28 @@ ranked (true ∷ bs) (suc n) (suc k) h =
     let r : HasRank bs k = ranked bs n k (omega arith) in record { place = suc r.place; is_set = r.is_set; is_rank = ap suc r.is_rank }
 ranked (false ∷ bs) (suc n) k h =
     let r : HasRank bs k = ranked bs n k h in record { place = suc r.place; is_set = r.is_set; is_rank = r.is_rank }
+
+-- the rank of a place is that of the end at most
+pub rank_to_end : (flags : List Bool) (n : ℕ) → rank flags n ≤ rank flags (length flags)
+unfolding rank
+rank_to_end bs zero = omega arith
+rank_to_end [] (suc n) = omega arith
+rank_to_end (true ∷ bs) (suc n) = let h : rank bs n ≤ rank bs (length bs) = rank_to_end bs n in omega arith
+rank_to_end (false ∷ bs) (suc n) = rank_to_end bs n
+
+-- the place of an item that is kept
+pub record KeptAt {A : Type 0} (flags : List Bool) (xs : List A) (x : A) : Type 0 where
+  pub place : ℕ
+  pub is_set : slice_get flags place ≡ Some true
+  pub is : slice_get xs place ≡ Some x
+
+kept_later : {A : Type 0} (b : Bool) (bs : List Bool) (x y : A) (xs : List A) → KeptAt bs xs x → KeptAt (b ∷ bs) (y ∷ xs) x
+kept_later b bs x y xs k = record { place = suc k.place; is_set = k.is_set; is = k.is }
+
+pub kept_at : {A : Type 0} (flags : List Bool) (xs : List A) (x : A) → In x (keep flags xs) → KeptAt flags xs x
+unfolding keep
+kept_at [] xs x h = absurd h
+kept_at (b ∷ bs) [] x h = absurd h
+kept_at (true ∷ bs) (y ∷ xs) x (inl e) = record { place = 0; is_set = refl; is = ap (λ z. Some z) (sym e) }
+kept_at (true ∷ bs) (y ∷ xs) x (inr h) = kept_later true bs x y xs (kept_at bs xs x h)
+kept_at (false ∷ bs) (y ∷ xs) x h = kept_later false bs x y xs (kept_at bs xs x h)

@@ -1,5 +1,5 @@
-pub mod Keep
 pub mod Members
+pub mod Keep
 pub mod FirstMet
 pub mod Tokens
 pub mod Places
@@ -14,3 +14,9 @@ pub mod Good
 pub mod Methods
 pub mod Entry
 pub mod Agreement
+pub mod AgainCode
+pub mod AgainLocals
+pub mod AgainTypes
+pub mod AgainRows
+pub mod AgainThin
+pub mod AgainMarked

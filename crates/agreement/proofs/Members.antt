@@ -1,6 +1,8 @@
 -- The items of a list.
 use Rattle.std.proofs.Common.{◌≡◌, ◌≤◌, ◌+◌, ℕ, zero, suc, List, [], ◌∷◌, ◌++◌, length, map, cond, Bool, true, false, Option, Some, None, ◌⊎◌, inl, inr, refl, ap, ap₂, sym, subst, ◌∙◌, ◌&&◌, true≢false, arith, length-append}
 use Rattle.std.specs.Prelude.{slice_get, find}
+use Rattle.std.specs.Option.{option_map}
+use Rattle.std.proofs.lemmas.List.{map-append}
 use Rattle.std.specs.List.{flat_map, list_all}
 use Rattle.restriction.specs.References.{one_or_none}
 
@@ -131,3 +133,30 @@ length_options f (x ∷ xs) =
     let g : length (one_or_none (f x)) ≤ 1 = length_option (f x) in
     let h : length (flat_map (λ y. one_or_none (f y)) xs) ≤ length xs = length_options f xs in
     omega arith
+
+found_once_by : {A B : Type 0} (p : B → Bool) (make : A → B) (x y : A) (ys : List A) (b : Bool) → p (make y) ≡ b → In x (y ∷ ys) → p (make x) ≡ true → (p (make y) ≡ true → y ≡ x)
+    → (In x ys → find p (map make ys) ≡ Some (make x)) → cond b (Some (make y)) (find p (map make ys)) ≡ Some (make x)
+found_once_by p make x y ys true e h f own later = ap (λ z. Some (make z)) (own e)
+found_once_by p make x y ys false e (inl g) f own later = let i : p (make y) ≡ true = subst (λ z. p (make z) ≡ true) g f in absurd (true≢false (sym i ∙ e))
+found_once_by p make x y ys false e (inr h) f own later = later h
+
+pub found_once : {A B : Type 0} (p : B → Bool) (make : A → B) (x : A) (ys : List A) → In x ys → p (make x) ≡ true → ((y : A) → In y ys → p (make y) ≡ true → y ≡ x)
+    → find p (map make ys) ≡ Some (make x)
+found_once p make x [] h f own = absurd h
+found_once p make x (y ∷ ys) h f own = found_once_by p make x y ys (p (make y)) refl h f (own y (inl refl)) (λ w. found_once p make x ys w f (λ z v. own z (inr v)))
+
+-- at most one of each item, where what is made of it has moved
+option_moved : {B C : Type 0} (v : B → C) (o : Option B) → one_or_none (option_map v o) ≡ map v (one_or_none o)
+option_moved v None = refl
+option_moved v (Some x) = refl
+
+pub options_moved : {A B C : Type 0} (f : A → Option B) (g : A → Option C) (v : B → C) (xs : List A) → ((x : A) → In x xs → g x ≡ option_map v (f x))
+    → flat_map (λ x. one_or_none (g x)) xs ≡ map v (flat_map (λ x. one_or_none (f x)) xs)
+options_moved f g v [] h = refl
+options_moved f g v (x ∷ xs) h =
+    ap₂ (λ ys zs. ys ++ zs) (ap one_or_none (h x (inl refl)) ∙ option_moved v (f x)) (options_moved f g v xs (λ y w. h y (inr w)))
+    ∙ sym (map-append v (one_or_none (f x)) (flat_map (λ y. one_or_none (f y)) xs))
+
+pub list_all_map : {A B : Type 0} (p : B → Bool) (f : A → B) (xs : List A) → ((x : A) → In x xs → p (f x) ≡ true) → list_all p (map f xs) ≡ true
+list_all_map p f [] h = refl
+list_all_map p f (x ∷ xs) h = both (p (f x)) (list_all p (map f xs)) (h x (inl refl)) (list_all_map p f xs (λ z w. h z (inr w)))

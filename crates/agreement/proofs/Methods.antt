@@ -50,7 +50,7 @@ module _ (left rec : AsmRec) (flags : List Bool) (l : Left left rec flags) (n : 
   abbrev rho : ℕ → ℕ
   rho = new_place flags (length rec.method_def)
 
-  call_moves : (i : Instr) (token : ℕ) → GoodInstr rec flags i → i.form ≡ form.Call → i.operand ≡ operand.Token token
+  pub call_moves : (i : Instr) (token : ℕ) → GoodInstr rec flags i → i.form ≡ form.Call → i.operand ≡ operand.Token token
       → callee_of left (moved_callee rec flags token) ≡ move_place rho (callee_of rec token)
   unfolding has_bad_operand callee_in
   call_moves i token g e f =
@@ -60,7 +60,7 @@ module _ (left rec : AsmRec) (flags : List Bool) (l : Left left rec flags) (n : 
       (λ c h. in_flat_map (λ j. one_or_none (member_called rec j)) (kept_code rec flags) i c g.met (in_option (member_called rec i) c (ap₂ (member_called_by rec) e f ∙ ap (member_of_place rec) k.is ∙ h)))
       ∙ ap (move_place rho) (sym k.is)
 
-  ldstr_moves : (i : Instr) (token : ℕ) → GoodInstr rec flags i → i.form ≡ form.LdStr → i.operand ≡ operand.Token token
+  pub ldstr_moves : (i : Instr) (token : ℕ) → GoodInstr rec flags i → i.form ≡ form.LdStr → i.operand ≡ operand.Token token
       → text_of left (moved_text rec flags token) ≡ text_of rec token
   unfolding has_bad_operand
   ldstr_moves i token g e f =

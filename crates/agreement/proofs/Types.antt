@@ -51,7 +51,7 @@ record CoreAt (rec : AsmRec) (at : Option ℕ) : Type 0 where
   is : assembly_at rec at ≡ Some row
   is_core : is_core_name row.name ≡ true
 
-core_by : (row : Option AssemblyRefRow) → is_core_row row ≡ true → (a : AssemblyRefRow) × (row ≡ Some a) × (is_core_name a.name ≡ true)
+pub core_by : (row : Option AssemblyRefRow) → is_core_row row ≡ true → (a : AssemblyRefRow) × (row ≡ Some a) × (is_core_name a.name ≡ true)
 core_by None h = cc
 core_by (Some a) h = (a, refl, h)
 
@@ -85,7 +85,7 @@ pub core_type : (rec : AsmRec) (token : ℕ) (name : List ℕ) → core_type_of 
 unfolding core_type_of
 core_type rec token name h = core_type_by rec token name (is_type_token rec object_name token) (is_type_token rec console_name token) refl refl h
 
-owner_is : (members : List CoreMember) (name : List ℕ) → In name (owner_names members) → name ≡ console_name
+pub owner_is : (members : List CoreMember) (name : List ℕ) → In name (owner_names members) → name ≡ console_name
 owner_is [] name h = absurd h
 owner_is (c ∷ cs) name (inl e) = e
 owner_is (c ∷ cs) name (inr h) = owner_is cs name h
@@ -98,11 +98,14 @@ one_of_two rec members name h = elim (in_either (base_names rec rec.type_def) (o
   | inr o ↦ inr (owner_is members name o)
 ]
 
+pub met_name : (rec : AsmRec) (flags : List Bool) (name : List ℕ) → In name (base_names rec rec.type_def ++ owner_names (members_met rec flags)) → (name ≡ object_name) ⊎ (name ≡ console_name)
+met_name rec flags name h = one_of_two rec (members_met rec flags) name h
+
 pub types_of_two : (rec : AsmRec) (flags : List Bool) → OfTwo object_name console_name (types_met rec flags)
 unfolding types_met
 types_of_two rec flags = of_two same_name object_name console_name refl refl (base_names rec rec.type_def ++ owner_names (members_met rec flags)) (one_of_two rec (members_met rec flags))
 
-few_types : (rec : AsmRec) (flags : List Bool) → length (types_met rec flags) ≤ 2
+pub few_types : (rec : AsmRec) (flags : List Bool) → length (types_met rec flags) ≤ 2
 few_types rec flags = at_most_two object_name console_name (types_met rec flags) (types_of_two rec flags)
 
 few_assemblies : (rec : AsmRec) (flags : List Bool) → length (assemblies_met rec flags) ≤ 2
@@ -123,12 +126,12 @@ pub base_met : (rec : AsmRec) (flags : List Bool) (t : TypeDefRow) (name : List 
 base_met rec flags t name h e = in_left (base_names rec rec.type_def) (owner_names (members_met rec flags)) name
     (in_flat_map (λ u. one_or_none (core_type_of rec u.extends)) rec.type_def t name h (in_option (core_type_of rec t.extends) name e))
 
-type_row : (rec : AsmRec) (flags : List Bool) (name : List ℕ) → In name (base_names rec rec.type_def ++ owner_names (members_met rec flags))
+pub type_row : (rec : AsmRec) (flags : List Bool) (name : List ℕ) → In name (base_names rec rec.type_def ++ owner_names (members_met rec flags))
     → Found (same_name name) (types_met rec flags) (place_of (same_name name) (types_met rec flags))
 unfolding types_met
 type_row rec flags name h = has_row same_name (base_names rec rec.type_def ++ owner_names (members_met rec flags)) name (name_itself name) h
 
-assembly_row : (rec : AsmRec) (flags : List Bool) (name : List ℕ) (row : AssemblyRefRow) → In name (types_met rec flags) → scope_of_type rec name ≡ Some row
+pub assembly_row : (rec : AsmRec) (flags : List Bool) (name : List ℕ) (row : AssemblyRefRow) → In name (types_met rec flags) → scope_of_type rec name ≡ Some row
     → Found (same_assembly row) (assemblies_met rec flags) (place_of (same_assembly row) (assemblies_met rec flags))
 unfolding assemblies_met
 assembly_row rec flags name row h e = has_row same_assembly (flat_map (λ n. one_or_none (scope_of_type rec n)) (types_met rec flags)) row (assembly_itself row)
@@ -154,7 +157,7 @@ module _ (left rec : AsmRec) (flags : List Bool) (l : Left left rec flags) where
   core_is_core None a e h = cc
   core_is_core (Some k) a e h = rw e h
 
-  left_is_core : (name : List ℕ) → In name (types_met rec flags) → (s : HasScope rec name) → is_core_scope left (scope_token rec flags (scope_of_type rec name)) ≡ true
+  pub left_is_core : (name : List ℕ) → In name (types_met rec flags) → (s : HasScope rec name) → is_core_scope left (scope_token rec flags (scope_of_type rec name)) ≡ true
   left_is_core name h s =
       let f : Found (same_assembly s.row) (assemblies_met rec flags) (place_of (same_assembly s.row) (assemblies_met rec flags)) = assembly_row rec flags name s.row h s.is in
       let e : s.row.name ≡ f.item.name = assembly_name s.row f.item f.passes in
@@ -164,11 +167,11 @@ module _ (left rec : AsmRec) (flags : List Bool) (l : Left left rec flags) where
   unfolding is_system_type
   new_type_named name h s = both (same_name name name && true) _ (both (same_name name name) true (name_itself name) refl) (left_is_core name h s)
 
-  type_index : (name : List ℕ) → place_of (same_name name) (types_met rec flags) < length (types_met rec flags)
+  pub type_index : (name : List ℕ) → place_of (same_name name) (types_met rec flags) < length (types_met rec flags)
       → index_in 0x01 (type_ref_token rec flags name) ≡ Some (place_of (same_name name) (types_met rec flags))
   type_index name h = let f : length (types_met rec flags) ≤ 2 = few_types rec flags in index_of_token 0x01 (place_of (same_name name) (types_met rec flags)) (omega arith) (omega arith)
 
-  left_row : (name : List ℕ) (f : Found (same_name name) (types_met rec flags) (place_of (same_name name) (types_met rec flags)))
+  pub left_row : (name : List ℕ) (f : Found (same_name name) (types_met rec flags) (place_of (same_name name) (types_met rec flags)))
       → slice_get left.type_ref (place_of (same_name name) (types_met rec flags)) ≡ Some (new_type_ref rec flags f.item)
   left_row name f = ap (λ rows. slice_get rows (place_of (same_name name) (types_met rec flags))) l.type_ref
       ∙ slice_get-map (new_type_ref rec flags) (types_met rec flags) (place_of (same_name name) (types_met rec flags)) ∙ ap (option_map (new_type_ref rec flags)) f.at

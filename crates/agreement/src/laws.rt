@@ -1,7 +1,7 @@
 ghost use Rattle.std.specs.Prelude.{List, Bool};
 ghost use Rattle.world_model.specs.declared.record.AsmRec.{AsmRec};
 ghost use Rattle.restriction.specs.Restricted.{restricted};
-ghost use Rattle.agreement.specs.Premises.{CanRestrict, Agrees, RunsAlike, Settled};
+ghost use Rattle.agreement.specs.Premises.{CanRestrict, CallsHaveForm, Agrees, RunsAlike, Settled};
 
 /// What a step asks of the record that is left is what it asks of the whole, with the callees at their new places.
 pub fn agrees()
@@ -18,5 +18,5 @@ pub fn runs_alike()
 
 /// What is left is thin, all of it is marked, and it is its own restricted record.
 pub fn settles()
-    ensures { (rec : AsmRec) (flags : List Bool) → CanRestrict rec flags → Settled (restricted rec flags) }
+    ensures { (rec : AsmRec) (flags : List Bool) → CanRestrict rec flags → CallsHaveForm rec → Settled (restricted rec flags) }
 {}
