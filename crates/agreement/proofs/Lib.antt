@@ -20,3 +20,4 @@ pub mod AgainTypes
 pub mod AgainRows
 pub mod AgainThin
 pub mod AgainMarked
+pub mod Spelled
