@@ -23,7 +23,7 @@ use Rattle.restriction.specs.Moved.{moved_instr, moved_known, moved_methods}
 use Rattle.restriction.specs.Restricted.{kept_rvas, restricted}
 use Rattle.agreement.specs.Premises.{CanRestrict, CallsHaveForm, Settled, all_flags}
 use Rattle.agreement.proofs.Keep.{each_set, HasRank, ranked}
-use Rattle.agreement.proofs.Members.{In, in_at, in_flat_map}
+use Rattle.agreement.proofs.Members.{same_some, In, in_at, in_flat_map}
 use Rattle.agreement.proofs.ThinParts.{thin_parts}
 use Rattle.agreement.proofs.Entry.{HasEntry, has_entry, entry_is, entry_left}
 use Rattle.agreement.proofs.Callees.{own_below}
@@ -34,9 +34,6 @@ use Rattle.agreement.proofs.AgainRows.{same_record}
 use Rattle.agreement.proofs.AgainThin.{left_is_thin}
 
 -- ---- a marked method has a row
-
-same_some : {A : Type 0} {x y : A} → Some x ≡ Some y → x ≡ y
-same_some e = cc
 
 placed_below : (rec : AsmRec) (k : Known ℕ) (m : ℕ) → place_or_none k ≡ Some m → k ≡ Good m
 placed_below rec (Good n) m e = ap (λ x. Good x) (same_some e)

@@ -26,8 +26,8 @@ use Rattle.restriction.specs.Moved.{type_token_by, moved_type, moved_locals, mov
 use Rattle.restriction.specs.Restricted.{kept_rvas, entry_token, restricted}
 use Rattle.agreement.specs.Premises.{CanRestrict, CallsHaveForm}
 use Rattle.agreement.proofs.Keep.{rank_below, rank_at_most}
-use Rattle.agreement.proofs.Members.{In, in_at, Place, place_in, in_flat_map_from, Comes, option_from, list_all_in, list_all_map, and_left, and_right, both}
-use Rattle.agreement.proofs.FirstMet.{was_in}
+use Rattle.agreement.proofs.Members.{same_some, In, in_at, Place, place_in, in_flat_map_from, Comes, option_from, list_all_in, list_all_map, and_left, and_right, both}
+use Rattle.agreement.proofs.FirstMet.{or_left, or_right, was_in}
 use Rattle.agreement.proofs.Tokens.{index_of_token}
 use Rattle.agreement.proofs.ThinParts.{thin_parts}
 use Rattle.agreement.proofs.Entry.{HasEntry, has_entry, entry_below, entry_is, entry_marked}
@@ -63,16 +63,6 @@ all_four a b c d e f g h = rw (e, f, g, h) refl
 first_run : (flags : List Bool) (row : ℕ) → (row == 1) ≡ true → (moved_run flags row == 1) ≡ true
 unfolding rank
 first_run flags row e = ap (λ k. moved_run flags k == 1) (eqb-true row 1 e)
-
-same_some : {A : Type 0} {x y : A} → Some x ≡ Some y → x ≡ y
-same_some e = cc
-
-or_first : (a b : Bool) → a ≡ true → (a || b) ≡ true
-or_first a b e = rw e refl
-
-or_second : (a b : Bool) → b ≡ true → (a || b) ≡ true
-or_second true b e = refl
-or_second false b e = e
 
 module_again : (rec : AsmRec) (flags : List Bool) (t : TypeDefRow) → is_module_type t ≡ true → is_module_type (moved_type_def rec flags t) ≡ true
 module_again rec flags t e =
@@ -225,10 +215,10 @@ module _ (rec : AsmRec) (flags : List Bool) (can : CanRestrict rec flags) (forme
 
   type_ref_by : (name : List ℕ) → In name (types_met rec flags) → (name ≡ object_name) ⊎ (name ≡ console_name) → is_thin_type_ref (restricted rec flags) (new_type_ref rec flags name) ≡ true
   type_ref_by name h (inl e) =
-      or_first (is_system_type (restricted rec flags) object_name (new_type_ref rec flags name)) _
+      or_left (is_system_type (restricted rec flags) object_name (new_type_ref rec flags name)) _
       (subst (λ n. is_system_type (restricted rec flags) n (new_type_ref rec flags name) ≡ true) e (new_type_named (restricted rec flags) rec flags (is_left_here rec flags can) name h (scope_here rec flags can name h)))
   type_ref_by name h (inr e) =
-      or_second (is_system_type (restricted rec flags) object_name (new_type_ref rec flags name)) (is_system_type (restricted rec flags) console_name (new_type_ref rec flags name))
+      or_right (is_system_type (restricted rec flags) object_name (new_type_ref rec flags name)) (is_system_type (restricted rec flags) console_name (new_type_ref rec flags name))
       (subst (λ n. is_system_type (restricted rec flags) n (new_type_ref rec flags name) ≡ true) e (new_type_named (restricted rec flags) rec flags (is_left_here rec flags can) name h (scope_here rec flags can name h)))
 
   scopes_here : list_all (λ (row : AssemblyRefRow). is_core_name row.name) (restricted rec flags).assembly_ref ≡ true

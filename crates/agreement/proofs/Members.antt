@@ -6,6 +6,9 @@ use Rattle.std.proofs.lemmas.List.{map-append}
 use Rattle.std.specs.List.{flat_map, list_all}
 use Rattle.restriction.specs.References.{one_or_none}
 
+pub same_some : {A : Type 0} {x y : A} → Some x ≡ Some y → x ≡ y
+same_some e = cc
+
 -- an item stands in a list
 abbrev pub In : {A : Type 0} → A → List A → Type 0
 In x [] = ⊥

@@ -14,6 +14,7 @@ use Rattle.world_model.specs.declared.known.Known.TheVariants.{Good, Bad}
 use Rattle.world_model.specs.declared.members.MethodDefRow.{MethodDefRow}
 use Rattle.world_model.specs.declared.record.AsmRec.{AsmRec}
 use Rattle.trim_rules.specs.Marked.{code_in, code_of}
+use Rattle.agreement.proofs.Members.{same_some}
 use Rattle.agreement.specs.Premises.{BodiesHaveSpelling, CallsHaveForm}
 
 call_kind : kind_of 0x28 ≡ Some (form.Call, InlineTok)
@@ -23,9 +24,6 @@ call_kind = refl
 form_in : Option (Form × Inline) → Form
 form_in None = form.Nop
 form_in (Some kind) = kind.0
-
-same_some : {A : Type 0} {x y : A} → Some x ≡ Some y → x ≡ y
-same_some e = cc
 
 same_form : (f g : Form) (x y : Inline) → ◌≡◌ {A = Option (Form × Inline)} (Some (f, x)) (Some (g, y)) → f ≡ g
 unfolding form_in
