@@ -95,7 +95,7 @@ one_or_other : (c : CoreMember) → (c ≡ WriteLineString) ⊎ (c ≡ WriteLine
 one_or_other WriteLineString = inl refl
 one_or_other WriteLineInt = inr refl
 
-members_of_two : (rec : AsmRec) (flags : List Bool) → length (members_met rec flags) ≤ 2
+pub members_of_two : (rec : AsmRec) (flags : List Bool) → length (members_met rec flags) ≤ 2
 unfolding members_met
 members_of_two rec flags = at_most_two WriteLineString WriteLineInt _ (of_two same_member WriteLineString WriteLineInt refl refl
     (flat_map (λ i. one_or_none (member_called rec i)) (kept_code rec flags)) (λ c h. one_or_other c))

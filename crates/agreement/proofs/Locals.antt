@@ -79,7 +79,7 @@ locals_are rec token types e = types_by_place rec (index_in 0x11 token) types e
 
 -- ---- in what is left
 
-few_by : (rec : AsmRec) (flags : List Bool) → length (locals_met rec flags) ≤ length rec.method_def
+pub few_by : (rec : AsmRec) (flags : List Bool) → length (locals_met rec flags) ≤ length rec.method_def
 unfolding locals_met
 few_by rec flags =
     let h : length (first_met same_locals (flat_map (λ m. one_or_none (locals_in rec m.body)) (kept_methods rec flags))) ≤ length (flat_map (λ m. one_or_none (locals_in rec m.body)) (kept_methods rec flags))

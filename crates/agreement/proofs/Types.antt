@@ -108,7 +108,7 @@ types_of_two rec flags = of_two same_name object_name console_name refl refl (ba
 pub few_types : (rec : AsmRec) (flags : List Bool) → length (types_met rec flags) ≤ 2
 few_types rec flags = at_most_two object_name console_name (types_met rec flags) (types_of_two rec flags)
 
-few_assemblies : (rec : AsmRec) (flags : List Bool) → length (assemblies_met rec flags) ≤ 2
+pub few_assemblies : (rec : AsmRec) (flags : List Bool) → length (assemblies_met rec flags) ≤ 2
 unfolding assemblies_met
 few_assemblies rec flags =
     let h : length (first_met same_assembly (flat_map (λ name. one_or_none (scope_of_type rec name)) (types_met rec flags))) ≤ length (flat_map (λ name. one_or_none (scope_of_type rec name)) (types_met rec flags))

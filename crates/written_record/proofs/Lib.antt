@@ -1,3 +1,15 @@
+pub mod FitsCells
+pub mod FitsDemands
+pub mod FitsBodies
+pub mod FitsTokens
+pub mod FitsRows
+pub mod StandsLists
+pub mod StandsNumbers
+pub mod StandsCode
+pub mod StandsMethods
+pub mod StandsTypes
+pub mod StandsTexts
+pub mod StandsLaid
 pub mod BackLists
 pub mod BackCells
 pub mod BackLower

@@ -1,14 +1,13 @@
 -- What the rows of a file's record have that a file can hold: numbers of their columns' widths, texts, blobs and GUIDs of
 -- their heaps, signatures and bodies with a spelling. The tables are those of thin records.
-use Rattle.std.specs.Prelude.{◌≡◌, ◌⊎◌, ℕ, suc, ◌+◌, ◌<◌, ◌≤◌, ◌^◌, ◌/◌, ◌%◌, List, [], ◌∷◌, length, slice_get, bit_and, Option, Some, None}
+use Rattle.std.specs.Prelude.{◌≡◌, ◌⊎◌, ℕ, ◌<◌, ◌^◌, List, [], length, slice_get, bit_and, Some}
 use Rattle.std.specs.List.{AllByRecursion}
 use Rattle.il_base.specs.declared.sig.Sig.{Sig}
 use Rattle.il_base.specs.declared.sig.MethodSig.{MethodSig}
 use Rattle.il_base.specs.declared.body.Body.{Body}
 use Rattle.blob_grammar.specs.Values.{FitsMethod, FitRow}
 use Rattle.body_grammar.specs.BodySpelling.{HasSpelling}
-use Rattle.world_model.specs.declared.known.Known.{Known}
-use Rattle.world_model.specs.declared.known.Known.TheVariants.{Good, Bad}
+use Rattle.world_model.specs.declared.known.Known.TheVariants.{Good}
 use Rattle.world_model.specs.declared.types.ModuleRow.{ModuleRow}
 use Rattle.world_model.specs.declared.types.TypeDefRow.{TypeDefRow}
 use Rattle.world_model.specs.declared.members.MethodDefRow.{MethodDefRow}

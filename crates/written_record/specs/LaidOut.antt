@@ -1,9 +1,6 @@
 -- What a thin record has that is the record of the file that it is laid out in: nothing in it stands otherwise than the
 -- layout has it.
-use Rattle.std.specs.Prelude.{◌≡◌, ℕ, suc, ◌+◌, ◌<◌, ◌≤◌, ◌^◌, ◌%◌, List, [], ◌∷◌, length, map, slice_get, bit_and, codes, Option, Some, None, IsTrue}
-use Rattle.il_base.specs.declared.body.Form.TheVariants as form
-use Rattle.il_base.specs.declared.body.Instr.{Instr}
-use Rattle.il_base.specs.declared.body.Operand.TheVariants as operand
+use Rattle.std.specs.Prelude.{◌≡◌, ℕ, ◌+◌, ◌≤◌, ◌^◌, List, [], length, map, slice_get, bit_and, Some, None, IsTrue}
 use Rattle.world_model.specs.declared.known.Known.TheVariants.{Good}
 use Rattle.world_model.specs.declared.expr.MemberSig.TheVariants as member
 use Rattle.il_base.specs.declared.sig.Sig.{Sig}

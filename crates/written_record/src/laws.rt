@@ -5,10 +5,11 @@ ghost use Rattle.record_format.specs.Record.{HasRecord};
 ghost use Rattle.file_layout.specs.Laid.{laid, laid_length};
 ghost use Rattle.world_model.specs.Thin.{is_thin};
 ghost use Rattle.restriction.specs.Restricted.{restricted};
-ghost use Rattle.written_record.specs.Premises.{CanRestrict};
+ghost use Rattle.agreement.specs.Premises.{CanRestrict};
 ghost use Rattle.written_record.specs.Fits.{Fits};
 ghost use Rattle.written_record.specs.LaidOut.{LaidOut};
 
+use agreement::laws::{calls_have_form, settles};
 use blob_grammar::laws::{locals, methods, values};
 use body_grammar::written_body_is_read;
 use written_image::laws::{images, metadata};
@@ -22,7 +23,10 @@ pub fn fits()
 /// What is left of such a record stands as the layout has it.
 pub fn stands()
     ensures { (rec : AsmRec) (flags : List Bool) → Fits rec → CanRestrict rec flags → LaidOut (restricted rec flags) }
-{}
+{
+    calls_have_form();
+    settles();
+}
 
 /// A record that stands as the layout has it is that of the file that it is laid out in, where that has at most 2^28 bytes.
 pub fn reads_back()
