@@ -93,9 +93,9 @@ fn fat_header(first: u8, bytes: &[u8]) -> Result<Header, Fault>
     })
 }
 
-/// The header at the front.
+/// The header at the front of a body (II.25.4.1), or the first fault in it.
 #[tactic(auto, unfolding(body_grammar::specs::Bodies::header_at))]
-pub fn header(bytes: &[u8]) -> Result<Header, Fault>
+pub fn read_header(bytes: &[u8]) -> Result<Header, Fault>
     requires { length bytes.now < 2 ^ 32 }
     ensures exact { result ≡ header_at bytes.now }
     ensures within { IfOk result (λ h. header_size h.tiny ≤ length bytes.now) }

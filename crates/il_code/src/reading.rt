@@ -5,7 +5,7 @@ ghost use Rattle.il_base.specs.declared.body.Body.{Body};
 ghost use Rattle.il_code.specs.Gives.{Gives, whole};
 
 use crate::error::{BodyError, ReadBody};
-use crate::header::header;
+use crate::header::read_header;
 use crate::instructions::code;
 use crate::section::handlers;
 use body_grammar::{BODY, Header};
@@ -87,7 +87,7 @@ fn body(alloc: Global, bytes: &[u8]) -> Result<ReadBody, BodyError>
     requires { length bytes.now < 2 ^ 32 }
     ensures { Gives whole result (grammar.body_at bytes.now) }
 {
-    let h = header(bytes)?;
+    let h = read_header(bytes)?;
     let from = header_size(h.tiny);
     let code = code(alloc, from, code_bytes(h, bytes))?;
     let end = u64::from(from) + u64::from(h.size);

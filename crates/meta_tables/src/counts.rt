@@ -197,7 +197,8 @@ fn count_size(present: bool) -> usize
 /// The number in the bytes of a cell, the lowest first.
 pub fn number_in(bytes: &[u8], width: u8, at: usize) -> u32
     requires { (width ≡ 1) ⊎ (width ≡ 2) ⊎ (width ≡ 4) }
-    ensures { result ≡ number width bytes.now at }
+    ensures value { result ≡ number width bytes.now at }
+    ensures within { result < 256 ^ width }
 {
     match width {
         1 => u32::from(u8_in(bytes, at)),

@@ -1,4 +1,4 @@
-ghost use Rattle.std.specs.Prelude.{◌≡◌, ◌+◌, ◌<◌, ◌≤◌, length, drop, Some, None};
+ghost use Rattle.std.specs.Prelude.{◌≡◌, ◌+◌, ◌<◌, ◌≤◌, ◌^◌, length, drop, Some, None, IfSome};
 ghost use Rattle.std.specs.Option.{option_map};
 ghost use Rattle.std.specs.Str.{is_utf8};
 ghost use Rattle.cli_format.specs.Heaps.{good_text, text_at, string_of, counted_at, user_string_of, blob_of, guid_of};
@@ -54,7 +54,8 @@ fn behind(bytes: &[u8], at: usize) -> &[u8]
 /// The bytes at the front behind their length (II.24.2.4).
 #[tactic(auto, unfolding(cli_format::specs::Heaps::counted_at, il_base::specs::Bytes::bytes_at))]
 fn first_counted(bytes: &[u8]) -> Option<&[u8]>
-    ensures { option_map (λ b. b.now) result ≡ counted_at bytes.now }
+    ensures value { option_map (λ b. b.now) result ≡ counted_at bytes.now }
+    ensures within { IfSome result (λ b. length b.now < 2 ^ 32) }
 {
     match compressed_number(bytes) {
         None => None,
@@ -70,7 +71,8 @@ fn first_counted(bytes: &[u8]) -> Option<&[u8]>
 /// The blob at a place of `#Blob` (II.24.2.4).
 #[tactic(auto, unfolding(cli_format::specs::Heaps::blob_of))]
 pub fn blob_item(heap: &[u8], at: usize) -> Option<&[u8]>
-    ensures { option_map (λ b. b.now) result ≡ blob_of heap.now at }
+    ensures value { option_map (λ b. b.now) result ≡ blob_of heap.now at }
+    ensures within { IfSome result (λ b. length b.now < 2 ^ 32) }
 {
     if at == 0 && heap.is_empty() {
         return Some(heap);

@@ -95,7 +95,8 @@ impl<'a> Layout<'a> {
         requires table { table < 45 }
         requires first { 1 ≤ row }
         requires last { row ≤ rows_of self.now table }
-        ensures { result ≡ cell_number self.now table row column }
+        ensures value { result ≡ cell_number self.now table row column }
+        ensures within { result < 256 ^ width self.now (column_of table column) }
     {
         let place = self.cell_place(table, row, column);
         let width = self.counts.width(column_at(table, column));
@@ -236,9 +237,9 @@ impl<'a> Layout<'a> {
     }
 }
 
-/// The table that a tag of a coded index names.
+/// The table that a tag of a coded index names (II.24.2.6). None for a tag that names none.
 #[tactic(auto, unfolding(cli_format::specs::Tables::target_of))]
-fn target(index: CodedIndex, tag: u32) -> Option<u8>
+pub fn target(index: CodedIndex, tag: u32) -> Option<u8>
     ensures { result ≡ target_of index tag }
 {
     let first = u32::from(first_tag(index));
@@ -269,7 +270,7 @@ fn is_column(table: u8, column: u8) -> bool
     table < 45 && (column as usize) < columns(table).len()
 }
 
-/// A column of a table; one byte where the table doesn't have it.
+/// A column of a table, both by their numbers from 0; one byte where the table doesn't have it.
 #[tactic(auto, using(crate::proofs::Rows::picking), unfolding(cli_format::specs::Tables::column_of))]
 pub fn column_at(table: u8, column: usize) -> Column
     ensures { result ≡ column_of table column }

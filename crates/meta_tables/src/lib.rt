@@ -15,6 +15,7 @@ mod texts;
 mod walk;
 
 pub use cli_format::TablesError;
+pub use layout::{column_at, target};
 pub use tables::Tables;
 
 #[cfg(test)]

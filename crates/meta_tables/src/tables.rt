@@ -1,4 +1,4 @@
-ghost use Rattle.std.specs.Prelude.{◌≡◌, ◌+◌, ◌-◌, ◌<◌, ◌≤◌, ◌^◌, ◌==◌, ◌&&◌, length};
+ghost use Rattle.std.specs.Prelude.{◌≡◌, ◌+◌, ◌-◌, ◌<◌, ◌≤◌, ◌^◌, ◌==◌, ◌&&◌, length, IfSome};
 ghost use Rattle.std.specs.Option.{option_map};
 ghost use Rattle.cli_format.specs.declared.stream.StreamName.TheVariants.{Strings, Blobs, UserStrings, Guids};
 ghost use Rattle.cli_format.specs.Demand.{Checked, number};
@@ -106,7 +106,8 @@ impl<'a> Tables<'a> {
 
     /// The blob at a place of `#Blob`, without its length (II.24.2.4). None where none fits there.
     pub fn blob(&self, at: u32) -> Option<&'a [u8]>
-        ensures { option_map (λ b. b.now) result ≡ blob_of (heap self.now Blobs) at }
+        ensures value { option_map (λ b. b.now) result ≡ blob_of (heap self.now Blobs) at }
+        ensures within { IfSome result (λ b. length b.now < 2 ^ 32) }
     {
         blob_item(self.blobs, at as usize)
     }
@@ -116,6 +117,13 @@ impl<'a> Tables<'a> {
         ensures { option_map (λ b. b.now) result ≡ user_string_of (heap self.now UserStrings) at }
     {
         user_item(self.users, at as usize)
+    }
+
+    /// The bytes of `#US` (II.24.2.4).
+    pub fn user_strings(&self) -> &'a [u8]
+        ensures { result.now ≡ heap self.now UserStrings }
+    {
+        self.users
     }
 
     /// The GUID with a number, from 1 (II.24.2.5). None for 0, and past the last one.

@@ -6,7 +6,7 @@ ghost use Rattle.cli_format.specs.Columns.{columns_of};
 ghost use Rattle.cli_format.specs.Demand.{Checked, each_below};
 ghost use Rattle.cli_format.specs.Streams.{heap};
 ghost use Rattle.cli_format.specs.Heaps.{blob_of};
-ghost use Rattle.cli_format.specs.Tables.{rows_of, cell_number};
+ghost use Rattle.cli_format.specs.Tables.{rows_of, width, column_of, cell_number};
 ghost use Rattle.cli_format.specs.Metadata.{names_item, why_not, cell_offset, cell_demands, row_demands, table_demands, tables_stream};
 
 use crate::heaps::blob_item;
@@ -17,12 +17,14 @@ use crate::texts::Texts;
 use cli_format::{BAD_HEAP, Column, ROW_OUT_OF_RANGE, TablesError, columns};
 
 impl<'a> Tables<'a> {
-    /// The number in a cell of a row that is there.
-    pub(crate) fn number(&self, table: u8, row: u32, column: usize) -> u32
+    /// The number in a cell of a row that is there: the row is counted from 1, the column from 0. It takes as many bytes as
+    /// its column.
+    pub fn number(&self, table: u8, row: u32, column: usize) -> u32
         requires table { table < 45 }
         requires first { 1 ≤ row }
         requires last { row ≤ rows_of (tables_stream self.now) table }
-        ensures { result ≡ cell_number (tables_stream self.now) table row column }
+        ensures value { result ≡ cell_number (tables_stream self.now) table row column }
+        ensures within { result < 256 ^ width (tables_stream self.now) (column_of table column) }
     {
         self.layout.cell_number(table, row, column)
     }

@@ -1,4 +1,4 @@
-ghost use Rattle.std.specs.Prelude.{◌≡◌, ◌+◌, ◌<◌, ◌≤◌, ◌^◌, ◌||◌, length, None, Some, IfOk, is_some, unwrap_or};
+ghost use Rattle.std.specs.Prelude.{◌≡◌, ◌+◌, ◌<◌, ◌≤◌, ◌^◌, ◌||◌, length, None, Some, IfOk, IfSome, is_some, unwrap_or};
 ghost use Rattle.std.specs.Option.{option_map};
 ghost use Rattle.cli_format.specs.Demand.{Checked, demand, bad};
 ghost use Rattle.cli_format.specs.Image.{image_demands, image_at, image_place, image_tail, metadata_of, metadata_place_of, entry_token_of, cli_flags_of, subsystem_of, resources_of, sections_place, section_count, cli_place, directory_place, cli_demands, il_only_demands, metadata_demands, metadata_place_in, metadata_size, mapped};
@@ -72,7 +72,8 @@ impl<'a> Image<'a> {
 
     /// The bytes from the one that an RVA names to the end of its section's raw bytes.
     pub fn tail(&self, rva: u32) -> Option<&'a [u8]>
-        ensures { option_map (λ b. b.now) result ≡ image_tail self.now rva }
+        ensures value { option_map (λ b. b.now) result ≡ image_tail self.now rva }
+        ensures within { IfSome result (λ b. length b.now < 2 ^ 32) }
     {
         self.sections.tail(rva)
     }

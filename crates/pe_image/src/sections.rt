@@ -89,7 +89,8 @@ impl<'a> Sections<'a> {
     /// The bytes from an RVA to the end of its section's raw bytes.
     #[tactic(auto, unfolding(cli_format::specs::Image::image_tail))]
     pub fn tail(&self, rva: u32) -> Option<&'a [u8]>
-        ensures { option_map (λ b. b.now) result ≡ image_tail self.now rva }
+        ensures value { option_map (λ b. b.now) result ≡ image_tail self.now rva }
+        ensures within { IfSome result (λ b. length b.now < 2 ^ 32) }
     {
         match self.find(rva) {
             None => None,
@@ -172,7 +173,8 @@ fn place_within(section: &Section, rva: u32, len: u32) -> Option<u32>
 fn tail_within<'a>(bytes: &'a [u8], section: &Section, rva: u32) -> Option<&'a [u8]>
     requires covered { section.now.rva ≤ rva }
     requires small { section.now.raw + section.now.raw_size ≤ length bytes.now }
-    ensures { option_map (λ b. b.now) result ≡ tail_in bytes.now rva section.now }
+    ensures value { option_map (λ b. b.now) result ≡ tail_in bytes.now rva section.now }
+    ensures within { IfSome result (λ b. length b.now < 2 ^ 32) }
 {
     let at = rva - section.rva;
     if section.raw_size < at {

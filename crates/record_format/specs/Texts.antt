@@ -1,5 +1,5 @@
 -- The texts that `ldstr` names in bodies (III.4.16), and the embedded descriptor.
-use Rattle.std.specs.Prelude.{ℕ, zero, suc, ◌+◌, ◌*◌, ◌%◌, Bool, true, false, ◌==◌, ◌&&◌, ◌||◌, List, [], ◌∷◌, ◌++◌, length, codes, bytes_eq, find, Option, Some, None, if◌then◌else◌}
+use Rattle.std.specs.Prelude.{ℕ, zero, suc, ◌+◌, ◌*◌, ◌%◌, Bool, true, false, ◌==◌, ◌&&◌, ◌||◌, List, [], ◌∷◌, ◌++◌, length, codes, bytes_eq, find, min, Option, Some, None, if◌then◌else◌}
 use Rattle.std.specs.Option.{option_and_then}
 use Rattle.std.specs.List.{list_any}
 use Rattle.il_base.specs.Bytes.{number_at, bytes_at}
@@ -69,8 +69,12 @@ unfoldable pub texts_below : List ℕ → List MethodDefRow → ℕ → List Use
 texts_below user methods zero = []
 texts_below user methods (suc n) = and_text (texts_below user methods n) (text_if_loaded user methods n)
 
+-- the offsets of `#US` that a token can have, which have 24 bits
+abbrev pub text_offsets : List ℕ → ℕ
+text_offsets user = min (length user) 0x1000000
+
 abbrev pub all_texts : List ℕ → List MethodDefRow → List UserText
-all_texts user methods = texts_below user methods (length user)
+all_texts user methods = texts_below user methods (text_offsets user)
 
 -- ---- the embedded descriptor
 

@@ -1,0 +1,6 @@
+pub mod Demands
+pub mod Rows
+pub mod Fits
+pub mod Marks
+pub mod Units
+pub mod First

@@ -1,0 +1,112 @@
+-- The rows of all tables, in the groups that the code makes of them. `bs` are the bytes of the file.
+use Rattle.std.specs.Prelude.{ℕ, List}
+use Rattle.world_reader.specs.declared.tables.AssemblyTables.{AssemblyTables}
+use Rattle.world_reader.specs.declared.tables.FileTables.{FileTables}
+use Rattle.world_reader.specs.declared.tables.TypeTables.{TypeTables}
+use Rattle.world_reader.specs.declared.tables.FieldTables.{FieldTables}
+use Rattle.world_reader.specs.declared.tables.MethodTables.{MethodTables}
+use Rattle.world_reader.specs.declared.tables.PropertyTables.{PropertyTables}
+use Rattle.world_reader.specs.declared.tables.ExtraTables.{ExtraTables}
+use Rattle.world_reader.specs.declared.tables.AllTables.{AllTables}
+use Rattle.cli_format.specs.declared.stream.StreamName.TheVariants.{UserStrings}
+use Rattle.cli_format.specs.Image.{metadata_of, resources_of}
+use Rattle.cli_format.specs.Streams.{heap}
+use Rattle.record_format.specs.Cells.{all_rows}
+use Rattle.record_format.specs.Types.{module_row, module_ref_row, assembly_row, assembly_processor_row, assembly_os_row, assembly_ref_row, assembly_ref_processor_row, assembly_ref_os_row, exported_type_row, type_ref_row, type_def_row, interface_impl_row, type_spec_row, nested_class_row, generic_param_row, generic_param_constraint_row, class_layout_row}
+use Rattle.record_format.specs.Members.{field_row, method_def_row, param_row, method_impl_row, method_spec_row, stand_alone_sig_row, event_map_row, event_row, property_map_row, property_row, method_semantics_row, member_ref_row}
+use Rattle.record_format.specs.Others.{file_row, manifest_resource_row, field_rva_row, field_layout_row, field_marshal_row, constant_row, custom_attribute_row, decl_security_row, impl_map_row}
+use Rattle.record_format.specs.Texts.{all_texts, descriptor_in}
+use Rattle.record_format.specs.Record.{methods_of}
+
+unfoldable pub assembly_tables : List ℕ → AssemblyTables
+assembly_tables bs =
+    let m = metadata_of bs in
+    record {
+      «module» = all_rows m 0x00 (module_row m);
+      module_ref = all_rows m 0x1a (module_ref_row m);
+      assembly = all_rows m 0x20 (assembly_row m);
+      assembly_processor = all_rows m 0x21 (assembly_processor_row m);
+      assembly_os = all_rows m 0x22 (assembly_os_row m);
+      assembly_ref = all_rows m 0x23 (assembly_ref_row m);
+      assembly_ref_processor = all_rows m 0x24 (assembly_ref_processor_row m);
+      assembly_ref_os = all_rows m 0x25 (assembly_ref_os_row m);
+    }
+
+unfoldable pub file_tables : List ℕ → FileTables
+file_tables bs =
+    let m = metadata_of bs in
+    record {
+      file = all_rows m 0x26 (file_row m);
+      exported_type = all_rows m 0x27 (exported_type_row m);
+      manifest_resource = all_rows m 0x28 (manifest_resource_row m);
+      descriptor = descriptor_in (all_rows m 0x28 (manifest_resource_row m)) (resources_of bs);
+    }
+
+unfoldable pub type_tables : List ℕ → TypeTables
+type_tables bs =
+    let m = metadata_of bs in
+    record {
+      type_ref = all_rows m 0x01 (type_ref_row m);
+      type_def = all_rows m 0x02 (type_def_row m);
+      interface_impl = all_rows m 0x09 (interface_impl_row m);
+      type_spec = all_rows m 0x1b (type_spec_row m);
+      nested_class = all_rows m 0x29 (nested_class_row m);
+      generic_param = all_rows m 0x2a (generic_param_row m);
+      generic_param_constraint = all_rows m 0x2c (generic_param_constraint_row m);
+    }
+
+unfoldable pub field_tables : List ℕ → FieldTables
+field_tables bs =
+    let m = metadata_of bs in
+    record {
+      field = all_rows m 0x04 (field_row m);
+      class_layout = all_rows m 0x0f (class_layout_row m);
+      field_rva = all_rows m 0x1d (field_rva_row bs m (all_rows m 0x0f (class_layout_row m)) (all_rows m 0x04 (field_row m)));
+      field_layout = all_rows m 0x10 (field_layout_row m);
+      field_marshal = all_rows m 0x0d (field_marshal_row m);
+    }
+
+unfoldable pub method_tables : List ℕ → MethodTables
+method_tables bs =
+    let m = metadata_of bs in
+    record {
+      method_def = methods_of bs;
+      param = all_rows m 0x08 (param_row m);
+      method_impl = all_rows m 0x19 (method_impl_row m);
+      method_spec = all_rows m 0x2b (method_spec_row m);
+      stand_alone_sig = all_rows m 0x11 (stand_alone_sig_row m);
+      user = all_texts (heap m UserStrings) (methods_of bs);
+    }
+
+unfoldable pub property_tables : List ℕ → PropertyTables
+property_tables bs =
+    let m = metadata_of bs in
+    record {
+      event_map = all_rows m 0x12 (event_map_row m);
+      event = all_rows m 0x14 (event_row m);
+      property_map = all_rows m 0x15 (property_map_row m);
+      property = all_rows m 0x17 (property_row m);
+      method_semantics = all_rows m 0x18 (method_semantics_row m);
+    }
+
+unfoldable pub extra_tables : List ℕ → ExtraTables
+extra_tables bs =
+    let m = metadata_of bs in
+    record {
+      member_ref = all_rows m 0x0a (member_ref_row m);
+      constant = all_rows m 0x0b (constant_row m);
+      custom_attribute = all_rows m 0x0c (custom_attribute_row m);
+      decl_security = all_rows m 0x0e (decl_security_row m);
+      impl_map = all_rows m 0x1c (impl_map_row m);
+    }
+
+unfoldable pub all_tables : List ℕ → AllTables
+all_tables bs = record {
+  assemblies = assembly_tables bs;
+  files = file_tables bs;
+  types = type_tables bs;
+  fields = field_tables bs;
+  methods = method_tables bs;
+  properties = property_tables bs;
+  extras = extra_tables bs;
+}

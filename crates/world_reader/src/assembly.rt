@@ -1,0 +1,65 @@
+ghost use Rattle.std.specs.Prelude.{◌≡◌, ◌<◌, ◌/◌, ◌%◌, ◌^◌, length, map};
+ghost use Rattle.cli_format.specs.Image.{image_demands, metadata_of};
+ghost use Rattle.cli_format.specs.Metadata.{Read};
+ghost use Rattle.record_format.specs.Record.{as_demand, record_demands, place_by};
+
+use cli_format::TablesError;
+use meta_tables::Tables;
+use pe_image::Image;
+use std::alloc::Global;
+use std::marker::Model;
+
+/// A file that meets the demands on an assembly (II.22 to II.25): its image and its tables. Contracts see the bytes of the
+/// file.
+#[derive(Drop)]
+pub struct Assembly<'a> {
+    pub(crate) image: Image<'a>,
+    pub(crate) tables: Tables<'a>,
+}
+
+impl<'a> Model for Assembly<'a> {
+    ghost use Rattle.std.specs.Prelude.{◌≡◌, ◌+◌, ◌<◌, ◌^◌, ℕ, List, length, None};
+    ghost use Rattle.cli_format.specs.Demand.{first_fault};
+    ghost use Rattle.cli_format.specs.Image.{metadata_of, metadata_place_of};
+    ghost use Rattle.cli_format.specs.Metadata.{tables_demands};
+
+    ghost Value = { List ℕ };
+
+    ghost view = { λ a. a.image };
+
+    ghost invariant = { λ a. (a.tables ≡ metadata_of a.image) × (first_fault (tables_demands (metadata_of a.image) (metadata_place_of a.image)) ≡ None) × (metadata_place_of a.image + length (metadata_of a.image) < 2 ^ 32) };
+}
+
+impl<'a> Assembly<'a> {
+    /// The assembly of a file. A refusal is that of the first demand that fails.
+    #[tactic(auto, using(cli_format::proofs::Faults::refusals), unfolding(record_format::specs::Record::record_demands))]
+    pub fn open(alloc: Global, bytes: &'a [u8]) -> Result<Assembly<'a>, TablesError>
+        requires { length bytes.now < 2 ^ 32 }
+        ensures { Read result (record_demands bytes.now) bytes.now }
+    {
+        let image = open_image(bytes)?;
+        let tables = Tables::read(alloc, image.metadata(), image.metadata_place())?;
+        Ok(Assembly { image, tables })
+    }
+
+    /// The place in the file of the row that a token names (II.22). None where there is no such row.
+    pub fn row_place(&self, token: u32) -> Option<u32>
+        ensures { result ≡ place_by self.now (metadata_of self.now) (token / 16777216) (token % 16777216) }
+    {
+        let base = self.image.metadata_place();
+        self.tables
+            .row_offset(base, (token / 0x100_0000) as u8, token % 0x100_0000)
+    }
+}
+
+/// The image of a file.
+#[tactic(auto, using(cli_format::proofs::Faults::refused_by, crate::proofs::Demands::mapped))]
+fn open_image(bytes: &[u8]) -> Result<Image<'_>, TablesError>
+    requires { length bytes.now < 2 ^ 32 }
+    ensures { Read result (map as_demand (image_demands bytes.now)) bytes.now }
+{
+    match Image::read(bytes) {
+        Ok(image) => Ok(image),
+        Err(bad) => Err(TablesError::Bad(bad)),
+    }
+}

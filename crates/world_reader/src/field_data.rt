@@ -1,0 +1,149 @@
+//! The rows of FieldRVA (II.22.18), with the bytes that their addresses name.
+
+ghost use Rattle.std.specs.Prelude.{◌≡◌, IfOk};
+ghost use Rattle.std.specs.Option.{option_map, option_and_then};
+ghost use Rattle.cli_format.specs.Image.{metadata_of, image_at};
+ghost use Rattle.record_format.specs.Cells.{all_rows};
+ghost use Rattle.record_format.specs.Parts as parts;
+ghost use Rattle.record_format.specs.Others as others;
+ghost use Rattle.world_reader.specs.Cells.{HasRow};
+
+use crate::assembly::Assembly;
+use crate::layouts::Layouts;
+use il_base::{NoMemory, Seq, Sig, Text};
+use std::alloc::Global;
+use world_model::{BadKind, FieldRow, FieldRvaRow, Known, index_in};
+
+/// What is bad where a field's bytes have no size, or aren't there.
+const FIELD_DATA: u8 = 15;
+
+/// The size in bytes of a primitive, by its element type (II.23.1.16).
+#[tactic(auto, unfolding(record_format::specs::Parts::primitive_size))]
+fn primitive_size(kind: u8) -> Option<u32>
+    ensures { result ≡ parts.primitive_size kind }
+{
+    if kind == 2 || kind == 4 || kind == 5 {
+        Some(1)
+    } else if kind == 3 || kind == 6 || kind == 7 {
+        Some(2)
+    } else if kind == 8 || kind == 9 {
+        Some(4)
+    } else if kind == 10 || kind == 11 {
+        Some(8)
+    } else {
+        None
+    }
+}
+
+/// The size in bytes of a type.
+fn size_of_type(layouts: &Layouts, sig: &Sig) -> Option<u32>
+    ensures { result ≡ parts.size_of_type layouts.now sig.now }
+{
+    match sig {
+        Sig::Prim(kind) => primitive_size(*kind),
+        Sig::Named { value: _, token } => layouts.size(*token),
+        Sig::Array(_) => None,
+        Sig::ByRef(_) => None,
+        Sig::Inst {
+            value: _,
+            token: _,
+            args: _,
+        } => None,
+        Sig::Var(_) => None,
+        Sig::MVar(_) => None,
+        Sig::Mod {
+            required: _,
+            token: _,
+            inner: _,
+        } => None,
+        Sig::Pinned(_) => None,
+    }
+}
+
+/// The size in bytes of a field.
+fn size_of_field(layouts: &Layouts, field: &FieldRow) -> Option<u32>
+    ensures { result ≡ parts.size_of_field layouts.now field.now }
+{
+    match &field.signature {
+        Known::Good(sig) => size_of_type(layouts, sig),
+        Known::Bad(_) => None,
+    }
+}
+
+/// The size in bytes of a field by its token.
+fn size_by(layouts: &Layouts, fields: &[FieldRow], token: u32) -> Option<u32>
+    ensures { result ≡ parts.size_by layouts.now fields.now token }
+{
+    match index_in(0x04, token) {
+        None => None,
+        Some(at) => match fields.get(at as usize) {
+            None => None,
+            Some(field) => size_of_field(layouts, field),
+        },
+    }
+}
+
+/// As many bytes from an address.
+fn bytes_at<'a>(file: &Assembly<'a>, rva: u32, size: Option<u32>) -> Option<&'a [u8]>
+    ensures { option_map (λ b. b.now) result ≡ option_and_then (image_at file.now rva) size }
+{
+    match size {
+        None => None,
+        Some(size) => file.image.at(rva, size),
+    }
+}
+
+/// A copy of as many bytes from an address.
+#[tactic(auto, unfolding(record_format::specs::Parts::bytes_by))]
+fn bytes_by(
+    alloc: Global,
+    file: &Assembly,
+    rva: u32,
+    size: Option<u32>,
+) -> Result<Known<Text>, NoMemory>
+    ensures { IfOk result (λ b. b ≡ parts.bytes_by file.now rva size) }
+{
+    match bytes_at(file, rva, size) {
+        None => Ok(Known::Bad(BadKind::Outside(FIELD_DATA))),
+        Some(bytes) => {
+            let bytes = Seq::from_slice(alloc, bytes)?;
+            Ok(Known::Good(bytes))
+        }
+    }
+}
+
+/// FieldRVA (II.22.18), by the rows of ClassLayout and of Field.
+#[tactic(auto, unfolding(record_format::specs::Others::field_rva_row, cli_format::specs::Columns::columns_of, cli_format::specs::Columns::schema))]
+fn field_rva_row(
+    alloc: Global,
+    file: &Assembly,
+    layouts: &Layouts,
+    fields: &[FieldRow],
+    row: u32,
+) -> Result<FieldRvaRow, NoMemory>
+    requires { HasRow (metadata_of file.now) 0x1d row }
+    ensures { IfOk result (λ r. r ≡ others.field_rva_row file.now (metadata_of file.now) layouts.now fields.now row) }
+{
+    let rva = file.word(0x1d, 0, row);
+    let field = file.token(0x1d, 1, row);
+    let bytes = bytes_by(alloc, file, rva, size_by(layouts, fields, field))?;
+    Ok(FieldRvaRow { rva, field, bytes })
+}
+
+/// The rows of FieldRVA.
+#[tactic(auto, using(crate::proofs::Rows::rowing))]
+pub fn field_rva_rows(
+    alloc: Global,
+    file: &Assembly,
+    layouts: &Layouts,
+    fields: &[FieldRow],
+) -> Result<Seq<FieldRvaRow>, NoMemory>
+    ensures { IfOk result (λ rows. rows ≡ all_rows (metadata_of file.now) 0x1d (others.field_rva_row file.now (metadata_of file.now) layouts.now fields.now)) }
+{
+    let mut rows = Seq::new(alloc);
+    for i in 0..file.count(0x1d) {
+        let row = field_rva_row(alloc, file, layouts, fields, i + 1)?;
+        rows.push(row)?;
+    }
+    Ok(rows)
+}

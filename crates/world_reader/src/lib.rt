@@ -1,0 +1,25 @@
+//! The record of any assembly: the bytes of a file go in, and its record comes out, or the refusal of the first demand that
+//! the file doesn't meet. Which record that is, `record_format` defines.
+#![tactic(auto)]
+
+mod assemblies;
+mod assembly;
+mod bodies;
+mod cells;
+mod descriptor;
+mod extras;
+mod field_data;
+mod layouts;
+mod members;
+mod parts;
+mod record;
+mod row;
+mod tables;
+mod types;
+mod user_texts;
+
+pub use cli_format::TablesError as RecordError;
+pub use record::{read_record, row_place};
+
+#[cfg(test)]
+mod tests;
