@@ -1,0 +1,71 @@
+-- Cells that name items, and the numbers that stand for them once the heaps are made.
+use Rattle.std.specs.Prelude.{ℕ, ◌+◌, ◌*◌, ◌/◌, ◌%◌, ◌^◌, List, [], ◌∷◌, map, position, unwrap_or, ◌==◌, if◌then◌else◌}
+use Rattle.std.specs.List.{flat_map}
+use Rattle.cli_format.specs.declared.column.CodedIndex.{CodedIndex}
+use Rattle.cli_format.specs.Coded.{targets_of, tag_bits_of, first_tag_of}
+use Rattle.file_layout.specs.Interning.{each_once}
+use Rattle.file_layout.specs.Heaps.{string_place, blob_place, guid_number}
+use Rattle.file_layout.specs.TableStream.{Tables}
+
+pub data Cell : Type 0 where
+  number : ℕ → Cell
+  -- items of `#Strings`, `#Blob` and `#GUID`
+  text : List ℕ → Cell
+  blob : List ℕ → Cell
+  guid : List ℕ → Cell
+
+-- tables by their numbers, from 0; a row is its cells
+abbrev pub CellTables : Type 0
+CellTables = List (List (List Cell))
+
+-- ---- coded indices (II.24.2.6)
+
+-- the tag that names a table
+abbrev pub tag_of : CodedIndex → ℕ → ℕ
+tag_of index t = first_tag_of index + unwrap_or (position (λ u. u == t) (targets_of index)) 0
+
+-- the row above the tag; 0 for no token
+unfoldable pub coded_of : CodedIndex → ℕ → ℕ
+coded_of index token = if token == 0 then 0 else token % 16777216 * 2 ^ tag_bits_of index + tag_of index (token / 16777216)
+
+-- ---- the items that cells name, but for the empty ones
+
+abbrev pub texts_of_cell : Cell → List (List ℕ)
+texts_of_cell (text (c ∷ cs)) = (c ∷ cs) ∷ []
+texts_of_cell _ = []
+
+abbrev pub blobs_of_cell : Cell → List (List ℕ)
+blobs_of_cell (blob (b ∷ bs)) = (b ∷ bs) ∷ []
+blobs_of_cell _ = []
+
+abbrev pub guids_of_cell : Cell → List (List ℕ)
+guids_of_cell (guid (b ∷ bs)) = (b ∷ bs) ∷ []
+guids_of_cell _ = []
+
+-- those of all cells, in order of table, row and column
+abbrev pub in_all : (Cell → List (List ℕ)) → CellTables → List (List ℕ)
+in_all items tables = flat_map (λ rows. flat_map (λ row. flat_map items row) rows) tables
+
+-- ---- the items of the heaps, each once
+
+pub record Pools : Type 0 where
+  pub texts : List (List ℕ)
+  pub blobs : List (List ℕ)
+  pub guids : List (List ℕ)
+
+unfoldable pub pools_of : CellTables → Pools
+pools_of tables = record {
+  texts = each_once (in_all texts_of_cell tables);
+  blobs = each_once (in_all blobs_of_cell tables);
+  guids = each_once (in_all guids_of_cell tables);
+}
+
+-- the number that stands in a cell
+abbrev pub number_of : Pools → Cell → ℕ
+number_of pools (number n) = n
+number_of pools (text t) = string_place pools.texts t
+number_of pools (blob b) = blob_place pools.blobs b
+number_of pools (guid g) = guid_number pools.guids g
+
+unfoldable pub numbers_of : Pools → CellTables → Tables
+numbers_of pools tables = map (λ rows. map (λ row. map (number_of pools) row) rows) tables

@@ -1,0 +1,10 @@
+pub mod Bytes
+pub mod Interning
+pub mod Heaps
+pub mod TableStream
+pub mod Metadata
+pub mod Image
+pub mod Cells
+pub mod Rows
+pub mod Bodies
+pub mod Laid

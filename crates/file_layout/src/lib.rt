@@ -1,0 +1,3 @@
+//! The bytes of a file that is written, as definitions in `specs/`: a record goes in, and the one file that is laid out for
+//! it comes out (II.22 to II.25). Nothing here reads or writes; the public functions without a body are laws.
+#![tactic(auto)]

@@ -1,0 +1,4 @@
+pub mod Numbering
+pub mod References
+pub mod Moved
+pub mod Restricted

@@ -1,0 +1,13 @@
+ghost use Rattle.file_layout.specs.Image.{Parts, image_bytes};
+ghost use Rattle.file_layout.specs.Metadata.{Streams, metadata_bytes};
+ghost use Rattle.written_image.specs.Written.{CanLay, ReadsBack, CanStream, StreamsReadBack};
+
+/// An image that can be laid out meets the demands on an image, and reads back as what it was made of (II.25).
+pub fn images()
+    ensures { (p : Parts) → CanLay p → ReadsBack p (image_bytes p) }
+{}
+
+/// Metadata that can be laid out meets the demands on its root and streams, and reads back as its streams (II.24.2).
+pub fn metadata()
+    ensures { (s : Streams) → CanStream s → StreamsReadBack s (metadata_bytes s) }
+{}

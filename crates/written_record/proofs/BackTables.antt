@@ -1,0 +1,83 @@
+-- The tables of cells can be laid out, and their cells are read back.
+use Rattle.std.proofs.Common.{◌≡◌, ℕ, suc, ◌-◌, ◌^◌, ◌<◌, ◌≤◌, true, false, Bool, cond, List, [], ◌∷◌, map, length, get_or, Some, inl, inr, refl, ap, ◌∙◌, arith}
+use Rattle.std.specs.Prelude.{slice_get, nat_lt}
+use Rattle.std.proofs.lemmas.List.{length-map}
+use Rattle.std.proofs.Math.ListN.{get_or-map}
+use Rattle.cli_format.specs.declared.column.Column.{Column}
+use Rattle.cli_format.specs.declared.column.Column.TheVariants.{U8, U16, U32, Text, Blob, Guid, Run, Coded, CodedOrNone}
+use Rattle.cli_format.specs.Coded.{targets_of, tag_bits_of}
+use Rattle.cli_format.specs.Columns.{columns_of}
+use Rattle.file_layout.specs.Cells.{Cell, CellTables, Pools, number, text, blob, guid, pools_of, number_of, numbers_of}
+use Rattle.file_layout.specs.Laid.{sizes_of}
+use Rattle.file_layout.specs.TableStream as laid
+use Rattle.file_layout.specs.TableStream.{Row, Tables, rows_in, fewer}
+use Rattle.written_tables.specs.Written.{FitsRow, CanTables, Once}
+use Rattle.written_record.proofs.BackLists.{of_mapped}
+use Rattle.written_record.proofs.BackCells.{count, FitsCell, FitsCells, coded_fits}
+use Rattle.written_record.proofs.BackPools.{Fitting, Pooled, pooled, Heaped, known_sizes}
+
+-- ---- the tables' numbers
+
+abbrev pub row_numbers : Pools → List Cell → Row
+row_numbers pools row = map (number_of pools) row
+
+pub table_numbers : (pools : Pools) (cells : CellTables) (t : ℕ) → get_or (numbers_of pools cells) t [] ≡ map (row_numbers pools) (get_or cells t [])
+unfolding numbers_of
+table_numbers pools cells t = get_or-map (λ rows. map (row_numbers pools) rows) cells t []
+
+pub same_count : (pools : Pools) (cells : CellTables) (t : ℕ) → rows_in (numbers_of pools cells) t ≡ count cells t
+same_count pools cells t = ap length (table_numbers pools cells t) ∙ length-map (get_or cells t []) (row_numbers pools)
+
+one_low : (b : Bool) → 1 < 256 ^ cond b 2 4
+one_low true = omega arith
+one_low false = omega arith
+
+zero_low : (b : Bool) → 0 < 256 ^ cond b 2 4
+zero_low true = omega arith
+zero_low false = omega arith
+
+module _ (cells : CellTables) (fit : Fitting cells) (h : Heaped (pools_of cells)) where
+  abbrev pools : Pools
+  pools = pools_of cells
+
+  abbrev numbers : Tables
+  numbers = numbers_of pools cells
+
+  few_rows : (t : ℕ) → count cells t ≤ 2 ^ 20
+  few_rows t = (fit.all t).few
+
+  number_low : (c : Column) (x : Cell) → FitsCell cells c x → Pooled pools x → number_of pools x < 256 ^ laid.width (sizes_of pools) numbers c
+  unfolding laid.width
+  number_low U8 (number n) f p = omega (arith, f)
+  number_low U16 (number n) f p = omega (arith, f)
+  number_low U32 (number n) f p = omega (arith, f)
+  number_low Text (text t) f p = h.text_low t p
+  number_low Blob (blob b) f p = h.blob_low b p
+  number_low Guid (guid g) f p = h.guid_low g p
+  number_low (Run t) (number n) f p = rw f (one_low (nat_lt (rows_in numbers t) 0x10000))
+  number_low (Coded index) (number n) f p = coded_fits cells numbers index n (same_count pools cells) few_rows f
+  number_low (CodedOrNone index) (number n) (inl e) p = rw e (zero_low (fewer numbers (2 ^ (16 - tag_bits_of index)) (targets_of index)))
+  number_low (CodedOrNone index) (number n) (inr f) p = coded_fits cells numbers index n (same_count pools cells) few_rows f
+  number_low c x f p = absurd f
+
+  row_fits : (cs : List Column) (xs : List Cell) → FitsCells cells cs xs → ((k : ℕ) (x : Cell) → slice_get xs k ≡ Some x → Pooled pools x) → FitsRow (sizes_of pools) numbers cs (row_numbers pools xs)
+  unfolding FitsRow
+  row_fits [] [] f p = tt
+  row_fits [] (x ∷ xs) f p = absurd f
+  row_fits (c ∷ cs) [] f p = absurd f
+  row_fits (c ∷ cs) (x ∷ xs) f p = (number_low c x f.0 (p 0 x refl), row_fits cs xs f.1 (λ k y e. p (suc k) y e))
+
+  pub tables_fit : ((xs : List (List ℕ)) → Once xs) → CanTables (sizes_of pools) numbers
+  unfolding numbers_of
+  tables_fit once = record {
+    known_sizes = known_sizes pools;
+    count = length-map cells (λ rows. map (row_numbers pools) rows) ∙ fit.tables;
+    known = λ t e. table_numbers pools cells t ∙ ap (λ rows. map (row_numbers pools) rows) ((fit.all t).known e);
+    few = λ t. omega (arith, same_count pools cells t, few_rows t);
+    modules = same_count pools cells 0x00 ∙ fit.modules;
+    assemblies = same_count pools cells 0x20 ∙ fit.assemblies;
+    types = omega (arith, same_count pools cells 0x02, fit.types);
+    rows = λ t r row e.
+        let found = of_mapped (row_numbers pools) (get_or cells t []) r row (rw (table_numbers pools cells t) at e) in
+        rw (← found.2) (row_fits (columns_of t) found.0 ((fit.all t).fits r found.0 found.1) (λ k x f. pooled once cells t r k found.0 x found.1 f));
+  }

@@ -1,0 +1,54 @@
+ghost use Rattle.std.specs.Prelude.{◌≡◌, ◌≤◌, ◌^◌, ℕ, List, Bool, IsTrue};
+ghost use Rattle.blob_grammar.specs.Laws.{AreBytes};
+ghost use Rattle.world_model.specs.declared.record.AsmRec.{AsmRec};
+ghost use Rattle.record_format.specs.Record.{HasRecord};
+ghost use Rattle.file_layout.specs.Laid.{laid, laid_length};
+ghost use Rattle.world_model.specs.Thin.{is_thin};
+ghost use Rattle.restriction.specs.Restricted.{restricted};
+ghost use Rattle.agreement.specs.Premises.{CanRestrict};
+ghost use Rattle.written_record.specs.Fits.{Fits};
+ghost use Rattle.written_record.specs.LaidOut.{LaidOut};
+
+use agreement::laws::{calls_have_form, settles};
+use blob_grammar::laws::{locals, methods, values};
+use body_grammar::written_body_is_read;
+use written_image::laws::{images, metadata};
+use written_tables::laws::{each_once, heaps, tables};
+
+/// The rows of a file's record, where it is thin, have what a file can hold.
+pub fn fits()
+    ensures { (bs : List ℕ) (rec : AsmRec) → AreBytes bs → HasRecord bs rec → IsTrue (is_thin rec) → Fits rec }
+{}
+
+/// What is left of such a record stands as the layout has it.
+pub fn stands()
+    ensures { (rec : AsmRec) (flags : List Bool) → Fits rec → CanRestrict rec flags → LaidOut (restricted rec flags) }
+{
+    calls_have_form();
+    settles();
+}
+
+/// A record that stands as the layout has it is that of the file that it is laid out in, where that has at most 2^28 bytes.
+pub fn reads_back()
+    ensures { (rec : AsmRec) → LaidOut rec → laid_length rec ≤ 2 ^ 28 → HasRecord (laid rec) rec }
+{
+    images();
+    metadata();
+    tables();
+    heaps();
+    each_once();
+    methods();
+    locals();
+    values();
+    written_body_is_read();
+}
+
+/// Of a file's record that can be restricted, what is left is laid out in a file that has what is left as its record.
+pub fn restricted_record()
+    ensures { (bs : List ℕ) (rec : AsmRec) (flags : List Bool) → AreBytes bs → HasRecord bs rec → CanRestrict rec flags
+        → laid_length (restricted rec flags) ≤ 2 ^ 28 → HasRecord (laid (restricted rec flags)) (restricted rec flags) }
+{
+    fits();
+    stands();
+    reads_back();
+}
