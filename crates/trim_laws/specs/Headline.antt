@@ -1,6 +1,6 @@
 -- What a trim keeps of a program: the file that is written loads as what is left, which runs as the whole and has nothing to
 -- leave out a second time.
-use Rattle.std.specs.Prelude.{ℕ, Bool, List}
+use Rattle.std.specs.Prelude.{Bool, List}
 use Rattle.world_model.specs.declared.record.AsmRec.{AsmRec}
 use Rattle.record_format.specs.Record.{HasRecord}
 use Rattle.file_layout.specs.Laid.{laid}
