@@ -28,7 +28,7 @@ use Rattle.written_record.proofs.BackPools.{Fitting, Small, Heaped, heaps_hold}
 use Rattle.written_record.proofs.BackTables.{tables_fit}
 use Rattle.written_record.proofs.BackReads.{Reads, reads, tables_read, content_held}
 use Rattle.written_record.proofs.BackLayout.{fitting}
-use Rattle.written_record.proofs.BackSizes.{can_lay, can_stream, code_small, pools_small, users_small}
+use Rattle.written_record.proofs.BackSizes.{can_lay, can_stream, code_small, pools_small}
 use Rattle.written_record.proofs.BackBodies.{bodies_read}
 use Rattle.written_record.proofs.BackRecord.{FileReads, record_read}
 
@@ -113,7 +113,11 @@ module _ (lower : Lower) (cells : CellTables) (users : List (List ℕ)) (fit : F
 
 -- ---- the file
 
-module _ (lower : Lower) (rec : AsmRec) (h : LaidOut rec) (small : laid_length rec ≤ 2 ^ 28) where
+users_small : (rec : AsmRec) → length (streams_of rec).users ≤ 2 ^ 24 → length (users_heap (map (λ t. t.text) rec.user)) ≤ 2 ^ 24
+unfolding streams_of streams_with
+users_small rec small = small
+
+module _ (lower : Lower) (rec : AsmRec) (h : LaidOut rec) (small : laid_length rec ≤ 2 ^ 28) (few_texts : length (streams_of rec).users ≤ 2 ^ 24) where
   image_back : ReadsBack (parts_of rec) (laid_bytes rec)
   unfolding laid_bytes
   image_back = lower.images (parts_of rec) (can_lay rec h small)
@@ -149,5 +153,5 @@ module _ (lower : Lower) (rec : AsmRec) (h : LaidOut rec) (small : laid_length r
   reads_back_by = record {
     meets = record_held (laid_bytes rec) image_back.demands
         (metadata_held lower (cells_of rec) (map (λ t. t.text) rec.user) (fitting rec h) (pools_small rec h small) (metadata_of (laid_bytes rec)) streams_back (metadata_place_of (laid_bytes rec)));
-    is = sym (record_read lower (laid_bytes rec) rec h bits_back (users_small rec h small));
+    is = sym (record_read lower (laid_bytes rec) rec h bits_back (users_small rec few_texts));
   }

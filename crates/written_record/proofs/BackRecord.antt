@@ -34,7 +34,7 @@ pub record FileReads (bs : List ℕ) (rec : AsmRec) : Type 0 where
   pub users : heap (metadata_of bs) UserStrings ≡ users_heap (map (λ t. t.text) rec.user)
   pub bodies : (k : ℕ) (row : MethodDefRow) → slice_get rec.method_def k ≡ Some row → BodyRead bs row
 
-module _ (lower : Lower) (bs : List ℕ) (rec : AsmRec) (h : LaidOut rec) (reads : FileReads bs rec) (small : length (users_heap (map (λ t. t.text) rec.user)) ≤ 2 ^ 28) where
+module _ (lower : Lower) (bs : List ℕ) (rec : AsmRec) (h : LaidOut rec) (reads : FileReads bs rec) (small : length (users_heap (map (λ t. t.text) rec.user)) ≤ 2 ^ 24) where
   abbrev m : List ℕ
   m = metadata_of bs
 

@@ -2,7 +2,6 @@
 use Rattle.std.proofs.Common.{◌≡◌, ℕ, ◌+◌, ◌-◌, ◌^◌, ◌≤◌, List, [], ◌++◌, map, length, arith, length-append}
 use Rattle.world_model.specs.declared.record.AsmRec.{AsmRec}
 use Rattle.file_layout.specs.Bytes.{aligned}
-use Rattle.file_layout.specs.Heaps.{users_heap}
 use Rattle.file_layout.specs.Metadata.{Streams, metadata_bytes, root_bytes, stream_headers}
 use Rattle.file_layout.specs.Image.{Parts, image_length, names_end}
 use Rattle.file_layout.specs.Cells.{pools_of}
@@ -22,7 +21,6 @@ parts_within p =
 
 pub record StreamsWithin (s : Streams) : Type 0 where
   pub strings : length s.strings ≤ length (metadata_bytes s)
-  pub users : length s.users ≤ length (metadata_bytes s)
   pub guids : length s.guids ≤ length (metadata_bytes s)
   pub blobs : length s.blobs ≤ length (metadata_bytes s)
 
@@ -33,7 +31,7 @@ pub streams_within : (s : Streams) → StreamsWithin s
 unfolding metadata_bytes
 streams_within s =
     let whole = joined root_bytes (stream_headers s) s.tables s.strings s.users s.guids s.blobs in
-    record { strings = omega arith; users = omega arith; guids = omega arith; blobs = omega arith }
+    record { strings = omega arith; guids = omega arith; blobs = omega arith }
 
 module _ (rec : AsmRec) (h : LaidOut rec) (small : laid_length rec ≤ 2 ^ 28) where
   pub can_lay : CanLay (parts_of rec)
@@ -62,7 +60,3 @@ module _ (rec : AsmRec) (h : LaidOut rec) (small : laid_length rec ≤ 2 ^ 28) w
   pools_small =
       let within = streams_within (streams_of rec) in
       record { strings = omega (arith, metadata_small, within.strings); blobs = omega (arith, metadata_small, within.blobs); guids = omega (arith, metadata_small, within.guids) }
-
-  pub users_small : length (users_heap (map (λ t. t.text) rec.user)) ≤ 2 ^ 28
-  unfolding streams_of streams_with
-  users_small = let within = streams_within (streams_of rec) in omega (arith, metadata_small, within.users)

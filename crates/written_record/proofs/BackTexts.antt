@@ -12,7 +12,7 @@ use Rattle.world_model.specs.declared.record.UserText.{UserText}
 use Rattle.file_layout.specs.Bytes.{zeros, aligned}
 use Rattle.file_layout.specs.Interning.{place_among}
 use Rattle.file_layout.specs.Heaps.{users_heap, user_item, user_place, units_bytes, last_byte}
-use Rattle.record_format.specs.Texts.{is_loaded, units_of, user_token, user_text_at, text_if_loaded, and_text, texts_below, all_texts}
+use Rattle.record_format.specs.Texts.{is_loaded, units_of, user_token, user_text_at, text_if_loaded, and_text, texts_below, text_offsets, all_texts}
 use Rattle.written_tables.specs.Written.{IsIn, UsersReadBack}
 use Rattle.written_record.specs.LaidOut.{LaidOut}
 use Rattle.written_record.proofs.BackLists.{mapped, of_mapped, item_within}
@@ -132,7 +132,7 @@ pub items_within : (texts : List (List ℕ)) → 1 + length (flat_map user_item 
 unfolding users_heap
 items_within texts = omega (arith, length-append (flat_map user_item texts) (zeros (aligned 4 (length (0 ∷ flat_map user_item texts)) - length (0 ∷ flat_map user_item texts))))
 
-module _ (rec : AsmRec) (h : LaidOut rec) (reads : UsersReadBack (map (λ t. t.text) rec.user)) (small : length (users_heap (map (λ t. t.text) rec.user)) ≤ 2 ^ 28) where
+module _ (rec : AsmRec) (h : LaidOut rec) (reads : UsersReadBack (map (λ t. t.text) rec.user)) (small : length (users_heap (map (λ t. t.text) rec.user)) ≤ 2 ^ 24) where
   abbrev texts : List (List ℕ)
   texts = map (λ t. t.text) rec.user
 
@@ -183,4 +183,4 @@ module _ (rec : AsmRec) (h : LaidOut rec) (reads : UsersReadBack (map (λ t. t.t
   below (suc n) = ap (λ (ts : List UserText). and_text ts (text_if_loaded (users_heap texts) rec.method_def n)) (below n) ∙ step_by n (is_loaded rec.method_def (user_token n)) refl
 
   pub texts_read : all_texts (users_heap texts) rec.method_def ≡ rec.user
-  texts_read = below (length (users_heap texts)) ∙ upto_all rec.user 1 (length (users_heap texts)) (omega (arith, items_within texts, ap length (flat_same rec.user)))
+  texts_read = below (text_offsets (users_heap texts)) ∙ upto_all rec.user 1 (text_offsets (users_heap texts)) (omega (arith, small, items_within texts, ap length (flat_same rec.user)))

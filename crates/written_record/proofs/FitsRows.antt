@@ -16,6 +16,7 @@ use Rattle.world_model.specs.Thin.{is_thin}
 use Rattle.record_format.specs.Cells.{number_in, text_in, blob_in, guid_in, token_in, count_of, all_rows}
 use Rattle.record_format.specs.Types.{module_row, type_ref_row, type_def_row, type_spec_row, assembly_row, assembly_ref_row}
 use Rattle.record_format.specs.Members.{method_def_row, stand_alone_sig_row}
+use Rattle.record_format.specs.Texts.{text_offsets}
 use Rattle.record_format.specs.Record.{record_demands, methods_of, record_at, HasRecord}
 use Rattle.written_tables.specs.Written.{IsText}
 use Rattle.written_record.specs.Fits.{IsGuid, Each, FitsModule, FitsTypeDef, FitsMethodDef, FitsLocals, FitsAssembly, FitsAssemblyRef, Fits}
@@ -145,7 +146,7 @@ module _ (bs : List ℕ) (bytes : AreBytes bs) (meets : first_fault (record_dema
     locals = each_row FitsLocals (stand_alone_sig_row m) (rows_of ts 0x11) (λ k h. locals_fit (suc k));
     assemblies = each_row FitsAssembly (assembly_row m) (rows_of ts 0x20) (λ k h. assembly_fits (suc k));
     assembly_refs = each_row FitsAssemblyRef (assembly_ref_row m) (rows_of ts 0x23) (λ k h. assembly_ref_fits (suc k));
-    texts = texts_fit (heap m UserStrings) (methods_of bs) (heap_bytes m UserStrings m_bytes) (length (heap m UserStrings));
+    texts = texts_fit (heap m UserStrings) (methods_of bs) (heap_bytes m UserStrings m_bytes) (text_offsets (heap m UserStrings));
   }
 
 specs_read : (bs : List ℕ) → length (record_at bs).type_spec ≡ rows_of (tables_stream (metadata_of bs)) 0x1b

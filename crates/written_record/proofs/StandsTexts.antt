@@ -88,6 +88,10 @@ text_fits rec token units each e =
 from_in : (xs : List (List ℕ)) (x : List ℕ) → In x xs → IsIn xs x
 from_in xs x h = let p : Place xs x = place_in xs x h in (p.index, p.is)
 
+pub same_texts : (rec : AsmRec) (flags : List Bool) (xs : List (List ℕ)) → map (λ t. t.text) (map (new_text rec flags) xs) ≡ xs
+same_texts rec flags [] = refl
+same_texts rec flags (x ∷ xs) = ap (λ (ys : List (List ℕ)). x ∷ ys) (same_texts rec flags xs)
+
 module _ (rec : AsmRec) (flags : List Bool) (small : length (users_heap (texts_met rec flags)) ≤ 2 ^ 28) where
   -- ---- texts that are met
 
@@ -118,12 +122,8 @@ module _ (rec : AsmRec) (flags : List Bool) (small : length (users_heap (texts_m
   token_is : (units : List ℕ) → In units (texts_met rec flags) → text_token rec flags units ≡ 0x70000000 + user_place (texts_met rec flags) units
   token_is units h = let lt : user_place (texts_met rec flags) units < length (users_heap (texts_met rec flags)) = user_place_within (texts_met rec flags) units h in omega arith
 
-  same_texts : (xs : List (List ℕ)) → map (λ t. t.text) (map (new_text rec flags) xs) ≡ xs
-  same_texts [] = refl
-  same_texts (x ∷ xs) = ap (λ (ys : List (List ℕ)). x ∷ ys) (same_texts xs)
-
   pub tokens_are : Each (λ t. t.token ≡ 0x70000000 + user_place (map (λ u. u.text) (map (new_text rec flags) (texts_met rec flags))) t.text) (map (new_text rec flags) (texts_met rec flags))
-  tokens_are = rw (same_texts (texts_met rec flags))
+  tokens_are = rw (same_texts rec flags (texts_met rec flags))
       (each_map (λ t. t.token ≡ 0x70000000 + user_place (texts_met rec flags) t.text) (new_text rec flags) (texts_met rec flags) (λ units h. token_is units h))
 
   one_place : (j k : ℕ) (x : List ℕ) → slice_get (texts_met rec flags) j ≡ Some x → slice_get (texts_met rec flags) k ≡ Some x → j ≡ k

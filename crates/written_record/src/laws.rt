@@ -1,8 +1,8 @@
-ghost use Rattle.std.specs.Prelude.{◌≡◌, ◌≤◌, ◌^◌, ℕ, List, Bool, IsTrue};
+ghost use Rattle.std.specs.Prelude.{◌≡◌, ◌≤◌, ◌^◌, ℕ, List, Bool, length, IsTrue};
 ghost use Rattle.blob_grammar.specs.Laws.{AreBytes};
 ghost use Rattle.world_model.specs.declared.record.AsmRec.{AsmRec};
 ghost use Rattle.record_format.specs.Record.{HasRecord};
-ghost use Rattle.file_layout.specs.Laid.{laid, laid_length};
+ghost use Rattle.file_layout.specs.Laid.{streams_of, laid, laid_length};
 ghost use Rattle.world_model.specs.Thin.{is_thin};
 ghost use Rattle.restriction.specs.Restricted.{restricted};
 ghost use Rattle.agreement.specs.Premises.{CanRestrict};
@@ -28,9 +28,10 @@ pub fn stands()
     settles();
 }
 
-/// A record that stands as the layout has it is that of the file that it is laid out in, where that has at most 2^28 bytes.
+/// A record that stands as the layout has it is that of the file that it is laid out in, where that has at most 2^28 bytes, and
+/// `#US` at most 2^24: a token of a text has 24 bits for its place (III.4.16).
 pub fn reads_back()
-    ensures { (rec : AsmRec) → LaidOut rec → laid_length rec ≤ 2 ^ 28 → HasRecord (laid rec) rec }
+    ensures { (rec : AsmRec) → LaidOut rec → laid_length rec ≤ 2 ^ 28 → length (streams_of rec).users ≤ 2 ^ 24 → HasRecord (laid rec) rec }
 {
     images();
     metadata();
@@ -43,10 +44,12 @@ pub fn reads_back()
     written_body_is_read();
 }
 
-/// Of a file's record that can be restricted, what is left is laid out in a file that has what is left as its record.
+/// Of a file's record that can be restricted, what is left is laid out in a file that has what is left as its record, where
+/// that file and its `#US` have no more bytes than that.
 pub fn restricted_record()
     ensures { (bs : List ℕ) (rec : AsmRec) (flags : List Bool) → AreBytes bs → HasRecord bs rec → CanRestrict rec flags
-        → laid_length (restricted rec flags) ≤ 2 ^ 28 → HasRecord (laid (restricted rec flags)) (restricted rec flags) }
+        → laid_length (restricted rec flags) ≤ 2 ^ 28 → length (streams_of (restricted rec flags)).users ≤ 2 ^ 24
+        → HasRecord (laid (restricted rec flags)) (restricted rec flags) }
 {
     fits();
     stands();

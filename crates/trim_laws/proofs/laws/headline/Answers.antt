@@ -1,0 +1,23 @@
+-- The parts, where what is left of a file's record is short enough that the record can be restricted.
+use Rattle.std.proofs.Common.{arith}
+use Rattle.agreement.specs.Premises.{CanRestrict, CallsHaveForm}
+use Rattle.written_record.specs.Fits.{Fits}
+use Rattle.trim_laws.proofs.Limits.{few_methods, texts_left}
+use Rattle.trim_laws.proofs.laws.headline.Goals as goal
+
+pub returns : goal.returns
+returns c = λ bs rec flags bytes has thin marking good few texts.
+    let fits : Fits rec = c.fits.ensures bs rec bytes has thin in
+    let formed : CallsHaveForm rec = c.calls_have_form.ensures rec (λ m row e. (fits.methods m row e).body) in
+    let can : CanRestrict rec flags = record {
+      thin = thin;
+      few_methods = few_methods bs rec has;
+      marking = marking;
+      good = good;
+      small = omega (arith, texts, texts_left rec flags);
+    } in
+    record {
+      loads = c.restricted_record.ensures bs rec flags bytes has can (omega (arith, few)) (omega (arith, texts));
+      runs = c.runs_alike.ensures rec flags can;
+      settled = c.settles.ensures rec flags can formed;
+    }
