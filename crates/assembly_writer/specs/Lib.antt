@@ -1,0 +1,6 @@
+pub mod Views
+pub mod Cells
+pub mod Places
+pub mod Lengths
+pub mod CanWrite
+pub mod Gathered
