@@ -4,3 +4,6 @@ pub mod Columns
 pub mod Items
 pub mod Gathering
 pub mod Methods
+pub mod Puts
+pub mod Starts
+pub mod Whole

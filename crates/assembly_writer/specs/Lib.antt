@@ -4,3 +4,5 @@ pub mod Places
 pub mod Lengths
 pub mod CanWrite
 pub mod Gathered
+pub mod Numbers
+pub mod Written

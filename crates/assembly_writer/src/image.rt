@@ -14,6 +14,7 @@ use il_base::NoMemory;
 use std::alloc::Global;
 
 /// What an image is made of.
+#[derive(Drop)]
 pub struct Parts<'a> {
     /// The flags of the CLI header (II.25.3.3.1).
     pub bits: u32,

@@ -10,6 +10,7 @@ use il_base::NoMemory;
 use std::alloc::Global;
 
 /// The streams of the metadata.
+#[derive(Drop)]
 pub struct Streams<'a> {
     /// `#~`
     pub tables: &'a [u8],

@@ -1,6 +1,6 @@
 //! The items of a heap, each once.
 
-ghost use Rattle.std.specs.Prelude.{◌≡◌, ℕ, List, [], ◌≤◌, length, map, OnOk};
+ghost use Rattle.std.specs.Prelude.{◌≡◌, ℕ, List, [], ◌<◌, ◌^◌, length, map, OnOk};
 ghost use Rattle.file_layout.specs.Interning.{added};
 ghost use Rattle.assembly_writer.specs.Places.{index_among};
 
@@ -46,11 +46,13 @@ impl Pool {
 
     /// Which of the items this is, counted from 0; how many there are, where it isn't among them.
     pub fn index(&self, item: &[u8]) -> usize
-        ensures { result ≡ index_among self.now item.now }
+        ensures value { result ≡ index_among self.now item.now }
+        ensures small { result < 2 ^ 63 }
     {
+        let count = self.set.len();
         match self.set.get_index_of(item) {
             Some(i) => i,
-            None => self.set.len(),
+            None => count,
         }
     }
 

@@ -56,6 +56,7 @@ pub fn library_rva(p: &Parts<'_>) -> u64
 pub fn names_end(p: &Parts<'_>) -> u64
     requires { HasPlaces p.now }
     ensures value { result ≡ layout.names_end (parts p.now) }
+    ensures most { 0x2000 + length p.now.metadata.now ≤ result }
     ensures low { result < 2 ^ 62 + 16458 }
 {
     imports_rva(p) + 74
@@ -65,6 +66,7 @@ pub fn names_end(p: &Parts<'_>) -> u64
 pub fn jump_rva(p: &Parts<'_>) -> u64
     requires { HasPlaces p.now }
     ensures value { result ≡ layout.jump_rva (parts p.now) }
+    ensures most { 0x2000 + length p.now.metadata.now ≤ result }
     ensures least { layout.names_end (parts p.now) ≤ result }
     ensures near { result < layout.names_end (parts p.now) + 4 }
     ensures low { result < 2 ^ 62 + 16462 }
@@ -76,7 +78,7 @@ pub fn jump_rva(p: &Parts<'_>) -> u64
 pub fn fixup_rva(p: &Parts<'_>) -> u64
     requires { HasPlaces p.now }
     ensures value { result ≡ layout.fixup_rva (parts p.now) }
-    ensures high { 0x2000 ≤ result }
+    ensures high { 0x2000 + length p.now.metadata.now ≤ result }
     ensures low { result < 2 ^ 62 + 16464 }
 {
     jump_rva(p) + 2
@@ -86,6 +88,7 @@ pub fn fixup_rva(p: &Parts<'_>) -> u64
 pub fn text_size(p: &Parts<'_>) -> u64
     requires { HasPlaces p.now }
     ensures value { result ≡ layout.text_size (parts p.now) }
+    ensures most { length p.now.metadata.now ≤ result }
     ensures low { result < 2 ^ 62 + 16468 }
 {
     fixup_rva(p) + 4 - TEXT_RVA
@@ -95,6 +98,7 @@ pub fn text_size(p: &Parts<'_>) -> u64
 pub fn text_raw(p: &Parts<'_>) -> u64
     requires { HasPlaces p.now }
     ensures value { result ≡ layout.text_raw (parts p.now) }
+    ensures most { length p.now.metadata.now ≤ result }
     ensures low { result < 2 ^ 62 + 32768 }
 {
     next_multiple(0x200, text_size(p))
@@ -111,7 +115,8 @@ pub fn reloc_rva(p: &Parts<'_>) -> u64
 /// How many bytes the image has.
 pub fn image_length(p: &Parts<'_>) -> u64
     requires { HasPlaces p.now }
-    ensures { result ≡ layout.image_length (parts p.now) }
+    ensures value { result ≡ layout.image_length (parts p.now) }
+    ensures most { length p.now.metadata.now ≤ result }
 {
     0x200 + text_raw(p) + 0x200
 }
