@@ -1,10 +1,8 @@
 -- Heaps as they are put: as long as they are laid out, and the same bytes where they aren't too long.
 use Rattle.std.proofs.Common.{◌≡◌, ℕ, suc, ◌+◌, ◌-◌, ◌*◌, ◌/◌, ◌%◌, ◌^◌, ◌<◌, ◌≤◌, Bool, true, false, cond, nat_lt, List, [], ◌∷◌, ◌++◌, length, replicate, refl, sym, ap, ◌∙◌, arith, length-append}
-use Rattle.std.proofs.lemmas.List.{length-replicate}
-use Rattle.std.proofs.lemmas.Bool.Decides.{nat_tests}
 use Rattle.std.specs.List.{flat_map}
 use Rattle.blob_grammar.specs.Numbers.{shortest}
-use Rattle.file_layout.specs.Bytes.{half, aligned, padded}
+use Rattle.file_layout.specs.Bytes.{aligned, padded}
 use Rattle.file_layout.specs.Heaps.{blob_item, user_item, blobs_heap, users_heap, units_bytes, last_byte}
 use Rattle.assembly_writer.specs.Lengths.{length_bytes, blob_put, user_put, blobs_put, users_put}
 

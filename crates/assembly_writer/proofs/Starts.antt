@@ -1,5 +1,5 @@
 -- Where items stand, by where each begins.
-use Rattle.std.proofs.Common.{◌≡◌, ℕ, suc, ◌+◌, ◌*◌, ◌<◌, ◌≤◌, Bool, true, false, cond, List, [], ◌∷◌, ◌++◌, length, get_or, bytes_eq, refl, sym, ap, ◌∙◌, arith, length-append}
+use Rattle.std.proofs.Common.{◌≡◌, ℕ, suc, ◌+◌, Bool, true, false, cond, List, [], ◌∷◌, length, get_or, bytes_eq, refl, ap, ◌∙◌, arith}
 use Rattle.file_layout.specs.Interning.{place_among}
 use Rattle.file_layout.specs.Heaps.{string_item, string_place, blob_item, blob_place, guid_number}
 use Rattle.assembly_writer.specs.Places.{index_among, starts_of}

@@ -1,5 +1,5 @@
 -- The whole file, by its parts.
-use Rattle.std.proofs.Common.{◌≡◌, ℕ, ◌+◌, ◌-◌, ◌^◌, ◌<◌, ◌≤◌, List, [], ◌++◌, length, map, refl, sym, ap, subst, ◌∙◌, arith, length-append}
+use Rattle.std.proofs.Common.{◌≡◌, ℕ, ◌+◌, ◌-◌, ◌^◌, ◌<◌, List, [], length, map, refl, sym, ap, subst, ◌∙◌, arith, length-append}
 use Rattle.std.proofs.lemmas.List.{length-map}
 use Rattle.world_model.specs.declared.record.AsmRec.{AsmRec}
 use Rattle.world_model.specs.declared.record.UserText.{UserText}
@@ -57,8 +57,8 @@ streams_put pools cells user t s u g b et es eu eg eb =
     let hu : IsPut (users_put user) (users_heap user) = record { len = users_put-length user; exact = users_put-is user } in
     let hb : IsPut (blobs_put pools.blobs) (blobs_heap pools.blobs) = record { len = blobs_put-length pools.blobs; exact = blobs_put-is pools.blobs } in
     let all : metadata_bytes (with_two t s u g b)
-        ≡ metadata_bytes (with_two (tables_stream (sizes_of pools) (numbers_of pools cells)) (strings_heap pools.texts) (users_put user) (guids_heap pools.guids) (blobs_put pools.blobs))
-        = λ i. metadata_bytes (with_two (et i) (es i) (eu i) (eg i) (eb i)) in
+    ≡ metadata_bytes (with_two (tables_stream (sizes_of pools) (numbers_of pools cells)) (strings_heap pools.texts) (users_put user) (guids_heap pools.guids) (blobs_put pools.blobs))
+    = λ i. metadata_bytes (with_two (et i) (es i) (eu i) (eg i) (eb i)) in
     subst (λ (x : List ℕ). IsPut x (metadata_bytes (with_two (tables_stream (sizes_of pools) (numbers_of pools cells)) (strings_heap pools.texts) (users_heap user) (guids_heap pools.guids) (blobs_heap pools.blobs))))
     (sym all)
     (metadata_put (tables_stream (sizes_of pools) (numbers_of pools cells)) (strings_heap pools.texts) (users_put user) (users_heap user) (guids_heap pools.guids) (blobs_put pools.blobs) (blobs_heap pools.blobs) hu hb)
@@ -85,7 +85,7 @@ pub put_of_record : (rec : AsmRec) (m : List ℕ) (cells : CellTables) (user : L
 unfolding streams_of
 put_of_record rec m cells user ec eu h =
     let both : streams_with (pools_of cells) cells (map (λ t. t.text) user) ≡ streams_with (pools_of (cells_of rec)) (cells_of rec) (map (λ t. t.text) rec.user)
-        = λ i. streams_with (pools_of (ec i)) (ec i) (map (λ t. t.text) (eu i)) in
+    = λ i. streams_with (pools_of (ec i)) (ec i) (map (λ t. t.text) (eu i)) in
     subst (λ (s : Streams). IsPut m (metadata_bytes s)) both h
 
 -- ---- the image

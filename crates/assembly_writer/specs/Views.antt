@@ -1,5 +1,5 @@
 -- What the writer's data stands for in the layout.
-use Rattle.std.specs.Prelude.{ℕ, ◌+◌, ◌<◌, ◌^◌, length}
+use Rattle.std.specs.Prelude.{◌+◌, ◌<◌, ◌^◌, length}
 use Rattle.assembly_writer.specs.declared.image.Parts.{Parts}
 use Rattle.assembly_writer.specs.declared.metadata.Streams.{Streams}
 use Rattle.file_layout.specs.Image as image

@@ -11,8 +11,8 @@ use file_layout::Cell;
 use il_base::{NoMemory, Seq, Text};
 use std::alloc::Global;
 use world_model::{
-    AssemblyRefRow, AssemblyRow, MemberRefRow, MethodDefRow, ModuleRow,
-    StandAloneSigRow, TypeDefRow, TypeRefRow,
+    AssemblyRefRow, AssemblyRow, MemberRefRow, MethodDefRow, ModuleRow, StandAloneSigRow,
+    TypeDefRow, TypeRefRow,
 };
 
 fn put_number(cells: &mut Seq<Cell>, n: u32) -> Result<(), NoMemory>

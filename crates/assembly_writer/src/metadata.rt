@@ -62,12 +62,7 @@ fn blobs_at(s: &Streams<'_>) -> u64
 }
 
 /// A stream header: the offset from the root, the size, and the name with its zeros.
-fn put_stream_header(
-    out: &mut Vec<u8>,
-    at: u64,
-    stream: &[u8],
-    name: &[u8],
-) -> Result<(), NoMemory>
+fn put_stream_header(out: &mut Vec<u8>, at: u64, stream: &[u8], name: &[u8]) -> Result<(), NoMemory>
     ensures { OnOk result (out.new.items ≡ out.old.items ++ layout.stream_header at stream.now name.now) }
 {
     put_word(out, at)?;

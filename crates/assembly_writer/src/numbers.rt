@@ -56,11 +56,7 @@ fn number(places: &Places<'_>, cell: &Cell) -> u64
 }
 
 /// The numbers of a row.
-fn row_numbers(
-    alloc: Global,
-    places: &Places<'_>,
-    row: &[Cell],
-) -> Result<Seq<u64>, NoMemory>
+fn row_numbers(alloc: Global, places: &Places<'_>, row: &[Cell]) -> Result<Seq<u64>, NoMemory>
     requires { ArePlaces places.now }
     ensures { IfOk result (λ ns. ns ≡ map (layout.number_of (pools places.now.pools.now)) row.now) }
 {

@@ -64,11 +64,7 @@ fn add_rows(alloc: Global, pools: &mut Pools, rows: &[Seq<Cell>]) -> Result<(), 
 }
 
 /// Puts the items of tables into their pools.
-fn add_tables(
-    alloc: Global,
-    pools: &mut Pools,
-    tables: &[Seq<Seq<Cell>>],
-) -> Result<(), NoMemory>
+fn add_tables(alloc: Global, pools: &mut Pools, tables: &[Seq<Seq<Cell>>]) -> Result<(), NoMemory>
     ensures { OnOk result (Gathers (λ items. layout.in_all items tables.now) pools.old pools.new) }
 {
     for rows in tables {

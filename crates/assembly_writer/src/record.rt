@@ -130,11 +130,7 @@ fn put_table(
 }
 
 /// The tables 00 to 05.
-fn put_types(
-    alloc: Global,
-    tables: &mut Seq<Seq<Seq<Cell>>>,
-    rec: &AsmRec,
-) -> Result<(), NoMemory>
+fn put_types(alloc: Global, tables: &mut Seq<Seq<Seq<Cell>>>, rec: &AsmRec) -> Result<(), NoMemory>
     ensures { OnOk result (tables.new ≡ tables.old
         ++ map layout.module_cells rec.now.«module» ∷ (map layout.type_ref_cells rec.now.type_ref ∷ (map layout.type_def_cells rec.now.type_def ∷ layout.none 3))) }
 {
@@ -157,9 +153,24 @@ fn put_members(
         ++ map layout.member_ref_cells rec.now.member_ref
         ∷ (layout.none 6 ++ map layout.stand_alone_sig_cells rec.now.stand_alone_sig ∷ layout.none 14))) }
 {
-    put_table(alloc, tables, methods(alloc, rvas, rec.method_def.as_slice())?, 3)?;
-    put_table(alloc, tables, member_refs(alloc, rec.member_ref.as_slice())?, 6)?;
-    put_table(alloc, tables, stand_alone_sigs(alloc, rec.stand_alone_sig.as_slice())?, 14)
+    put_table(
+        alloc,
+        tables,
+        methods(alloc, rvas, rec.method_def.as_slice())?,
+        3,
+    )?;
+    put_table(
+        alloc,
+        tables,
+        member_refs(alloc, rec.member_ref.as_slice())?,
+        6,
+    )?;
+    put_table(
+        alloc,
+        tables,
+        stand_alone_sigs(alloc, rec.stand_alone_sig.as_slice())?,
+        14,
+    )
 }
 
 /// The tables 20 to 2c.
@@ -171,17 +182,23 @@ fn put_assemblies(
     ensures { OnOk result (tables.new ≡ tables.old
         ++ map layout.assembly_cells rec.now.assembly ∷ (layout.none 2 ++ map layout.assembly_ref_cells rec.now.assembly_ref ∷ layout.none 9)) }
 {
-    put_table(alloc, tables, assemblies(alloc, rec.assembly.as_slice())?, 2)?;
-    put_table(alloc, tables, assembly_refs(alloc, rec.assembly_ref.as_slice())?, 9)
+    put_table(
+        alloc,
+        tables,
+        assemblies(alloc, rec.assembly.as_slice())?,
+        2,
+    )?;
+    put_table(
+        alloc,
+        tables,
+        assembly_refs(alloc, rec.assembly_ref.as_slice())?,
+        9,
+    )
 }
 
 /// The tables of a record, 00 to 2c, with the addresses of the methods' bodies.
 #[tactic(auto, unfolding(file_layout::specs::Rows::cells_of))]
-pub fn tables_of(
-    alloc: Global,
-    rec: &AsmRec,
-    rvas: &[u32],
-) -> Result<Seq<Seq<Seq<Cell>>>, NoMemory>
+pub fn tables_of(alloc: Global, rec: &AsmRec, rvas: &[u32]) -> Result<Seq<Seq<Seq<Cell>>>, NoMemory>
     requires can { CanWrite rec.now }
     requires rvas { rvas.now ≡ rvas_behind [] (map (λ m. m.body) rec.now.method_def) }
     ensures value { IfOk result (λ tables. tables ≡ layout.cells_of rec.now) }

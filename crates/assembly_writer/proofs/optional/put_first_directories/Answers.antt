@@ -1,4 +1,4 @@
-use Rattle.std.proofs.Common.{List, ℕ, ◌++◌, ◌∙◌, ap}
+use Rattle.std.proofs.Common.{ℕ, ◌++◌, ◌∙◌, ap}
 use Rattle.file_layout.specs.Image.{directory}
 use Rattle.assembly_writer.proofs.Chains.{then_ok, four}
 use Rattle.assembly_writer.proofs.optional.put_first_directories.Goals as goal

@@ -1,5 +1,4 @@
 use Rattle.std.proofs.Common.{List, ℕ, ◌<◌, ◌≤◌, length, arith}
-use Rattle.std.specs.List.{flat_map}
 use Rattle.file_layout.specs.declared.cell.Cell.{Cell}
 use Rattle.assembly_writer.proofs.Gathering.{left_next, left_end}
 use Rattle.assembly_writer.proofs.pools.add_row.Goals as goal

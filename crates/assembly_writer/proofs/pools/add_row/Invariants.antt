@@ -1,5 +1,4 @@
 use Rattle.std.proofs.Common.{drop}
-use Rattle.std.specs.List.{flat_map}
 use Rattle.assembly_writer.proofs.Gathering.{Left}
 use Rattle.assembly_writer.proofs.pools.add_row.Given as goal
 

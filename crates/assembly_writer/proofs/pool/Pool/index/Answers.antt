@@ -1,4 +1,4 @@
-use Rattle.std.proofs.Common.{ap, ◌∙◌, sym, map, ℕ, List}
+use Rattle.std.proofs.Common.{ap, ◌∙◌, ℕ, List}
 use Rattle.assembly_writer.specs.Places.{index_among}
 use Rattle.assembly_writer.proofs.Items.{found_at, found_none}
 use Rattle.assembly_writer.proofs.pool.Pool.index.Goals as goal
