@@ -1,2 +1,27 @@
-//! Stub: the crate is written elsewhere; its specs/CanWrite is the real one.
+//! Assemblies written as files: a record goes in, and the bytes of the file that it is laid out in come out, behind what
+//! stands in a vector. Which bytes these are is defined by `file_layout`'s `specs/Laid`.
 #![tactic(auto)]
+
+mod bodies;
+mod bytes;
+mod cells;
+mod coded;
+mod error;
+mod heaps;
+mod image;
+mod metadata;
+mod numbers;
+mod optional;
+mod pool;
+mod pools;
+mod record;
+mod rows;
+mod rvas;
+mod signatures;
+mod streams;
+mod tables;
+mod widths;
+mod writing;
+
+pub use error::WriteError;
+pub use writing::write;

@@ -3,16 +3,11 @@ use Rattle.std.specs.Prelude.{ℕ, ◌+◌, ◌*◌, ◌/◌, ◌%◌, ◌^◌, 
 use Rattle.std.specs.List.{flat_map}
 use Rattle.cli_format.specs.declared.column.CodedIndex.{CodedIndex}
 use Rattle.cli_format.specs.Coded.{targets_of, tag_bits_of, first_tag_of}
+use Rattle.file_layout.specs.declared.cell.Cell.{Cell}
+use Rattle.file_layout.specs.declared.cell.Cell.TheVariants.{Number, Text, Blob, Guid}
 use Rattle.file_layout.specs.Interning.{each_once}
 use Rattle.file_layout.specs.Heaps.{string_place, blob_place, guid_number}
 use Rattle.file_layout.specs.TableStream.{Tables}
-
-pub data Cell : Type 0 where
-  number : ℕ → Cell
-  -- items of `#Strings`, `#Blob` and `#GUID`
-  text : List ℕ → Cell
-  blob : List ℕ → Cell
-  guid : List ℕ → Cell
 
 -- tables by their numbers, from 0; a row is its cells
 abbrev pub CellTables : Type 0
@@ -31,15 +26,15 @@ coded_of index token = if token == 0 then 0 else token % 16777216 * 2 ^ tag_bits
 -- ---- the items that cells name, but for the empty ones
 
 abbrev pub texts_of_cell : Cell → List (List ℕ)
-texts_of_cell (text (c ∷ cs)) = (c ∷ cs) ∷ []
+texts_of_cell (Text (c ∷ cs)) = (c ∷ cs) ∷ []
 texts_of_cell _ = []
 
 abbrev pub blobs_of_cell : Cell → List (List ℕ)
-blobs_of_cell (blob (b ∷ bs)) = (b ∷ bs) ∷ []
+blobs_of_cell (Blob (b ∷ bs)) = (b ∷ bs) ∷ []
 blobs_of_cell _ = []
 
 abbrev pub guids_of_cell : Cell → List (List ℕ)
-guids_of_cell (guid (b ∷ bs)) = (b ∷ bs) ∷ []
+guids_of_cell (Guid (b ∷ bs)) = (b ∷ bs) ∷ []
 guids_of_cell _ = []
 
 -- those of all cells, in order of table, row and column
@@ -62,10 +57,10 @@ pools_of tables = record {
 
 -- the number that stands in a cell
 abbrev pub number_of : Pools → Cell → ℕ
-number_of pools (number n) = n
-number_of pools (text t) = string_place pools.texts t
-number_of pools (blob b) = blob_place pools.blobs b
-number_of pools (guid g) = guid_number pools.guids g
+number_of pools (Number n) = n
+number_of pools (Text t) = string_place pools.texts t
+number_of pools (Blob b) = blob_place pools.blobs b
+number_of pools (Guid g) = guid_number pools.guids g
 
 unfoldable pub numbers_of : Pools → CellTables → Tables
 numbers_of pools tables = map (λ rows. map (λ row. map (number_of pools) row) rows) tables

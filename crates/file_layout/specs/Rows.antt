@@ -19,7 +19,9 @@ use Rattle.world_model.specs.declared.record.AsmRec.{AsmRec}
 use Rattle.blob_grammar.specs.Signatures.{method_bytes, field_bytes, locals_bytes}
 use Rattle.cli_format.specs.declared.column.CodedIndex.TheVariants.{TypeDefOrRef, MemberRefParent, ResolutionScope}
 use Rattle.file_layout.specs.Bodies.{rvas_behind}
-use Rattle.file_layout.specs.Cells.{Cell, CellTables, number, text, blob, guid, coded_of}
+use Rattle.file_layout.specs.declared.cell.Cell.{Cell}
+use Rattle.file_layout.specs.declared.cell.Cell.TheVariants.{Number, Text, Blob, Guid}
+use Rattle.file_layout.specs.Cells.{CellTables, coded_of}
 
 -- ---- signatures; one without a reading isn't written
 
@@ -39,21 +41,21 @@ locals_blob (Bad why) = []
 -- ---- rows
 
 abbrev pub module_cells : ModuleRow → List Cell
-module_cells row = number row.generation ∷ text row.name ∷ guid row.mvid ∷ guid row.enc_id ∷ guid row.enc_base_id ∷ []
+module_cells row = Number row.generation ∷ Text row.name ∷ Guid row.mvid ∷ Guid row.enc_id ∷ Guid row.enc_base_id ∷ []
 
 abbrev pub type_ref_cells : TypeRefRow → List Cell
-type_ref_cells row = number (coded_of ResolutionScope row.resolution_scope) ∷ text row.name ∷ text row.namespace ∷ []
+type_ref_cells row = Number (coded_of ResolutionScope row.resolution_scope) ∷ Text row.name ∷ Text row.namespace ∷ []
 
 abbrev pub type_def_cells : TypeDefRow → List Cell
 type_def_cells row =
-    number row.flags ∷ text row.name ∷ text row.namespace ∷ number (coded_of TypeDefOrRef row.extends)
-    ∷ number row.field_list_first ∷ number row.method_list_first ∷ []
+    Number row.flags ∷ Text row.name ∷ Text row.namespace ∷ Number (coded_of TypeDefOrRef row.extends)
+    ∷ Number row.field_list_first ∷ Number row.method_list_first ∷ []
 
 -- with the address of its body
 abbrev pub method_def_cells : ℕ → MethodDefRow → List Cell
 method_def_cells rva row =
-    number rva ∷ number row.impl_flags ∷ number row.flags ∷ text row.name ∷ blob (method_blob row.signature)
-    ∷ number row.param_list_first ∷ []
+    Number rva ∷ Number row.impl_flags ∷ Number row.flags ∷ Text row.name ∷ Blob (method_blob row.signature)
+    ∷ Number row.param_list_first ∷ []
 
 unfoldable pub methods_cells : List ℕ → List MethodDefRow → List (List Cell)
 methods_cells [] rows = []
@@ -61,20 +63,20 @@ methods_cells (rva ∷ rvas) [] = []
 methods_cells (rva ∷ rvas) (row ∷ rows) = method_def_cells rva row ∷ methods_cells rvas rows
 
 abbrev pub member_ref_cells : MemberRefRow → List Cell
-member_ref_cells row = number (coded_of MemberRefParent row.class) ∷ text row.name ∷ blob (member_blob row.signature) ∷ []
+member_ref_cells row = Number (coded_of MemberRefParent row.class) ∷ Text row.name ∷ Blob (member_blob row.signature) ∷ []
 
 abbrev pub stand_alone_sig_cells : StandAloneSigRow → List Cell
-stand_alone_sig_cells row = blob (locals_blob row.signature) ∷ []
+stand_alone_sig_cells row = Blob (locals_blob row.signature) ∷ []
 
 abbrev pub assembly_cells : AssemblyRow → List Cell
 assembly_cells row =
-    number row.hash_alg_id ∷ number row.major_version ∷ number row.minor_version ∷ number row.build_number ∷ number row.revision_number
-    ∷ number row.flags ∷ blob row.public_key ∷ text row.name ∷ text row.culture ∷ []
+    Number row.hash_alg_id ∷ Number row.major_version ∷ Number row.minor_version ∷ Number row.build_number ∷ Number row.revision_number
+    ∷ Number row.flags ∷ Blob row.public_key ∷ Text row.name ∷ Text row.culture ∷ []
 
 abbrev pub assembly_ref_cells : AssemblyRefRow → List Cell
 assembly_ref_cells row =
-    number row.major_version ∷ number row.minor_version ∷ number row.build_number ∷ number row.revision_number ∷ number row.flags
-    ∷ blob row.public_key_or_token ∷ text row.name ∷ text row.culture ∷ blob row.hash_value ∷ []
+    Number row.major_version ∷ Number row.minor_version ∷ Number row.build_number ∷ Number row.revision_number ∷ Number row.flags
+    ∷ Blob row.public_key_or_token ∷ Text row.name ∷ Text row.culture ∷ Blob row.hash_value ∷ []
 
 -- ---- all tables
 
