@@ -12,6 +12,7 @@ mod section;
 mod writing;
 
 pub use error::{BodyError, ReadBody};
+pub use opcodes::kind;
 pub use reading::read_body;
 pub use writing::write_body;
 
