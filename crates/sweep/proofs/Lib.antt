@@ -1,0 +1,14 @@
+pub mod Keeping
+pub mod Calling
+pub mod Gathers
+pub mod Sizes
+pub mod TextLemmas
+pub mod PlaceLemmas
+pub mod ItemLemmas
+pub mod Placing
+pub mod Loading
+pub mod Referring
+pub mod Moving
+pub mod Sizing
+pub mod Addresses
+pub mod Restricting

@@ -1,0 +1,10 @@
+pub mod Kept
+pub mod Callees
+pub mod Gathering
+pub mod Types
+pub mod Texts
+pub mod References
+pub mod Numbers
+pub mod Lengths
+pub mod Methods
+pub mod Restrict
