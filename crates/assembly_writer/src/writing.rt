@@ -1,11 +1,12 @@
 ghost use Rattle.std.specs.Prelude.{◌≡◌, ◌+◌, ◌<◌, ◌≤◌, ◌^◌, ◌++◌, length, IfErr, IfOk, OnErr, OnOk, IsTrue, ◌↔◌};
-ghost use Rattle.file_layout.specs.Laid.{laid, laid_length};
+ghost use Rattle.file_layout.specs.Laid.{laid, laid_length, streams_of, streams_with};
 ghost use Rattle.assembly_writer.specs.Views.{HasPlaces};
 ghost use Rattle.assembly_writer.specs.CanWrite.{CanWrite};
-ghost use Rattle.assembly_writer.specs.Written.{IsContent, Refuses};
+ghost use Rattle.assembly_writer.specs.Written.{IsContent, Refuses, users_length, most_users, most_bytes};
 
 use crate::bodies::put_bodies;
 use crate::error::WriteError;
+use crate::heaps::users;
 use crate::image::{Parts, image};
 use crate::record::tables_of;
 use crate::rvas::image_length;
@@ -16,6 +17,9 @@ use world_model::AsmRec;
 
 /// The most bytes that a file may have.
 const MOST: u64 = 268_435_456;
+
+/// The most bytes that `#US` may have: a token of a text has 24 bits for its place (III.4.16).
+const MOST_USERS: u64 = 16_777_216;
 
 /// What of an image comes from a record.
 #[derive(Drop)]
@@ -38,6 +42,14 @@ fn content_of(alloc: Global, rec: &AsmRec) -> Result<Content, NoMemory>
     })
 }
 
+/// How many bytes `#US` has (II.24.2.4).
+fn users_length(alloc: Global, rec: &AsmRec) -> Result<u64, NoMemory>
+    ensures { IfOk result (λ n. n ≡ users_length rec.now) }
+{
+    let heap = users(alloc, rec.user.as_slice())?;
+    Ok(heap.len() as u64)
+}
+
 /// Whether the places behind code and metadata have 64 bits: so they do in any memory.
 fn has_places(p: &Parts<'_>) -> bool
     ensures { IsTrue result ↔ HasPlaces p.now }
@@ -54,18 +66,20 @@ fn append(out: &mut Vec<u8>, bytes: &[u8]) -> Result<(), NoMemory>
     Ok(())
 }
 
-/// Puts the file of a record behind the bytes: the one that `file_layout` lays it out in. After a refusal they are as
-/// before.
-///
-/// A file of more than 268435456 bytes isn't written: `Limit` 7, with the number of bytes that it would have.
-pub fn write(alloc: Global, rec: &AsmRec, out: &mut Vec<u8>) -> Result<(), WriteError>
-    requires { CanWrite rec.now }
+/// Puts the file of code and metadata behind the bytes, where it isn't too long.
+fn write_content(
+    alloc: Global,
+    rec: &AsmRec,
+    content: &Content,
+    out: &mut Vec<u8>,
+) -> Result<(), WriteError>
+    requires content { IsContent content.now rec.now }
+    requires users { users_length rec.now ≤ most_users }
     ensures written { OnOk result (out.new.items ≡ out.old.items ++ laid rec.now) }
-    ensures short { OnOk result (laid_length rec.now ≤ 268435456) }
+    ensures short { OnOk result (laid_length rec.now ≤ most_bytes) }
     ensures refused { IfErr result (Refuses rec.now) }
     ensures unchanged { OnErr result (out.new.items ≡ out.old.items) }
 {
-    let content = content_of(alloc, rec)?;
     let parts = Parts {
         bits: rec.bits,
         entry: rec.entry,
@@ -83,4 +97,24 @@ pub fn write(alloc: Global, rec: &AsmRec, out: &mut Vec<u8>) -> Result<(), Write
     let file = image(alloc, &parts)?;
     append(out, &file)?;
     Ok(())
+}
+
+/// Puts the file of a record behind the bytes: the one that `file_layout` lays it out in. After a refusal they are as
+/// before.
+///
+/// `Limit` 7 comes exactly where `#US` would have more than 16777216 bytes, with their number, or else the file more than
+/// 268435456, with theirs.
+pub fn write(alloc: Global, rec: &AsmRec, out: &mut Vec<u8>) -> Result<(), WriteError>
+    requires { CanWrite rec.now }
+    ensures written { OnOk result (out.new.items ≡ out.old.items ++ laid rec.now) }
+    ensures short { OnOk result ((laid_length rec.now ≤ most_bytes) × (users_length rec.now ≤ most_users)) }
+    ensures refused { IfErr result (Refuses rec.now) }
+    ensures unchanged { OnErr result (out.new.items ≡ out.old.items) }
+{
+    let found = users_length(alloc, rec)?;
+    if found > MOST_USERS {
+        return Err(WriteError::Limit { which: 7, found });
+    }
+    let content = content_of(alloc, rec)?;
+    write_content(alloc, rec, &content, out)
 }

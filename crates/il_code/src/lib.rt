@@ -12,11 +12,8 @@ mod section;
 mod writing;
 
 pub use error::{BodyError, ReadBody};
-<<<<<<< HEAD
 pub use header::read_header;
-=======
 pub use opcodes::kind;
->>>>>>> 1d28d532d9e912755053e525357969dc35971076
 pub use reading::read_body;
 pub use writing::write_body;
 

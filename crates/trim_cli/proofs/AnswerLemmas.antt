@@ -8,17 +8,18 @@ use Rattle.il_outside.specs.declared.folder.FolderError.TheVariants as folder_er
 use Rattle.il_outside.specs.Folder.{FolderState, Tells, ReadFaults}
 use Rattle.il_outside.specs.Streams.{SinkState, AppendsPrefix}
 use Rattle.world_model.specs.declared.record.AsmRec.{AsmRec}
-use Rattle.thin_reader.specs.Record.{thin_record}
 use Rattle.trim_core.specs.declared.answers.EndKind.{EndKind}
 use Rattle.trim_core.specs.declared.answers.EndKind.TheVariants as run_end
+use Rattle.trim_core.specs.declared.answers.Refusal.{Refusal}
 use Rattle.trim_core.specs.declared.answers.Refusal.TheVariants as refusal
 use Rattle.trim_core.specs.declared.answers.ExecFault.{ExecFault}
 use Rattle.trim_core.specs.declared.answers.ExecFault.TheVariants as fault
-use Rattle.trim_core.specs.Exec.{run_of, end_of, told_alone, ExecsTo}
+use Rattle.trim_core.specs.Told.{told_alone, RefusedBy}
+use Rattle.trim_core.specs.Exec.{run_of, end_of, ExecsTo}
 use Rattle.trim_cli.specs.declared.status.Status.{Status}
-use Rattle.trim_cli.specs.declared.status.Status.TheVariants.{ReadFault, WriteFault, NoMemory, NotYet}
+use Rattle.trim_cli.specs.declared.status.Status.TheVariants.{ReadFault, WriteFault, NoMemory}
 use Rattle.trim_cli.specs.Lines.{line_of}
-use Rattle.trim_cli.specs.Answer.{status_of, assembly_of, named, Reports, Ran, PrintsPrefix, IsDue, FileCaused, RunReported, ExecCaused}
+use Rattle.trim_cli.specs.Answer.{status_of, refused, assembly_of, named, refusal_named, Reports, Ran, Refused, PrintsPrefix, IsDue, FileCaused, RunReported, RefusalReported, ReadFailed, ExecCaused}
 
 -- all of it is a prefix
 whole_prefix : (a b : Option (List ℕ)) (x : List ℕ) → Appends a b x → AppendsPrefix a b x
@@ -35,53 +36,86 @@ same_line bytes word steps run_end.Spent = refl
 same_line bytes word steps (run_end.Stopped place) = refl
 same_line bytes word steps (run_end.Stuck place) = refl
 
-ran_due : (bytes : List ℕ) (steps : ℕ) (out0 out1 : SinkState) (end : EndKind) → Ran bytes steps out0 out1 (status_of steps end) → IsDue bytes steps out0 out1 (status_of steps end)
-ran_due bytes steps out0 out1 (run_end.Ended code) h = h
-ran_due bytes steps out0 out1 run_end.Spent h = h
-ran_due bytes steps out0 out1 (run_end.Stopped place) h = h
-ran_due bytes steps out0 out1 (run_end.Stuck place) h = h
+-- so does that of a refusal
+pub same_refusal : (bytes word : List ℕ) (why : Refusal) → line_of (refusal_named bytes why) word (refused why) ≡ line_of (assembly_of bytes) word (refused why)
+same_refusal bytes word (refusal.BadFile file at) = refl
+same_refusal bytes word (refusal.Limit which found) = refl
+same_refusal bytes word (refusal.Unresolved place) = refl
+same_refusal bytes word (refusal.NotYet file) = refl
+same_refusal bytes word refusal.NoMemory = refl
 
 -- want of memory was due; its line names nothing
 pub starved : (bytes : List ℕ) (steps : ℕ) (word : List ℕ) (out0 out1 err0 err1 : SinkState) (answer : Status) → PrintsPrefix bytes steps out0 out1
     → Reports (line_of [] word NoMemory) NoMemory err0 err1 answer → FileCaused bytes steps word out0 out1 err0 err1 answer
-starved bytes steps word out0 out1 err0 err1 answer prints report = record { due = NoMemory; cause = prints; reported = report }
+starved bytes steps word out0 out1 err0 err1 answer prints report = record { due = NoMemory; cause = inr (inr (inr (refl, prints))); reported = report }
 
 -- a run with its end
-ran : (bytes : List ℕ) (steps : ℕ) (word : List ℕ) (out0 out1 err0 err1 : SinkState) (rec : AsmRec) (end : EndKind) (answer : Status) → thin_record bytes ≡ Some rec
+ran : (bytes : List ℕ) (steps : ℕ) (word : List ℕ) (out0 out1 err0 err1 : SinkState) (rec : AsmRec) (end : EndKind) (answer : Status) → told_alone bytes ≡ Ok rec
     → (end ≡ end_of (run_of rec steps).end) × Appends out0.held out1.held (run_of rec steps).output × (out1.faults ≡ out0.faults)
     → RunReported bytes word steps (Ok end) err0 err1 answer → FileCaused bytes steps word out0 out1 err0 err1 answer
-ran bytes steps word out0 out1 err0 err1 rec end answer thin out (inl report) = record {
+ran bytes steps word out0 out1 err0 err1 rec end answer told out (inl report) = record {
   due = status_of steps end;
-  cause = ran_due bytes steps out0 out1 end (record { rec = rec; thin = thin; answer = ap (λ (e : EndKind). status_of steps e) out.0; printed = out.1 });
+  cause = inl (record { rec = rec; told = told; answer = ap (λ (e : EndKind). status_of steps e) out.0; printed = out.1 });
   reported = subst (λ (line : List ℕ). Reports line (status_of steps end) err0 err1 answer) (same_line bytes word steps end) report;
 }
-ran bytes steps word out0 out1 err0 err1 rec end answer thin out (inr report) =
-    starved bytes steps word out0 out1 err0 err1 answer (inr (rec, thin, whole_prefix out0.held out1.held (run_of rec steps).output out.1)) report
+ran bytes steps word out0 out1 err0 err1 rec end answer told out (inr report) =
+    starved bytes steps word out0 out1 err0 err1 answer (inr (rec, told, whole_prefix out0.held out1.held (run_of rec steps).output out.1)) report
 
-file_of : (a b : ℕ) → refusal.NotYet a ≡ refusal.NotYet b → b ≡ a
-file_of a b e = cc
+-- a refusal that was due
+refused_file : (bytes : List ℕ) (steps : ℕ) (word : List ℕ) (out0 out1 err0 err1 : SinkState) (why : Refusal) (answer : Status) → told_alone bytes ≡ Err why → Appends out0.held out1.held []
+    → RefusalReported bytes word why err0 err1 answer → FileCaused bytes steps word out0 out1 err0 err1 answer
+refused_file bytes steps word out0 out1 err0 err1 why answer told printed (inl report) = record {
+  due = refused why;
+  cause = inr (inl (record { why = why; told = told; answer = refl; printed = printed }));
+  reported = subst (λ (line : List ℕ). Reports line (refused why) err0 err1 answer) (same_refusal bytes word why) report;
+}
+refused_file bytes steps word out0 out1 err0 err1 why answer told printed (inr report) = starved bytes steps word out0 out1 err0 err1 answer (inl printed) report
 
-pub file_caused : (bytes : List ℕ) (steps : ℕ) (word : List ℕ) (out0 out1 err0 err1 : SinkState) (o : Option AsmRec) (r : Result EndKind ExecFault) (answer : Status) → thin_record bytes ≡ o
-    → ExecsTo (told_alone o) steps out0 out1 r → RunReported bytes word steps r err0 err1 answer → FileCaused bytes steps word out0 out1 err0 err1 answer
-file_caused bytes steps word out0 out1 err0 err1 (Some rec) (Ok end) answer thin out report = ran bytes steps word out0 out1 err0 err1 rec end answer thin out report
-file_caused bytes steps word out0 out1 err0 err1 (Some rec) (Err fault.Write) answer thin out report = record { due = WriteFault; cause = (inr (rec, thin, out.0), out.1); reported = report }
-file_caused bytes steps word out0 out1 err0 err1 (Some rec) (Err (fault.Refused refusal.NoMemory)) answer thin out report = starved bytes steps word out0 out1 err0 err1 answer (inr (rec, thin, out.0)) report
-file_caused bytes steps word out0 out1 err0 err1 (Some rec) (Err (fault.Refused (refusal.NotYet file))) answer thin out report = absurd out
-file_caused bytes steps word out0 out1 err0 err1 None (Ok end) answer thin out report = absurd out
-file_caused bytes steps word out0 out1 err0 err1 None (Err fault.Write) answer thin out report = absurd out
-file_caused bytes steps word out0 out1 err0 err1 None (Err (fault.Refused refusal.NoMemory)) answer thin out report = starved bytes steps word out0 out1 err0 err1 answer (inl out.0) report
-file_caused bytes steps word out0 out1 err0 err1 None (Err (fault.Refused (refusal.NotYet file))) answer thin out report =
-    record { due = NotYet file; cause = record { first = file_of 0 file out.0; not_thin = thin; printed = out.1 }; reported = report }
+-- a refusal is the one that was due, or memory ran out
+starved_refusal : (bytes : List ℕ) (steps : ℕ) (word : List ℕ) (out0 out1 err0 err1 : SinkState) (answer : Status) → PrintsPrefix bytes steps out0 out1
+    → RefusalReported bytes word refusal.NoMemory err0 err1 answer → FileCaused bytes steps word out0 out1 err0 err1 answer
+starved_refusal bytes steps word out0 out1 err0 err1 answer prints (inl report) = starved bytes steps word out0 out1 err0 err1 answer prints report
+starved_refusal bytes steps word out0 out1 err0 err1 answer prints (inr report) = starved bytes steps word out0 out1 err0 err1 answer prints report
+
+told_refusal : (bytes : List ℕ) (steps : ℕ) (word : List ℕ) (out0 out1 err0 err1 : SinkState) (due why : Refusal) (answer : Status) → told_alone bytes ≡ Err due → due ≡ why → Appends out0.held out1.held []
+    → RefusalReported bytes word why err0 err1 answer → FileCaused bytes steps word out0 out1 err0 err1 answer
+told_refusal bytes steps word out0 out1 err0 err1 due why answer told same printed report =
+    refused_file bytes steps word out0 out1 err0 err1 why answer (subst (λ (r : Refusal). told_alone bytes ≡ Err r) same told) printed report
+
+by_refusal : (bytes : List ℕ) (steps : ℕ) (word : List ℕ) (out0 out1 err0 err1 : SinkState) (due why : Refusal) (answer : Status) → told_alone bytes ≡ Err due → RefusedBy due why → Appends out0.held out1.held []
+    → RefusalReported bytes word why err0 err1 answer → FileCaused bytes steps word out0 out1 err0 err1 answer
+by_refusal bytes steps word out0 out1 err0 err1 due refusal.NoMemory answer told by printed report = starved_refusal bytes steps word out0 out1 err0 err1 answer (inl printed) report
+by_refusal bytes steps word out0 out1 err0 err1 due (refusal.BadFile file at) answer told by printed report = told_refusal bytes steps word out0 out1 err0 err1 due (refusal.BadFile file at) answer told by printed report
+by_refusal bytes steps word out0 out1 err0 err1 due (refusal.Limit which found) answer told by printed report = told_refusal bytes steps word out0 out1 err0 err1 due (refusal.Limit which found) answer told by printed report
+by_refusal bytes steps word out0 out1 err0 err1 due (refusal.Unresolved place) answer told by printed report = told_refusal bytes steps word out0 out1 err0 err1 due (refusal.Unresolved place) answer told by printed report
+by_refusal bytes steps word out0 out1 err0 err1 due (refusal.NotYet file) answer told by printed report = told_refusal bytes steps word out0 out1 err0 err1 due (refusal.NotYet file) answer told by printed report
+
+pub file_caused : (bytes : List ℕ) (steps : ℕ) (word : List ℕ) (out0 out1 err0 err1 : SinkState) (o : Result AsmRec Refusal) (r : Result EndKind ExecFault) (answer : Status) → told_alone bytes ≡ o
+    → ExecsTo o steps out0 out1 r → RunReported bytes word steps r err0 err1 answer → FileCaused bytes steps word out0 out1 err0 err1 answer
+file_caused bytes steps word out0 out1 err0 err1 (Ok rec) (Ok end) answer told out report = ran bytes steps word out0 out1 err0 err1 rec end answer told out report
+file_caused bytes steps word out0 out1 err0 err1 (Ok rec) (Err fault.Write) answer told out report = record { due = WriteFault; cause = inr (inr (inl (refl, inr (rec, told, out.0), out.1))); reported = report }
+file_caused bytes steps word out0 out1 err0 err1 (Ok rec) (Err (fault.Refused refusal.NoMemory)) answer told out report = starved_refusal bytes steps word out0 out1 err0 err1 answer (inr (rec, told, out.0)) report
+file_caused bytes steps word out0 out1 err0 err1 (Ok rec) (Err (fault.Refused (refusal.BadFile file at))) answer told out report = absurd out
+file_caused bytes steps word out0 out1 err0 err1 (Ok rec) (Err (fault.Refused (refusal.Limit which found))) answer told out report = absurd out
+file_caused bytes steps word out0 out1 err0 err1 (Ok rec) (Err (fault.Refused (refusal.Unresolved place))) answer told out report = absurd out
+file_caused bytes steps word out0 out1 err0 err1 (Ok rec) (Err (fault.Refused (refusal.NotYet file))) answer told out report = absurd out
+file_caused bytes steps word out0 out1 err0 err1 (Err due) (Ok end) answer told out report = absurd out
+file_caused bytes steps word out0 out1 err0 err1 (Err due) (Err fault.Write) answer told out report = absurd out
+file_caused bytes steps word out0 out1 err0 err1 (Err due) (Err (fault.Refused why)) answer told out report = by_refusal bytes steps word out0 out1 err0 err1 due why answer told out.0 out.1 report
 
 failed_only : (was now : FolderState) (name : List ℕ) (e : FolderError) → e ≡ folder_error.Failed → ReadFaults {T = List ℕ} was now name (Err e)
     → Rose was.read_faults now.read_faults × (now.write_faults ≡ was.write_faults) × (now.failed ≡ Some name)
 failed_only was now name e is h = subst (λ (x : FolderError). ReadFaults {T = List ℕ} was now name (Err x)) is h
 
+pub read_fault_of : (name : List ℕ) (was now : FolderState) (out err0 err1 : SinkState) (e : FolderError) (answer : Status) → e ≡ folder_error.Failed → ReadFaults {T = List ℕ} was now name (Err e)
+    → Reports (line_of [] [] ReadFault) ReadFault err0 err1 answer → ReadFailed name was now out out err0 err1 answer
+read_fault_of name was now out err0 err1 e answer is faults report =
+    let failed = failed_only was now name e is faults in
+    record { rose = failed.0; failed = failed.2; printed = grew_by_nothing out.held; reported = report }
+
 pub read_failed : (name : List ℕ) (steps : ℕ) (was now : FolderState) (out err0 err1 : SinkState) (e : FolderError) (answer : Status) → e ≡ folder_error.Failed → ReadFaults {T = List ℕ} was now name (Err e)
     → Reports (line_of [] [] ReadFault) ReadFault err0 err1 answer → ExecCaused name steps was now out out err0 err1 answer
-read_failed name steps was now out err0 err1 e answer is faults report =
-    let failed = failed_only was now name e is faults in
-    inr (inl (record { rose = failed.0; failed = failed.2; printed = grew_by_nothing out.held; reported = report }))
+read_failed name steps was now out err0 err1 e answer is faults report = inr (inl (read_fault_of name was now out err0 err1 e answer is faults report))
 
 pub read_starved : (name : List ℕ) (steps : ℕ) (was now : FolderState) (out err0 err1 : SinkState) (answer : Status)
     → Reports (line_of [] [] NoMemory) NoMemory err0 err1 answer → ExecCaused name steps was now out out err0 err1 answer

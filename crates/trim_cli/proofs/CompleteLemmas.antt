@@ -1,71 +1,104 @@
 -- Each status but the wanted one, and want of memory, has a cause that doesn't hold.
-use Rattle.std.proofs.Common.{◌≡◌, ℕ, List, [], Option, Some, None, Result, Ok, Err, refl, sym, ap, subst, ◌∙◌, inl, inr}
+use Rattle.std.proofs.Common.{◌≡◌, ◌⊎◌, ℕ, List, [], Option, Some, None, Result, Ok, Err, refl, sym, ap, subst, ◌∙◌, inl, inr}
 use Rattle.il_outside.specs.Folder.{Files, FolderState, Tells}
 use Rattle.il_outside.specs.Streams.{SinkState}
 use Rattle.world_model.specs.declared.record.AsmRec.{AsmRec}
-use Rattle.thin_reader.specs.Record.{thin_record}
+use Rattle.trim_core.specs.declared.answers.Refusal.{Refusal}
+use Rattle.trim_core.specs.declared.answers.Refusal.TheVariants as refusal
+use Rattle.trim_core.specs.declared.answers.Trimmed.{Trimmed}
+use Rattle.trim_core.specs.Told.{told_alone}
+use Rattle.trim_core.specs.Trim.{Trims}
 use Rattle.trim_cli.specs.declared.command.Command.{Command}
-use Rattle.trim_cli.specs.declared.command.Command.TheVariants.{Exec}
+use Rattle.trim_cli.specs.declared.command.Command.TheVariants.{Exec, Trim}
 use Rattle.trim_cli.specs.declared.status.Status.{Status}
-use Rattle.trim_cli.specs.declared.status.Status.TheVariants.{Ended, BadWords, ReadFault, WriteFault, NoMemory, Spent, Stopped, Stuck, NotYet}
-use Rattle.trim_cli.specs.Answer.{SinkFailed, Reports, Ran, IsDue, FileAnswer, ExecCaused, CausedBy, word_at, capped, assembly_of}
+use Rattle.trim_cli.specs.declared.status.Status.TheVariants.{Done, BadWords, NoMemory}
+use Rattle.trim_cli.specs.Answer.{SinkFailed, Reports, IsDue, FileAnswer, ExecCaused, IsTrimDue, TrimAnswer, TrimCaused, CausedBy, word_at, capped, assembly_of, refused}
 use Rattle.trim_cli.specs.Lines.{line_of}
-use Rattle.trim_cli.specs.Complete.{IsQuiet, file_status, told_status, wanted, IsAnswered}
+use Rattle.trim_cli.specs.Complete.{IsQuiet, file_status, trim_status, WantsRun, WantsTrim, Wants, IsAnswered}
 
-reported : (line : List ℕ) (s : Status) (out0 out1 err0 err1 : SinkState) (status : Status) → (SinkFailed out0 out1 err0 err1 → ⊥) → Reports line s err0 err1 status → IsAnswered (Some s) status
+-- what was due was answered, or memory ran out
+reported : (line : List ℕ) (s : Status) (out0 out1 err0 err1 : SinkState) (status : Status) → (SinkFailed out0 out1 err0 err1 → ⊥) → Reports line s err0 err1 status → (status ≡ s) ⊎ (status ≡ NoMemory)
 reported line s out0 out1 err0 err1 status quiet (inl x) = inl x.0
 reported line s out0 out1 err0 err1 status quiet (inr (inl x)) = absurd (quiet (inr x.2))
 reported line s out0 out1 err0 err1 status quiet (inr (inr x)) = inr x.0
 
--- where want of memory was due, it was answered
-starved : (line : List ℕ) (out0 out1 err0 err1 : SinkState) (status : Status) → (SinkFailed out0 out1 err0 err1 → ⊥) → Reports line NoMemory err0 err1 status → status ≡ NoMemory
-starved line out0 out1 err0 err1 status quiet (inl x) = x.0
-starved line out0 out1 err0 err1 status quiet (inr (inl x)) = absurd (quiet (inr x.2))
-starved line out0 out1 err0 err1 status quiet (inr (inr x)) = x.0
+only_memory : (status : Status) → (status ≡ NoMemory) ⊎ (status ≡ NoMemory) → status ≡ NoMemory
+only_memory status (inl e) = e
+only_memory status (inr e) = e
 
-only_memory : (o : Option Status) (status : Status) → status ≡ NoMemory → IsAnswered o status
-only_memory None status e = tt
-only_memory (Some s) status e = inr e
-
-ran_wanted : (bytes : List ℕ) (steps : ℕ) (out0 out1 : SinkState) (due : Status) → Ran bytes steps out0 out1 due → due ≡ file_status steps (thin_record bytes)
-ran_wanted bytes steps out0 out1 due h = h.answer ∙ ap (λ (o : Option AsmRec). file_status steps o) (sym h.thin)
-
-as_wanted : (s due status : Status) → due ≡ s → IsAnswered (Some due) status → IsAnswered (Some s) status
-as_wanted s due status e h = subst (λ (x : Status). IsAnswered (Some x) status) e h
-
-due_answered : (bytes : List ℕ) (steps : ℕ) (line : List ℕ) (out0 out1 err0 err1 : SinkState) (due status : Status) → (SinkFailed out0 out1 err0 err1 → ⊥)
-    → IsDue bytes steps out0 out1 due → Reports line due err0 err1 status → IsAnswered (Some (file_status steps (thin_record bytes))) status
-due_answered bytes steps line out0 out1 err0 err1 (Ended code) status quiet h r = as_wanted (file_status steps (thin_record bytes)) (Ended code) status (ran_wanted bytes steps out0 out1 (Ended code) h) (reported line (Ended code) out0 out1 err0 err1 status quiet r)
-due_answered bytes steps line out0 out1 err0 err1 (Spent n) status quiet h r = as_wanted (file_status steps (thin_record bytes)) (Spent n) status (ran_wanted bytes steps out0 out1 (Spent n) h) (reported line (Spent n) out0 out1 err0 err1 status quiet r)
-due_answered bytes steps line out0 out1 err0 err1 (Stopped place) status quiet h r = as_wanted (file_status steps (thin_record bytes)) (Stopped place) status (ran_wanted bytes steps out0 out1 (Stopped place) h) (reported line (Stopped place) out0 out1 err0 err1 status quiet r)
-due_answered bytes steps line out0 out1 err0 err1 (Stuck place) status quiet h r = as_wanted (file_status steps (thin_record bytes)) (Stuck place) status (ran_wanted bytes steps out0 out1 (Stuck place) h) (reported line (Stuck place) out0 out1 err0 err1 status quiet r)
-due_answered bytes steps line out0 out1 err0 err1 (NotYet file) status quiet h r =
-    as_wanted (file_status steps (thin_record bytes)) (NotYet file) status (ap (λ (n : ℕ). NotYet n) h.first ∙ ap (λ (o : Option AsmRec). file_status steps o) (sym h.not_thin)) (reported line (NotYet file) out0 out1 err0 err1 status quiet r)
-due_answered bytes steps line out0 out1 err0 err1 WriteFault status quiet h r = absurd (quiet (inl h.1))
-due_answered bytes steps line out0 out1 err0 err1 NoMemory status quiet h r = inr (starved line out0 out1 err0 err1 status quiet r)
-due_answered bytes steps line out0 out1 err0 err1 (BadWords place) status quiet h r = absurd h
-due_answered bytes steps line out0 out1 err0 err1 ReadFault status quiet h r = absurd h
+-- a status that was due is the wanted one
+instead : (s due status : Status) → due ≡ s → (status ≡ due) ⊎ (status ≡ NoMemory) → (status ≡ s) ⊎ (status ≡ NoMemory)
+instead s due status e (inl x) = inl (x ∙ e)
+instead s due status e (inr x) = inr x
 
 same_bytes : (a b : List ℕ) → Some a ≡ Some b → a ≡ b
 same_bytes a b e = cc
 
 -- the bytes that were read are those that the folder tells
-told_answered : (name : List ℕ) (steps : ℕ) (files : Option Files) (f : Files) (o : Option (List ℕ)) (out0 out1 err0 err1 : SinkState) (status : Status) → files ≡ Some f → f name ≡ o → (SinkFailed out0 out1 err0 err1 → ⊥)
-    → FileAnswer name steps files out0 out1 err0 err1 status → IsAnswered (told_status steps o) status
-told_answered name steps files f None out0 out1 err0 err1 status known held quiet h = tt
-told_answered name steps files f (Some bytes) out0 out1 err0 err1 status known held quiet h =
-    let told : f name ≡ Some h.bytes = subst (λ (fs : Option Files). Tells fs name h.bytes) known h.told in
-    let same : h.bytes ≡ bytes = same_bytes h.bytes bytes (sym told ∙ held) in
-    subst (λ (b : List ℕ). IsAnswered (Some (file_status steps (thin_record b))) status) same
-    (due_answered h.bytes steps (line_of (assembly_of h.bytes) name h.caused.due) out0 out1 err0 err1 h.caused.due status quiet h.caused.cause h.caused.reported)
+told_bytes : (name : List ℕ) (files : Option Files) (f : Files) (read bytes : List ℕ) → files ≡ Some f → f name ≡ Some bytes → Tells files name read → read ≡ bytes
+told_bytes name files f read bytes known held tells =
+    let told : f name ≡ Some read = subst (λ (fs : Option Files). Tells fs name read) known tells in
+    same_bytes read bytes (sym told ∙ held)
+
+-- ---- `exec`
+
+due_answered : (bytes : List ℕ) (steps : ℕ) (out0 out1 err0 err1 : SinkState) (due status : Status) → (SinkFailed out0 out1 err0 err1 → ⊥)
+    → IsDue bytes steps out0 out1 due → (status ≡ due) ⊎ (status ≡ NoMemory) → (status ≡ file_status steps (told_alone bytes)) ⊎ (status ≡ NoMemory)
+due_answered bytes steps out0 out1 err0 err1 due status quiet (inl h) r =
+    instead (file_status steps (told_alone bytes)) due status (h.answer ∙ ap (λ (o : Result AsmRec Refusal). file_status steps o) (sym h.told)) r
+due_answered bytes steps out0 out1 err0 err1 due status quiet (inr (inl h)) r =
+    instead (file_status steps (told_alone bytes)) due status (h.answer ∙ ap (λ (o : Result AsmRec Refusal). file_status steps o) (sym h.told)) r
+due_answered bytes steps out0 out1 err0 err1 due status quiet (inr (inr (inl h))) r = absurd (quiet (inl h.2))
+due_answered bytes steps out0 out1 err0 err1 due status quiet (inr (inr (inr h))) r = inr (only_memory status (instead NoMemory due status h.0 r))
+
+run_answered : (name : List ℕ) (steps : ℕ) (files : Option Files) (f : Files) (o : Option (List ℕ)) (out0 out1 err0 err1 : SinkState) (status : Status) → files ≡ Some f → f name ≡ o → (SinkFailed out0 out1 err0 err1 → ⊥)
+    → FileAnswer name steps files out0 out1 err0 err1 status → WantsRun steps o status ⊎ (status ≡ NoMemory)
+run_answered name steps files f None out0 out1 err0 err1 status known held quiet h = inl tt
+run_answered name steps files f (Some bytes) out0 out1 err0 err1 status known held quiet h =
+    subst (λ (b : List ℕ). (status ≡ file_status steps (told_alone b)) ⊎ (status ≡ NoMemory)) (told_bytes name files f h.bytes bytes known held h.told)
+    (due_answered h.bytes steps out0 out1 err0 err1 h.caused.due status quiet h.caused.cause
+    (reported (line_of (assembly_of h.bytes) name h.caused.due) h.caused.due out0 out1 err0 err1 status quiet h.caused.reported))
 
 exec_answered : (name : List ℕ) (steps : ℕ) (was now : FolderState) (f : Files) (out0 out1 err0 err1 : SinkState) (status : Status) → was.files ≡ Some f → IsQuiet was now out0 out1 err0 err1
-    → ExecCaused name steps was now out0 out1 err0 err1 status → IsAnswered (told_status steps (f name)) status
-exec_answered name steps was now f out0 out1 err0 err1 status known quiet (inl h) = told_answered name steps was.files f (f name) out0 out1 err0 err1 status known refl quiet.1 h
-exec_answered name steps was now f out0 out1 err0 err1 status known quiet (inr (inl h)) = absurd (quiet.0 h.rose)
-exec_answered name steps was now f out0 out1 err0 err1 status known quiet (inr (inr h)) = only_memory (told_status steps (f name)) status (starved (line_of [] [] NoMemory) out0 out1 err0 err1 status quiet.1 h.reported)
+    → ExecCaused name steps was now out0 out1 err0 err1 status → WantsRun steps (f name) status ⊎ (status ≡ NoMemory)
+exec_answered name steps was now f out0 out1 err0 err1 status known quiet (inl h) = run_answered name steps was.files f (f name) out0 out1 err0 err1 status known refl quiet.sinks h
+exec_answered name steps was now f out0 out1 err0 err1 status known quiet (inr (inl h)) = absurd (quiet.reads h.rose)
+exec_answered name steps was now f out0 out1 err0 err1 status known quiet (inr (inr h)) =
+    inr (only_memory status (reported (line_of [] [] NoMemory) NoMemory out0 out1 err0 err1 status quiet.sinks h.reported))
+
+-- ---- `trim`
+
+wants_trim : (bytes : List ℕ) (due status : Status) (r : Result Trimmed Refusal) → Trims (told_alone bytes) r → due ≡ trim_status r → (status ≡ due) ⊎ (status ≡ NoMemory)
+    → WantsTrim (Some bytes) status ⊎ (status ≡ NoMemory)
+wants_trim bytes due status r trims e (inl x) = inl (r, trims, x ∙ e)
+wants_trim bytes due status r trims e (inr x) = inr x
+
+trim_due_answered : (bytes output : List ℕ) (was now : FolderState) (out0 out1 err0 err1 : SinkState) (due status : Status) → IsQuiet was now out0 out1 err0 err1
+    → IsTrimDue bytes output was now due → (status ≡ due) ⊎ (status ≡ NoMemory) → WantsTrim (Some bytes) status ⊎ (status ≡ NoMemory)
+trim_due_answered bytes output was now out0 out1 err0 err1 due status quiet (inl h) r = wants_trim bytes due status (Ok h.left) h.trims h.answer r
+trim_due_answered bytes output was now out0 out1 err0 err1 due status quiet (inr (inl h)) r = wants_trim bytes due status (Err h.why) h.trims h.answer r
+trim_due_answered bytes output was now out0 out1 err0 err1 due status quiet (inr (inr (inl h))) r = absurd (quiet.writes h.rose)
+trim_due_answered bytes output was now out0 out1 err0 err1 due status quiet (inr (inr (inr h))) r = inr (only_memory status (instead NoMemory due status h.0 r))
+
+told_trim_answered : (output name : List ℕ) (was now : FolderState) (f : Files) (o : Option (List ℕ)) (out0 out1 err0 err1 : SinkState) (status : Status) → was.files ≡ Some f → f name ≡ o
+    → IsQuiet was now out0 out1 err0 err1 → TrimAnswer output name was now out0 out1 err0 err1 status → WantsTrim o status ⊎ (status ≡ NoMemory)
+told_trim_answered output name was now f None out0 out1 err0 err1 status known held quiet h = inl tt
+told_trim_answered output name was now f (Some bytes) out0 out1 err0 err1 status known held quiet h =
+    subst (λ (b : List ℕ). WantsTrim (Some b) status ⊎ (status ≡ NoMemory)) (told_bytes name was.files f h.bytes bytes known held h.told)
+    (trim_due_answered h.bytes output was now out0 out1 err0 err1 h.caused.due status quiet h.caused.cause
+    (reported (line_of (assembly_of h.bytes) name h.caused.due) h.caused.due out0 out1 err0 err1 status quiet.sinks h.caused.reported))
+
+trim_answered : (output name : List ℕ) (was now : FolderState) (f : Files) (out0 out1 err0 err1 : SinkState) (status : Status) → was.files ≡ Some f → IsQuiet was now out0 out1 err0 err1
+    → TrimCaused output name was now out0 out1 err0 err1 status → WantsTrim (f name) status ⊎ (status ≡ NoMemory)
+trim_answered output name was now f out0 out1 err0 err1 status known quiet (inl h) = told_trim_answered output name was now f (f name) out0 out1 err0 err1 status known refl quiet h
+trim_answered output name was now f out0 out1 err0 err1 status known quiet (inr (inl h)) = absurd (quiet.reads h.0.rose)
+trim_answered output name was now f out0 out1 err0 err1 status known quiet (inr (inr h)) =
+    inr (only_memory status (reported (line_of [] [] NoMemory) NoMemory out0 out1 err0 err1 status quiet.sinks h.0.reported))
+
+-- ---- all words
 
 pub is_answered : (r : Result Command ℕ) (words : List (List ℕ)) (was now : FolderState) (f : Files) (out0 out1 err0 err1 : SinkState) (status : Status) → CausedBy r words was now out0 out1 err0 err1 status
-    → was.files ≡ Some f → IsQuiet was now out0 out1 err0 err1 → IsAnswered (wanted r words f) status
-is_answered (Err at) words was now f out0 out1 err0 err1 status h known quiet = reported (line_of [] [] (BadWords (capped at))) (BadWords (capped at)) out0 out1 err0 err1 status quiet.1 h.reported
+    → was.files ≡ Some f → IsQuiet was now out0 out1 err0 err1 → IsAnswered r words f status
+is_answered (Err at) words was now f out0 out1 err0 err1 status h known quiet = reported (line_of [] [] (BadWords (capped at))) (BadWords (capped at)) out0 out1 err0 err1 status quiet.sinks h.reported
 is_answered (Ok (Exec at steps)) words was now f out0 out1 err0 err1 status h known quiet = exec_answered (word_at words at) steps was now f out0 out1 err0 err1 status known quiet h
+is_answered (Ok (Trim output at)) words was now f out0 out1 err0 err1 status h known quiet = trim_answered (word_at words output) (word_at words at) was now f out0 out1 err0 err1 status known quiet h

@@ -1,3 +1,4 @@
 pub mod DigitLemmas
 pub mod AnswerLemmas
+pub mod TrimLemmas
 pub mod CompleteLemmas

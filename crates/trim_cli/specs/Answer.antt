@@ -1,21 +1,25 @@
 -- When each answer of the program comes, and what it leaves.
-use Rattle.std.specs.Prelude.{◌≡◌, ◌⊎◌, ℕ, List, [], Option, Some, None, Result, Ok, Err, slice_get, unwrap_or, min}
+use Rattle.std.specs.Prelude.{◌≡◌, ◌⊎◌, ℕ, List, [], Option, Some, None, Result, Ok, Err, slice_get, unwrap_or, min, ⊤}
 use Rattle.std.specs.Io.KnownBytes.{Appends}
 use Rattle.il_outside.specs.Faults.{Rose}
-use Rattle.il_outside.specs.Folder.{Files, FolderState, Tells}
+use Rattle.il_outside.specs.declared.folder.FolderError.TheVariants as folder
+use Rattle.il_outside.specs.Folder.{Files, FolderState, Tells, KeepsFiles, WritesFile, SameOthers}
 use Rattle.il_outside.specs.Streams.{SinkState, AppendsPrefix}
 use Rattle.world_model.specs.declared.record.AsmRec.{AsmRec}
-use Rattle.thin_reader.specs.Record.{thin_record}
 use Rattle.trim_core.specs.declared.answers.EndKind.{EndKind}
 use Rattle.trim_core.specs.declared.answers.EndKind.TheVariants as run_end
+use Rattle.trim_core.specs.declared.answers.Refusal.{Refusal}
 use Rattle.trim_core.specs.declared.answers.Refusal.TheVariants as refusal
+use Rattle.trim_core.specs.declared.answers.Trimmed.{Trimmed}
 use Rattle.trim_core.specs.declared.answers.ExecFault.{ExecFault}
 use Rattle.trim_core.specs.declared.answers.ExecFault.TheVariants as fault
-use Rattle.trim_core.specs.Exec.{run_of, end_of, name_of}
+use Rattle.trim_core.specs.Told.{told_alone, name_of}
+use Rattle.trim_core.specs.Exec.{run_of, end_of}
+use Rattle.trim_core.specs.Trim.{Trims}
 use Rattle.trim_cli.specs.declared.command.Command.{Command}
-use Rattle.trim_cli.specs.declared.command.Command.TheVariants.{Exec}
+use Rattle.trim_cli.specs.declared.command.Command.TheVariants.{Exec, Trim}
 use Rattle.trim_cli.specs.declared.status.Status.{Status}
-use Rattle.trim_cli.specs.declared.status.Status.TheVariants.{Ended, BadWords, ReadFault, WriteFault, NoMemory, Spent, Stopped, Stuck, NotYet}
+use Rattle.trim_cli.specs.declared.status.Status.TheVariants.{Done, Ended, BadWords, BadFile, Unresolved, Limit, ReadFault, WriteFault, NoMemory, Spent, Stopped, Stuck, NotYet}
 use Rattle.trim_cli.specs.Words.{read_words}
 use Rattle.trim_cli.specs.Lines.{line_of}
 
@@ -26,9 +30,17 @@ status_of steps run_end.Spent = Spent steps
 status_of steps (run_end.Stopped place) = Stopped place
 status_of steps (run_end.Stuck place) = Stuck place
 
+-- a refusal as a status
+abbrev pub refused : Refusal → Status
+refused (refusal.BadFile file at) = BadFile file at
+refused (refusal.Limit which found) = Limit which found
+refused (refusal.Unresolved place) = Unresolved place
+refused (refusal.NotYet file) = NotYet file
+refused refusal.NoMemory = NoMemory
+
 -- the name of the assembly that a file is
 abbrev pub assembly_of : List ℕ → List ℕ
-assembly_of bytes = unwrap_or (name_of (thin_record bytes)) []
+assembly_of bytes = unwrap_or (name_of (told_alone bytes)) []
 
 -- ---- a status and its line
 
@@ -43,37 +55,35 @@ Reports line status old new answer =
 abbrev pub SinkFailed : SinkState → SinkState → SinkState → SinkState → Type 0
 SinkFailed old_out new_out old_err new_err = Rose old_out.faults new_out.faults ⊎ Rose old_err.faults new_err.faults
 
--- ---- a file
+-- ---- `exec`: a file
 
 -- the run of the file printed its whole output, and stands so
 pub record Ran (bytes : List ℕ) (steps : ℕ) (out0 out1 : SinkState) (due : Status) : Type 0 where
   pub rec : AsmRec
-  pub thin : thin_record bytes ≡ Some rec
+  pub told : told_alone bytes ≡ Ok rec
   pub answer : due ≡ status_of steps (end_of (run_of rec steps).end)
   pub printed : Appends out0.held out1.held (run_of rec steps).output
 
--- the file isn't thin, and nothing was printed
-pub record Refused (bytes : List ℕ) (out0 out1 : SinkState) (file : ℕ) : Type 0 where
-  pub first : file ≡ 0
-  pub not_thin : thin_record bytes ≡ None
+-- the file can't be taken, and nothing was printed
+pub record Refused (bytes : List ℕ) (out0 out1 : SinkState) (due : Status) : Type 0 where
+  pub why : Refusal
+  pub told : told_alone bytes ≡ Err why
+  pub answer : due ≡ refused why
   pub printed : Appends out0.held out1.held []
 
 -- a prefix of what the file's run prints
 abbrev pub PrintsPrefix : List ℕ → ℕ → SinkState → SinkState → Type 0
 PrintsPrefix bytes steps out0 out1 =
-    Appends out0.held out1.held [] ⊎ ((rec : AsmRec) × (thin_record bytes ≡ Some rec) × AppendsPrefix out0.held out1.held (run_of rec steps).output)
+    Appends out0.held out1.held [] ⊎ ((rec : AsmRec) × (told_alone bytes ≡ Ok rec) × AppendsPrefix out0.held out1.held (run_of rec steps).output)
 
--- which status is due for the bytes of a file, with what was printed
+-- Which status is due for the bytes of a file, with what was printed: the run's, the refusal's, WriteFault where the sink
+-- failed, or NoMemory.
 abbrev pub IsDue : List ℕ → ℕ → SinkState → SinkState → Status → Type 0
-IsDue bytes steps out0 out1 (Ended code) = Ran bytes steps out0 out1 (Ended code)
-IsDue bytes steps out0 out1 (Spent n) = Ran bytes steps out0 out1 (Spent n)
-IsDue bytes steps out0 out1 (Stopped place) = Ran bytes steps out0 out1 (Stopped place)
-IsDue bytes steps out0 out1 (Stuck place) = Ran bytes steps out0 out1 (Stuck place)
-IsDue bytes steps out0 out1 (NotYet file) = Refused bytes out0 out1 file
-IsDue bytes steps out0 out1 WriteFault = PrintsPrefix bytes steps out0 out1 × Rose out0.faults out1.faults
-IsDue bytes steps out0 out1 NoMemory = PrintsPrefix bytes steps out0 out1
-IsDue bytes steps out0 out1 (BadWords place) = ⊥
-IsDue bytes steps out0 out1 ReadFault = ⊥
+IsDue bytes steps out0 out1 due =
+    Ran bytes steps out0 out1 due
+    ⊎ (Refused bytes out0 out1 due
+    ⊎ (((due ≡ WriteFault) × PrintsPrefix bytes steps out0 out1 × Rose out0.faults out1.faults)
+    ⊎ ((due ≡ NoMemory) × PrintsPrefix bytes steps out0 out1)))
 
 -- the status that was due, and its line
 pub record FileCaused (bytes : List ℕ) (steps : ℕ) (word : List ℕ) (out0 out1 err0 err1 : SinkState) (answer : Status) : Type 0 where
@@ -81,23 +91,31 @@ pub record FileCaused (bytes : List ℕ) (steps : ℕ) (word : List ℕ) (out0 o
   pub cause : IsDue bytes steps out0 out1 due
   pub reported : Reports (line_of (assembly_of bytes) word due) due err0 err1 answer
 
--- ---- the status line of a run
+-- ---- the status lines
 
--- the assembly's name, for an end that has a place in it
+-- the assembly's name, for an answer that has a place in it
 abbrev pub named : List ℕ → EndKind → List ℕ
 named bytes (run_end.Ended code) = []
 named bytes run_end.Spent = []
 named bytes (run_end.Stopped place) = assembly_of bytes
 named bytes (run_end.Stuck place) = assembly_of bytes
 
+abbrev pub refusal_named : List ℕ → Refusal → List ℕ
+refusal_named bytes (refusal.Unresolved place) = assembly_of bytes
+refusal_named bytes _ = []
+
+-- the line of a refusal, or want of memory on the way to it
+abbrev pub RefusalReported : List ℕ → List ℕ → Refusal → SinkState → SinkState → Status → Type 0
+RefusalReported bytes word why old new answer =
+    Reports (line_of (refusal_named bytes why) word (refused why)) (refused why) old new answer ⊎ Reports (line_of [] word NoMemory) NoMemory old new answer
+
 abbrev pub RunReported : List ℕ → List ℕ → ℕ → Result EndKind ExecFault → SinkState → SinkState → Status → Type 0
 RunReported bytes word steps (Ok end) old new answer =
     Reports (line_of (named bytes end) word (status_of steps end)) (status_of steps end) old new answer ⊎ Reports (line_of [] word NoMemory) NoMemory old new answer
 RunReported bytes word steps (Err fault.Write) old new answer = Reports (line_of [] word WriteFault) WriteFault old new answer
-RunReported bytes word steps (Err (fault.Refused refusal.NoMemory)) old new answer = Reports (line_of [] word NoMemory) NoMemory old new answer
-RunReported bytes word steps (Err (fault.Refused (refusal.NotYet file))) old new answer = Reports (line_of [] word (NotYet file)) (NotYet file) old new answer
+RunReported bytes word steps (Err (fault.Refused why)) old new answer = RefusalReported bytes word why old new answer
 
--- ---- a name in a folder
+-- ---- `exec`: a name in a folder
 
 -- the bytes that were read under the name, and the answer for them
 pub record FileAnswer (name : List ℕ) (steps : ℕ) (files : Option Files) (out0 out1 err0 err1 : SinkState) (answer : Status) : Type 0 where
@@ -123,6 +141,58 @@ ExecCaused name steps was now out0 out1 err0 err1 answer =
     FileAnswer name steps was.files out0 out1 err0 err1 answer
     ⊎ (ReadFailed name was now out0 out1 err0 err1 answer ⊎ ReadStarved out0 out1 err0 err1 answer)
 
+-- ---- `trim`: OUT and IN
+
+-- the file was trimmed, and OUT holds what was left; `Trims` has what that is, and that it runs as the whole
+pub record TrimDone (bytes out_name : List ℕ) (was now : FolderState) (due : Status) : Type 0 where
+  pub left : Trimmed
+  pub trims : Trims (told_alone bytes) (Ok left)
+  pub answer : due ≡ Done
+  pub written : WritesFile was.files now.files out_name left.bytes (Ok tt)
+
+-- the trim refuses, and the folder is as it was
+pub record TrimRefused (bytes : List ℕ) (was now : FolderState) (due : Status) : Type 0 where
+  pub why : Refusal
+  pub trims : Trims (told_alone bytes) (Err why)
+  pub answer : due ≡ refused why
+  pub kept : KeepsFiles was.files now.files
+
+-- the write of OUT failed in this call: it is whole, as it was, or as the failing write left it
+pub record Unwritten (bytes out_name : List ℕ) (was now : FolderState) (due : Status) : Type 0 where
+  pub left : Trimmed
+  pub trims : Trims (told_alone bytes) (Ok left)
+  pub answer : due ≡ WriteFault
+  pub written : WritesFile was.files now.files out_name left.bytes (Err folder.Failed)
+  pub rose : Rose was.write_faults now.write_faults
+  pub failed : now.failed ≡ Some out_name
+
+-- which status is due for the bytes under IN, with what is under OUT; where memory ran out the folder is as it was
+abbrev pub IsTrimDue : List ℕ → List ℕ → FolderState → FolderState → Status → Type 0
+IsTrimDue bytes out_name was now due =
+    TrimDone bytes out_name was now due
+    ⊎ (TrimRefused bytes was now due
+    ⊎ (Unwritten bytes out_name was now due
+    ⊎ ((due ≡ NoMemory) × KeepsFiles was.files now.files)))
+
+-- the status that was due, and its line
+pub record TrimFileCaused (bytes out_name word : List ℕ) (was now : FolderState) (err0 err1 : SinkState) (answer : Status) : Type 0 where
+  pub due : Status
+  pub cause : IsTrimDue bytes out_name was now due
+  pub reported : Reports (line_of (assembly_of bytes) word due) due err0 err1 answer
+
+-- the bytes that were read under IN, and the answer for them
+pub record TrimAnswer (out_name name : List ℕ) (was now : FolderState) (out0 out1 err0 err1 : SinkState) (answer : Status) : Type 0 where
+  pub bytes : List ℕ
+  pub told : Tells was.files name bytes
+  pub printed : Appends out0.held out1.held []
+  pub caused : TrimFileCaused bytes out_name name was now err0 err1 answer
+
+abbrev pub TrimCaused : List ℕ → List ℕ → FolderState → FolderState → SinkState → SinkState → SinkState → SinkState → Status → Type 0
+TrimCaused out_name name was now out0 out1 err0 err1 answer =
+    TrimAnswer out_name name was now out0 out1 err0 err1 answer
+    ⊎ ((ReadFailed name was now out0 out1 err0 err1 answer × KeepsFiles was.files now.files)
+    ⊎ (ReadStarved out0 out1 err0 err1 answer × KeepsFiles was.files now.files))
+
 -- ---- the words
 
 -- a number past 4294967295 is carried as that
@@ -141,6 +211,21 @@ pub record WordsRefused (at : ℕ) (out0 out1 err0 err1 : SinkState) (status : S
 abbrev pub CausedBy : Result Command ℕ → List (List ℕ) → FolderState → FolderState → SinkState → SinkState → SinkState → SinkState → Status → Type 0
 CausedBy (Err at) words was now out0 out1 err0 err1 status = WordsRefused at out0 out1 err0 err1 status
 CausedBy (Ok (Exec at steps)) words was now out0 out1 err0 err1 status = ExecCaused (word_at words at) steps was now out0 out1 err0 err1 status
+CausedBy (Ok (Trim output at)) words was now out0 out1 err0 err1 status = TrimCaused (word_at words output) (word_at words at) was now out0 out1 err0 err1 status
 
 abbrev pub Caused : List (List ℕ) → FolderState → FolderState → SinkState → SinkState → SinkState → SinkState → Status → Type 0
 Caused words was now out0 out1 err0 err1 status = CausedBy (read_words words) words was now out0 out1 err0 err1 status
+
+-- ---- the folder
+
+-- what is told under other names stays
+abbrev pub KeepsOthers : List ℕ → Option Files → Option Files → Type 0
+KeepsOthers name None new = ⊤
+KeepsOthers name (Some f) None = ⊥
+KeepsOthers name (Some f) (Some g) = SameOthers f g name
+
+-- `trim` changes OUT alone, and every other call nothing
+abbrev pub KeepsBy : Result Command ℕ → List (List ℕ) → Option Files → Option Files → Type 0
+KeepsBy (Ok (Trim output at)) words old new = KeepsOthers (word_at words output) old new
+KeepsBy (Ok (Exec at steps)) words old new = KeepsFiles old new
+KeepsBy (Err at) words old new = KeepsFiles old new

@@ -4,32 +4,47 @@ use Rattle.il_outside.specs.Faults.{Rose}
 use Rattle.il_outside.specs.Folder.{Files, FolderState}
 use Rattle.il_outside.specs.Streams.{SinkState}
 use Rattle.world_model.specs.declared.record.AsmRec.{AsmRec}
-use Rattle.thin_reader.specs.Record.{thin_record}
+use Rattle.trim_core.specs.declared.answers.Refusal.{Refusal}
+use Rattle.trim_core.specs.declared.answers.Trimmed.{Trimmed}
+use Rattle.trim_core.specs.Told.{told_alone}
 use Rattle.trim_core.specs.Exec.{run_of, end_of}
+use Rattle.trim_core.specs.Trim.{Trims}
 use Rattle.trim_cli.specs.declared.command.Command.{Command}
-use Rattle.trim_cli.specs.declared.command.Command.TheVariants.{Exec}
+use Rattle.trim_cli.specs.declared.command.Command.TheVariants.{Exec, Trim}
 use Rattle.trim_cli.specs.declared.status.Status.{Status}
-use Rattle.trim_cli.specs.declared.status.Status.TheVariants.{BadWords, NoMemory, NotYet}
-use Rattle.trim_cli.specs.Answer.{status_of, capped, word_at, SinkFailed}
+use Rattle.trim_cli.specs.declared.status.Status.TheVariants.{Done, BadWords, NoMemory}
+use Rattle.trim_cli.specs.Answer.{status_of, refused, capped, word_at, SinkFailed}
 
 -- no count of faults rose in this call
-abbrev pub IsQuiet : FolderState → FolderState → SinkState → SinkState → SinkState → SinkState → Type 0
-IsQuiet was now out0 out1 err0 err1 = (Rose was.read_faults now.read_faults → ⊥) × (SinkFailed out0 out1 err0 err1 → ⊥)
+pub record IsQuiet (was now : FolderState) (out0 out1 err0 err1 : SinkState) : Type 0 where
+  pub reads : Rose was.read_faults now.read_faults → ⊥
+  pub writes : Rose was.write_faults now.write_faults → ⊥
+  pub sinks : SinkFailed out0 out1 err0 err1 → ⊥
 
--- the status of a file: the run's where it is thin
-abbrev pub file_status : ℕ → Option AsmRec → Status
-file_status steps None = NotYet 0
-file_status steps (Some rec) = status_of steps (end_of (run_of rec steps).end)
+-- the status of `exec` for a file: the run's where it can be taken
+abbrev pub file_status : ℕ → Result AsmRec Refusal → Status
+file_status steps (Err why) = refused why
+file_status steps (Ok rec) = status_of steps (end_of (run_of rec steps).end)
 
-abbrev pub told_status : ℕ → Option (List ℕ) → Option Status
-told_status steps None = None
-told_status steps (Some bytes) = Some (file_status steps (thin_record bytes))
+-- the status of what a trim gives
+abbrev pub trim_status : Result Trimmed Refusal → Status
+trim_status (Ok left) = Done
+trim_status (Err why) = refused why
 
--- what the words ask for, of a folder that holds these files; None where it has no such file
-abbrev pub wanted : Result Command ℕ → List (List ℕ) → Files → Option Status
-wanted (Err at) words files = Some (BadWords (capped at))
-wanted (Ok (Exec at steps)) words files = told_status steps (files (word_at words at))
+abbrev pub WantsRun : ℕ → Option (List ℕ) → Status → Type 0
+WantsRun steps None status = Unit {0}
+WantsRun steps (Some bytes) status = status ≡ file_status steps (told_alone bytes)
 
-abbrev pub IsAnswered : Option Status → Status → Type 0
-IsAnswered None status = Unit {0}
-IsAnswered (Some s) status = (status ≡ s) ⊎ (status ≡ NoMemory)
+abbrev pub WantsTrim : Option (List ℕ) → Status → Type 0
+WantsTrim None status = Unit {0}
+WantsTrim (Some bytes) status = (r : Result Trimmed Refusal) × Trims (told_alone bytes) r × (status ≡ trim_status r)
+
+-- the status that the words ask for, of a folder that holds these files; any where it has no such file
+abbrev pub Wants : Result Command ℕ → List (List ℕ) → Files → Status → Type 0
+Wants (Err at) words files status = status ≡ BadWords (capped at)
+Wants (Ok (Exec at steps)) words files status = WantsRun steps (files (word_at words at)) status
+Wants (Ok (Trim output at)) words files status = WantsTrim (files (word_at words at)) status
+
+-- it is the answer, or memory ran out
+abbrev pub IsAnswered : Result Command ℕ → List (List ℕ) → Files → Status → Type 0
+IsAnswered r words files status = Wants r words files status ⊎ (status ≡ NoMemory)

@@ -1,9 +1,10 @@
 -- The status lines and the codes that the program ends with.
-use Rattle.std.specs.Prelude.{ℕ, ◌+◌, ◌/◌, ◌%◌, List, [], ◌∷◌, ◌++◌, codes, nat_lt, if◌then◌else◌}
+use Rattle.std.specs.Prelude.{ℕ, ◌+◌, ◌/◌, ◌%◌, List, [], ◌∷◌, ◌++◌, codes, nat_lt, ◌==◌, if◌then◌else◌}
 use Rattle.std.specs.Fmt.{decimal, signed_decimal}
+use Rattle.il_base.specs.declared.ids.BadAt.{BadAt}
 use Rattle.il_base.specs.declared.ids.Place.{Place}
 use Rattle.trim_cli.specs.declared.status.Status.{Status}
-use Rattle.trim_cli.specs.declared.status.Status.TheVariants.{Ended, BadWords, ReadFault, WriteFault, NoMemory, Spent, Stopped, Stuck, NotYet}
+use Rattle.trim_cli.specs.declared.status.Status.TheVariants.{Done, Ended, BadWords, BadFile, Unresolved, Limit, ReadFault, WriteFault, NoMemory, Spent, Stopped, Stuck, NotYet}
 
 -- a lower-case hexadecimal digit
 abbrev pub hex_digit : ℕ → ℕ
@@ -22,8 +23,37 @@ place_text asm p = (((asm ++ codes ":") ++ hex8 p.token) ++ codes ":") ++ hex8 p
 abbrev pub ended : List ℕ → List ℕ
 ended text = text ++ 10 ∷ []
 
+-- the name of what fails in a file
+unfoldable pub why_text : ℕ → List ℕ
+why_text why =
+    if why == 1 then codes "NotPe"
+    else if why == 2 then codes "NoCli"
+    else if why == 3 then codes "NotIlOnly"
+    else if why == 4 then codes "Native"
+    else if why == 5 then codes "Truncated"
+    else if why == 6 then codes "BadRva"
+    else if why == 7 then codes "BadRoot"
+    else if why == 8 then codes "BadStream"
+    else if why == 9 then codes "BadHeap"
+    else if why == 10 then codes "UnknownTable"
+    else if why == 11 then codes "RowOutOfRange"
+    else if why == 12 then codes "ListOrder"
+    else codes "SortOrder"
+
+-- NAME OFFSET WHY
+abbrev pub bad_text : List ℕ → BadAt → List ℕ
+bad_text word at = (((word ++ codes " ") ++ decimal at.offset) ++ codes " ") ++ why_text at.why
+
+-- WHICH FOUND
+abbrev pub limit_text : ℕ → ℕ → List ℕ
+limit_text which found = (decimal which ++ codes " ") ++ decimal found
+
 -- the line of a status, with the name of the assembly that a place is in and the word of the file
 abbrev pub line_of : List ℕ → List ℕ → Status → List ℕ
+line_of asm word Done = codes "done\n"
+line_of asm word (BadFile file at) = ended (codes "bad file " ++ bad_text word at)
+line_of asm word (Unresolved place) = ended (codes "unresolved " ++ place_text asm place)
+line_of asm word (Limit which found) = ended (codes "limit " ++ limit_text which found)
 line_of asm word (Ended code) = ended (codes "ended " ++ signed_decimal code)
 line_of asm word (BadWords place) = ended (codes "bad words " ++ decimal place)
 line_of asm word ReadFault = codes "read fault\n"
@@ -35,7 +65,11 @@ line_of asm word (Stuck place) = ended (codes "stuck " ++ place_text asm place)
 line_of asm word (NotYet file) = ended (codes "not yet " ++ word)
 
 abbrev pub code_of : Status → ℕ
+code_of Done = 0
 code_of (Ended code) = 0
+code_of (BadFile file at) = 3
+code_of (Unresolved place) = 5
+code_of (Limit which found) = 8
 code_of (BadWords place) = 2
 code_of ReadFault = 9
 code_of WriteFault = 10

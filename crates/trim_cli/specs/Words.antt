@@ -1,14 +1,30 @@
--- The program's words: `exec IN [--steps N]`. The first word is the command. Behind it a word that begins with `-` is an
--- option until the word `--` was read; an option's value is the next word, whatever it is; other words are names.
+-- The program's words: `exec IN [--steps N]` and `trim OUT IN`. The first word is the command. Behind it a word that begins
+-- with `-` is an option until the word `--` was read; an option's value is the next word, whatever it is; other words are
+-- names.
 use Rattle.std.specs.Prelude.{ℕ, ◌+◌, ◌-◌, ◌*◌, List, [], ◌∷◌, length, Bool, true, false, Option, Some, None, Result, Ok, Err, codes, nat_le, nat_eq, is_none, not, ◌==◌, ◌&&◌, ◌||◌, if◌then◌else◌}
 use Rattle.std.specs.List.{list_all}
 use Rattle.std.specs.Cmp.Lexicographic.{pointwise}
 use Rattle.trim_cli.specs.declared.command.Command.{Command}
-use Rattle.trim_cli.specs.declared.command.Command.TheVariants.{Exec}
+use Rattle.trim_cli.specs.declared.command.Command.TheVariants.{Exec, Trim}
 use Rattle.trim_cli.specs.declared.command.Progress.{Progress}
+use Rattle.trim_cli.specs.declared.command.TrimProgress.{TrimProgress}
 
 abbrev pub is_word : List ℕ → List ℕ → Bool
 is_word w text = pointwise nat_eq w text
+
+abbrev pub is_empty : List ℕ → Bool
+is_empty [] = true
+is_empty (x ∷ xs) = false
+
+abbrev pub begins_with_dash : List ℕ → Bool
+begins_with_dash [] = false
+begins_with_dash (b ∷ bs) = b == 45
+
+abbrev pub after_word : {P : Type 0} → ℕ → Option P → (P → Result P ℕ) → Result P ℕ
+after_word at None f = Err at
+after_word at (Some p) f = f p
+
+-- ---- numbers
 
 abbrev pub is_digit : ℕ → Bool
 is_digit b = nat_le 48 b && nat_le b 57
@@ -21,6 +37,8 @@ value_of n (d ∷ ds) = value_of (n * 10 + (d - 48)) ds
 -- 1 to 12 decimal digits
 unfoldable pub number_of : List ℕ → Option ℕ
 number_of w = if nat_eq (length w) 0 || not (nat_le (length w) 12) || not (list_all is_digit w) then None else Some (value_of 0 w)
+
+-- ---- the words of `exec`
 
 abbrev pub begin : Progress
 begin = record { names_only = false; expects = false; steps = None; input = None }
@@ -35,16 +53,8 @@ take_option p w =
     else if is_word w (codes "--steps") && is_none p.steps then Some (record p { expects = true })
     else None
 
-abbrev pub is_empty : List ℕ → Bool
-is_empty [] = true
-is_empty (x ∷ xs) = false
-
 abbrev pub take_name : Progress → ℕ → List ℕ → Option Progress
 take_name p at w = if is_empty w || not (is_none p.input) then None else Some (record p { input = Some at })
-
-abbrev pub begins_with_dash : List ℕ → Bool
-begins_with_dash [] = false
-begins_with_dash (b ∷ bs) = b == 45
 
 -- one word, at its place; None where it is bad
 unfoldable pub word_step : Progress → ℕ → List ℕ → Option Progress
@@ -52,10 +62,6 @@ word_step p at w =
     if p.expects then take_value p (number_of w)
     else if not p.names_only && begins_with_dash w then take_option p w
     else take_name p at w
-
-abbrev pub after_word : ℕ → Option Progress → (Progress → Result Progress ℕ) → Result Progress ℕ
-after_word at None f = Err at
-after_word at (Some p) f = f p
 
 -- the words from a place on, or the place of the first bad one
 abbrev pub rest_of : ℕ → List (List ℕ) → Progress → Result Progress ℕ
@@ -78,6 +84,44 @@ abbrev pub finished : ℕ → Result Progress ℕ → Result Command ℕ
 finished words (Err at) = Err at
 finished words (Ok p) = finish words p
 
+-- ---- the words of `trim`
+
+abbrev pub trim_begin : TrimProgress
+trim_begin = record { names_only = false; output = None; input = None }
+
+-- `--` is the only option
+abbrev pub take_trim_option : TrimProgress → List ℕ → Option TrimProgress
+take_trim_option p w = if is_word w (codes "--") then Some (record p { names_only = true }) else None
+
+-- OUT, and then IN
+abbrev pub take_trim_name : TrimProgress → ℕ → List ℕ → Option TrimProgress
+take_trim_name p at w =
+    if is_empty w then None
+    else if is_none p.output then Some (record p { output = Some at })
+    else if is_none p.input then Some (record p { input = Some at })
+    else None
+
+unfoldable pub trim_step : TrimProgress → ℕ → List ℕ → Option TrimProgress
+trim_step p at w = if not p.names_only && begins_with_dash w then take_trim_option p w else take_trim_name p at w
+
+abbrev pub trim_rest : ℕ → List (List ℕ) → TrimProgress → Result TrimProgress ℕ
+trim_rest at [] p = Ok p
+trim_rest at (w ∷ ws) p = after_word at (trim_step p at w) (trim_rest (at + 1) ws)
+
+abbrev pub with_names : ℕ → Option ℕ → Option ℕ → Result Command ℕ
+with_names words None input = Err words
+with_names words (Some out) None = Err words
+with_names words (Some out) (Some at) = Ok (Trim out at)
+
+abbrev pub trim_finished : ℕ → Result TrimProgress ℕ → Result Command ℕ
+trim_finished words (Err at) = Err at
+trim_finished words (Ok p) = with_names words p.output p.input
+
+-- ---- all words
+
 unfoldable pub read_words : List (List ℕ) → Result Command ℕ
 read_words [] = Err 0
-read_words (w ∷ ws) = if is_word w (codes "exec") then finished (length ws + 1) (rest_of 1 ws begin) else Err 0
+read_words (w ∷ ws) =
+    if is_word w (codes "exec") then finished (length ws + 1) (rest_of 1 ws begin)
+    else if is_word w (codes "trim") then trim_finished (length ws + 1) (trim_rest 1 ws trim_begin)
+    else Err 0

@@ -3,9 +3,11 @@
 pub enum Command {
     /// `exec IN [--steps N]`
     Exec { input: usize, steps: u64 },
+    /// `trim OUT IN`
+    Trim { output: usize, input: usize },
 }
 
-/// What was read of the words behind the command's.
+/// What was read of the words behind `exec`.
 #[derive(Clone, Copy, Debug, PartialEq, Eq)]
 pub(crate) struct Progress {
     /// Whether the word `--` was read: every later word is a name.
@@ -13,5 +15,14 @@ pub(crate) struct Progress {
     /// Whether the next word is the value of `--steps`.
     pub(crate) expects: bool,
     pub(crate) steps: Option<u64>,
+    pub(crate) input: Option<usize>,
+}
+
+/// What was read of the words behind `trim`.
+#[derive(Clone, Copy, Debug, PartialEq, Eq)]
+pub(crate) struct TrimProgress {
+    /// Whether the word `--` was read: every later word is a name.
+    pub(crate) names_only: bool,
+    pub(crate) output: Option<usize>,
     pub(crate) input: Option<usize>,
 }

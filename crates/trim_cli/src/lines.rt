@@ -2,10 +2,10 @@
 
 ghost use Rattle.std.specs.Prelude.{◌≡◌, ◌<◌, ◌++◌, OnOk, IfOk, codes};
 ghost use Rattle.std.specs.Fmt.{decimal, signed_decimal};
-ghost use Rattle.trim_cli.specs.Lines.{hex_digit, hex8, place_text, ended, line_of};
+ghost use Rattle.trim_cli.specs.Lines.{hex_digit, hex8, place_text, ended, why_text, bad_text, limit_text, line_of};
 
 use crate::status::Status;
-use il_base::{NoMemory, Place};
+use il_base::{BadAt, NoMemory, Place};
 use std::alloc::Global;
 
 fn hex_digit(n: u32) -> u8
@@ -79,6 +79,65 @@ fn with_number(alloc: Global, label: &[u8], n: u64) -> Result<Vec<u8>, NoMemory>
     with_text(alloc, label, text.as_bytes())
 }
 
+/// The name of what fails in a file.
+#[tactic(auto, unfolding(crate::specs::Lines::why_text))]
+fn why_text(why: u8) -> &'static [u8]
+    ensures { result.now ≡ why_text why }
+{
+    match why {
+        1 => b"NotPe",
+        2 => b"NoCli",
+        3 => b"NotIlOnly",
+        4 => b"Native",
+        5 => b"Truncated",
+        6 => b"BadRva",
+        7 => b"BadRoot",
+        8 => b"BadStream",
+        9 => b"BadHeap",
+        10 => b"UnknownTable",
+        11 => b"RowOutOfRange",
+        12 => b"ListOrder",
+        _ => b"SortOrder",
+    }
+}
+
+fn bad_text(alloc: Global, word: &[u8], at: BadAt) -> Result<Vec<u8>, NoMemory>
+    ensures { IfOk result (λ text. text.items ≡ bad_text word.now at) }
+{
+    let offset = at.offset.to_string(alloc)?;
+    let mut text = Vec::from_slice(alloc, word)?;
+    text.push(b' ')?;
+    text.extend_from_slice(offset.as_bytes())?;
+    text.push(b' ')?;
+    text.extend_from_slice(why_text(at.why))?;
+    Ok(text)
+}
+
+fn with_fault(alloc: Global, word: &[u8], at: BadAt) -> Result<Vec<u8>, NoMemory>
+    ensures { IfOk result (λ line. line.items ≡ ended (codes "bad file " ++ bad_text word.now at)) }
+{
+    let text = bad_text(alloc, word, at)?;
+    with_text(alloc, b"bad file ", &text)
+}
+
+fn limit_text(alloc: Global, which: u8, found: u64) -> Result<Vec<u8>, NoMemory>
+    ensures { IfOk result (λ text. text.items ≡ limit_text which found) }
+{
+    let number = which.to_string(alloc)?;
+    let reached = found.to_string(alloc)?;
+    let mut text = Vec::from_slice(alloc, number.as_bytes())?;
+    text.push(b' ')?;
+    text.extend_from_slice(reached.as_bytes())?;
+    Ok(text)
+}
+
+fn with_limit(alloc: Global, which: u8, found: u64) -> Result<Vec<u8>, NoMemory>
+    ensures { IfOk result (λ line. line.items ≡ ended (codes "limit " ++ limit_text which found)) }
+{
+    let text = limit_text(alloc, which, found)?;
+    with_text(alloc, b"limit ", &text)
+}
+
 /// The line of a status, with the name of the assembly that a place is in and the word of the file.
 pub(crate) fn line_of(
     alloc: Global,
@@ -89,7 +148,11 @@ pub(crate) fn line_of(
     ensures { IfOk result (λ line. line.items ≡ line_of asm.now word.now status) }
 {
     match status {
+        Status::Done => Ok(Vec::from_slice(alloc, b"done\n")?),
         Status::Ended { code } => with_code(alloc, code),
+        Status::BadFile { file: _, at } => with_fault(alloc, word, at),
+        Status::Unresolved { place } => with_place(alloc, b"unresolved ", asm, place),
+        Status::Limit { which, found } => with_limit(alloc, which, found),
         Status::BadWords { place } => with_number(alloc, b"bad words ", u64::from(place)),
         Status::ReadFault => Ok(Vec::from_slice(alloc, b"read fault\n")?),
         Status::WriteFault => Ok(Vec::from_slice(alloc, b"write fault\n")?),

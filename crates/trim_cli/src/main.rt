@@ -2,10 +2,14 @@
 #![tactic(auto)]
 
 mod command;
+mod execute;
 mod lines;
+mod refusals;
 mod report;
 mod run;
 mod status;
+mod trim_words;
+mod trimming;
 mod words;
 
 use il_base::NoMemory;

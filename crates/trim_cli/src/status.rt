@@ -1,18 +1,26 @@
 ghost use Rattle.std.specs.Prelude.{◌≡◌};
 
-use il_base::Place;
+use il_base::{BadAt, Place};
 
 /// How the program answers.
 #[derive(Clone, Copy, Debug, PartialEq, Eq)]
 pub enum Status {
+    /// `trim` wrote its file.
+    Done,
     /// The program of `exec` returned from its entry point.
     Ended { code: i32 },
     /// The words aren't a command's: the place of the first bad word, counted from 0, or the number of words where one
     /// is missing.
     BadWords { place: u32 },
+    /// A file, counted from 0, has no record: the first demand of II.22 to II.25 that fails, at its offset.
+    BadFile { file: u32, at: BadAt },
+    /// An operand of a method that `trim` keeps names nothing.
+    Unresolved { place: Place },
+    /// More than a limit allows: 2 bytes of a file, 5 rows of a table, 7 bytes of the file that is written.
+    Limit { which: u8, found: u64 },
     /// A file couldn't be read.
     ReadFault,
-    /// The output, or the status line, couldn't be written.
+    /// The file, the output or the status line couldn't be written.
     WriteFault,
     NoMemory,
     /// The program of `exec` used up its steps.
@@ -33,8 +41,12 @@ impl Status {
         ensures { result ≡ code_of self.now }
     {
         match self {
+            Status::Done => 0,
             Status::Ended { .. } => 0,
             Status::BadWords { .. } => 2,
+            Status::BadFile { .. } => 3,
+            Status::Unresolved { .. } => 5,
+            Status::Limit { .. } => 8,
             Status::ReadFault => 9,
             Status::WriteFault => 10,
             Status::NoMemory => 11,

@@ -3,9 +3,10 @@
 ghost use Rattle.std.specs.Prelude.{◌≡◌, ◌≤◌, ◌+◌, ◌-◌, ◌*◌, map, length, drop, true};
 ghost use Rattle.std.specs.List.{list_all};
 ghost use Rattle.std.specs.String.{string_bytes};
-ghost use Rattle.trim_cli.specs.Words.{is_digit, value_of, number_of, begins_with_dash, word_step, take_option, take_name, take_value, rest_of, finish, read_words, begin};
+ghost use Rattle.trim_cli.specs.Words.{is_digit, value_of, number_of, begins_with_dash, word_step, take_option, take_name, take_value, rest_of, finish, finished, read_words, begin};
 
 use crate::command::{Command, Progress};
+use crate::trim_words::trim_words;
 
 /// The steps that `exec` makes where the words don't say.
 const DEFAULT_STEPS: u64 = 100_000_000;
@@ -99,7 +100,7 @@ fn take_name(progress: Progress, at: usize, word: &[u8]) -> Option<Progress>
     })
 }
 
-fn begins_with_dash(word: &[u8]) -> bool
+pub(crate) fn begins_with_dash(word: &[u8]) -> bool
     ensures { result ≡ begins_with_dash word.now }
 {
     match word {
@@ -160,6 +161,17 @@ fn rest_of(words: &[String]) -> Result<Progress, usize>
     Ok(progress)
 }
 
+/// The words behind `exec`.
+fn exec_words(words: &[String]) -> Result<Command, usize>
+    requires { 1 ≤ length words.now }
+    ensures { result ≡ finished (length words.now) (rest_of 1 (map string_bytes (drop 1 words.now)) begin) }
+{
+    match rest_of(words) {
+        Err(at) => Err(at),
+        Ok(progress) => finish(words.len(), progress),
+    }
+}
+
 /// What the words ask for, or the place of the first bad word; where a word is missing, the number of words.
 #[tactic(auto, unfolding(crate::specs::Words::read_words))]
 pub(crate) fn read_words(words: &[String]) -> Result<Command, usize>
@@ -168,12 +180,12 @@ pub(crate) fn read_words(words: &[String]) -> Result<Command, usize>
     match words {
         [] => Err(0),
         [first, ..] => {
-            if first.as_bytes() != b"exec".as_slice() {
-                return Err(0);
-            }
-            match rest_of(words) {
-                Err(at) => Err(at),
-                Ok(progress) => finish(words.len(), progress),
+            if first.as_bytes() == b"exec".as_slice() {
+                exec_words(words)
+            } else if first.as_bytes() == b"trim".as_slice() {
+                trim_words(words)
+            } else {
+                Err(0)
             }
         }
     }

@@ -5,8 +5,6 @@ use Rattle.il_base.specs.declared.ids.Place.{Place}
 use Rattle.il_outside.specs.Streams.{SinkState, AppendsPrefix}
 use Rattle.il_outside.specs.Faults.{Rose}
 use Rattle.world_model.specs.declared.record.AsmRec.{AsmRec}
-use Rattle.world_model.specs.declared.assemblies.AssemblyRow.{AssemblyRow}
-use Rattle.thin_reader.specs.Record.{thin_record}
 use Rattle.trim_core.specs.declared.answers.Ending.{Ending}
 use Rattle.cil_values.specs.declared.state.End.{End}
 use Rattle.cil_values.specs.declared.state.End.TheVariants as run_end
@@ -19,9 +17,10 @@ use Rattle.cil_machine.specs.declared.step_out.StepOut.TheVariants as out
 use Rattle.trim_core.specs.declared.answers.EndKind.{EndKind}
 use Rattle.trim_core.specs.declared.answers.EndKind.TheVariants.{Ended, Spent, Stopped, Stuck}
 use Rattle.trim_core.specs.declared.answers.Refusal.{Refusal}
-use Rattle.trim_core.specs.declared.answers.Refusal.TheVariants.{NotYet, NoMemory}
+use Rattle.trim_core.specs.declared.answers.Refusal.TheVariants.{NoMemory}
 use Rattle.trim_core.specs.declared.answers.ExecFault.{ExecFault}
 use Rattle.trim_core.specs.declared.answers.ExecFault.TheVariants.{Refused, Write}
+use Rattle.trim_core.specs.Told.{RefusedBy}
 
 -- a place in a method of the one file, by its MethodDef token; tokens have 32 bits
 abbrev pub place_in : ℕ → ℕ → Place
@@ -47,14 +46,14 @@ abbrev pub RunsTo : Outcome → SinkState → SinkState → Result EndKind ExecF
 RunsTo o old new (Ok end) = (end ≡ end_of o.end) × Appends old.held new.held o.output × (new.faults ≡ old.faults)
 RunsTo o old new (Err Write) = AppendsPrefix old.held new.held o.output × Rose old.faults new.faults
 RunsTo o old new (Err (Refused NoMemory)) = AppendsPrefix old.held new.held o.output × (new.faults ≡ old.faults)
-RunsTo o old new (Err (Refused (NotYet file))) = ⊥
+RunsTo o old new (Err (Refused refusal)) = ⊥
 
 -- the same of a loop over the steps, which gives the end as the machine has it
 abbrev pub LoopsTo : Outcome → SinkState → SinkState → Result (Option End) ExecFault → Type 0
 LoopsTo o old new (Ok end) = (end ≡ o.end) × Appends old.held new.held o.output × (new.faults ≡ old.faults)
 LoopsTo o old new (Err Write) = AppendsPrefix old.held new.held o.output × Rose old.faults new.faults
 LoopsTo o old new (Err (Refused NoMemory)) = AppendsPrefix old.held new.held o.output × (new.faults ≡ old.faults)
-LoopsTo o old new (Err (Refused (NotYet file))) = ⊥
+LoopsTo o old new (Err (Refused refusal)) = ⊥
 
 -- One step and the writing of what it printed, which comes after it.
 abbrev pub TurnsTo : Next → State → SinkState → SinkState → Result StepOut ExecFault → Type 0
@@ -62,32 +61,19 @@ TurnsTo (went s bytes) now old new (Ok out.Went) = (now ≡ s) × Appends old.he
 TurnsTo (went s bytes) now old new (Ok (out.Over e)) = ⊥
 TurnsTo (went s bytes) now old new (Err Write) = AppendsPrefix old.held new.held bytes × Rose old.faults new.faults
 TurnsTo (went s bytes) now old new (Err (Refused NoMemory)) = AppendsPrefix old.held new.held bytes × (new.faults ≡ old.faults)
-TurnsTo (went s bytes) now old new (Err (Refused (NotYet file))) = ⊥
+TurnsTo (went s bytes) now old new (Err (Refused refusal)) = ⊥
 TurnsTo (over e) now old new (Ok out.Went) = ⊥
 TurnsTo (over e) now old new (Ok (out.Over f)) = (f ≡ e) × Appends old.held new.held [] × (new.faults ≡ old.faults)
 TurnsTo (over e) now old new (Err Write) = ⊥
 TurnsTo (over e) now old new (Err (Refused NoMemory)) = Appends old.held new.held [] × (new.faults ≡ old.faults)
-TurnsTo (over e) now old new (Err (Refused (NotYet file))) = ⊥
-
--- what one file is: its record, or a file that can't be taken yet
-abbrev pub told_alone : Option AsmRec → Result AsmRec Refusal
-told_alone None = Err (NotYet 0)
-told_alone (Some rec) = Ok rec
-
--- What the files are: the record of the one file, or a file that can't be taken yet. Of two files the second can't,
--- whatever they are; of none the first isn't there.
-abbrev pub told_of : List (List ℕ) → Result AsmRec Refusal
-told_of [] = Err (NotYet 0)
-told_of (f ∷ []) = told_alone (thin_record f)
-told_of (f ∷ g ∷ files) = Err (NotYet 1)
+TurnsTo (over e) now old new (Err (Refused refusal)) = ⊥
 
 -- What `exec_to` answers and leaves: the run's, or the refusal with nothing written; only want of memory may come in the
 -- place of either.
 abbrev pub RefusesTo : Refusal → SinkState → SinkState → Result EndKind ExecFault → Type 0
-RefusesTo r old new (Ok end) = ⊥
-RefusesTo r old new (Err Write) = ⊥
-RefusesTo r old new (Err (Refused NoMemory)) = Appends old.held new.held [] × (new.faults ≡ old.faults)
-RefusesTo r old new (Err (Refused (NotYet file))) = (r ≡ NotYet file) × Appends old.held new.held [] × (new.faults ≡ old.faults)
+RefusesTo due old new (Ok end) = ⊥
+RefusesTo due old new (Err Write) = ⊥
+RefusesTo due old new (Err (Refused answer)) = RefusedBy due answer × Appends old.held new.held [] × (new.faults ≡ old.faults)
 
 abbrev pub ExecsTo : Result AsmRec Refusal → ℕ → SinkState → SinkState → Result EndKind ExecFault → Type 0
 ExecsTo (Ok rec) n old new r = RunsTo (run_of rec n) old new r
@@ -97,16 +83,6 @@ ExecsTo (Err refusal) n old new r = RefusesTo refusal old new r
 abbrev pub Execs : Result AsmRec Refusal → ℕ → Result Ending Refusal → Type 0
 Execs (Ok rec) n (Ok x) = (x.output ≡ (run_of rec n).output) × (x.end ≡ end_of (run_of rec n).end)
 Execs (Ok rec) n (Err NoMemory) = Unit {0}
-Execs (Ok rec) n (Err (NotYet file)) = ⊥
-Execs (Err refusal) n (Ok x) = ⊥
-Execs (Err refusal) n (Err NoMemory) = Unit {0}
-Execs (Err refusal) n (Err (NotYet file)) = refusal ≡ NotYet file
-
--- the name of a record's assembly
-abbrev pub first_name : List AssemblyRow → Option (List ℕ)
-first_name [] = None
-first_name (row ∷ rows) = Some row.name
-
-abbrev pub name_of : Option AsmRec → Option (List ℕ)
-name_of None = None
-name_of (Some rec) = first_name rec.assembly
+Execs (Ok rec) n (Err answer) = ⊥
+Execs (Err due) n (Ok x) = ⊥
+Execs (Err due) n (Err answer) = RefusedBy due answer

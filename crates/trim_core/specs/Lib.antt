@@ -1,2 +1,4 @@
+pub mod Told
 pub mod Exec
 pub mod Collect
+pub mod Trim

@@ -1,9 +1,16 @@
-use il_base::{NoMemory, Place, Text};
+use il_base::{BadAt, NoMemory, Place, Text};
 
-/// Why a call gave no result.
+/// Why a call gave no result. Files are counted from 0.
 #[derive(Clone, Copy, Debug, PartialEq, Eq)]
 pub enum Refusal {
-    /// The file, counted from 0, can't be taken yet: it isn't thin, or it is the second one.
+    /// The file has no record: the first demand of II.22 to II.25 that fails, at its offset in the file.
+    BadFile { file: u32, at: BadAt },
+    /// More than a limit allows. Limit 2: a file has at most 67108864 bytes. Limit 5: a table has at most 1048576 rows.
+    /// Limit 7: a file that is written has at most 268435456 bytes. `found` is the number above it.
+    Limit { which: u8, found: u64 },
+    /// An operand of a method that is kept names nothing.
+    Unresolved { place: Place },
+    /// The file can't be taken yet: its record isn't thin, or it is the second one.
     NotYet { file: u32 },
     NoMemory,
 }
@@ -32,6 +39,16 @@ pub enum EndKind {
 pub struct Ending {
     pub output: Text,
     pub end: EndKind,
+}
+
+/// What a trim left.
+#[derive(Drop)]
+pub struct Trimmed {
+    /// The file that is written.
+    pub bytes: Text,
+    /// How many types and methods are kept.
+    pub types: u32,
+    pub methods: u32,
 }
 
 /// Why a run over a sink gave no end.

@@ -1,25 +1,23 @@
 //! `exec`: runs the program of the files.
 
-ghost use Rattle.std.specs.Prelude.{◌≡◌, IfOk};
-ghost use Rattle.trim_core.specs.Exec.{ExecsTo, Execs, told_alone, told_of, name_of};
-ghost use Rattle.thin_reader.specs.Record.{thin_record};
+ghost use Rattle.trim_core.specs.Exec.{ExecsTo, Execs};
+ghost use Rattle.trim_core.specs.Told.{told_alone, told_of};
 
 use crate::answers::{EndKind, Ending, ExecFault, Refusal};
 use crate::collect::Collected;
 use crate::run::run_record;
-use il_base::{NoMemory, Seq, Text};
+use crate::told::told_alone;
+use il_base::{Seq, Text};
 use il_outside::Sink;
 use std::alloc::Global;
-use thin_reader::read_thin;
 
 /// Runs the program of one file's bytes.
 fn exec_file<O: Sink>(alloc: Global, file: &[u8], n: u64, out: &mut O) -> Result<EndKind, ExecFault>
-    ensures { ExecsTo (told_alone (thin_record file.now)) n (O.state out.old) (O.state out.new) result }
+    ensures { ExecsTo (told_alone file.now) n (O.state out.old) (O.state out.new) result }
 {
-    match read_thin(alloc, file) {
-        Err(_) => Err(ExecFault::Refused(Refusal::NoMemory)),
-        Ok(None) => Err(ExecFault::Refused(Refusal::NotYet { file: 0 })),
-        Ok(Some(rec)) => run_record(alloc, &rec, n, out),
+    match told_alone(alloc, file) {
+        Err(refusal) => Err(ExecFault::Refused(refusal)),
+        Ok(rec) => run_record(alloc, &rec, n, out),
     }
 }
 
@@ -54,18 +52,5 @@ pub fn exec(alloc: Global, files: &Seq<Text>, input: &[u8], n: u64) -> Result<En
         }),
         Err(ExecFault::Refused(refusal)) => Err(refusal),
         Err(ExecFault::Write) => unreachable!(),
-    }
-}
-
-/// The name of the assembly that a thin file is, None where the file isn't thin.
-pub fn assembly_name(alloc: Global, file: &[u8]) -> Result<Option<Text>, NoMemory>
-    ensures { IfOk result (λ name. name ≡ name_of (thin_record file.now)) }
-{
-    match read_thin(alloc, file)? {
-        None => Ok(None),
-        Some(rec) => match rec.assembly.as_slice() {
-            [] => Ok(None),
-            [row, ..] => Ok(Some(Seq::from_slice(alloc, row.name.as_slice())?)),
-        },
     }
 }

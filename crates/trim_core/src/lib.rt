@@ -6,6 +6,10 @@ mod answers;
 mod collect;
 mod execute;
 mod run;
+mod told;
+mod trimming;
 
-pub use answers::{EndKind, Ending, ExecFault, Refusal};
-pub use execute::{assembly_name, exec, exec_to};
+pub use answers::{EndKind, Ending, ExecFault, Refusal, Trimmed};
+pub use execute::{exec, exec_to};
+pub use told::assembly_name;
+pub use trimming::trim;

@@ -1,6 +1,0 @@
-use Rattle.std.proofs.Common.{◌≡◌, drop}
-use Rattle.thin_reader.specs.UserTexts.{marked}
-use Rattle.thin_reader.proofs.user_texts.mark_all.Given as goal
-
-abbrev pub invariant-loop-m : goal.invariant-loop-m
-invariant-loop-m l = marked l.marks.items (drop l.m-index l.methods) ≡ marked l.initial.marks.items l.methods

@@ -1,6 +1,0 @@
-use Rattle.std.proofs.Common.{◌≡◌, drop}
-use Rattle.thin_reader.specs.UserTexts.{marked_in}
-use Rattle.thin_reader.proofs.user_texts.mark_code.Given as goal
-
-abbrev pub invariant-loop-i : goal.invariant-loop-i
-invariant-loop-i l = marked_in l.marks.items (drop l.i-index l.code) ≡ marked_in l.initial.marks.items l.code

@@ -1,0 +1,58 @@
+-- What the bytes of files are: a thin record, or why none can be taken.
+use Rattle.std.specs.Prelude.{◌≡◌, ℕ, nat_le, List, [], ◌∷◌, length, Option, Some, None, Result, Ok, Err, if◌then◌else◌}
+use Rattle.il_base.specs.declared.ids.BadAt.{BadAt}
+use Rattle.cli_format.specs.declared.error.TablesError.{TablesError}
+use Rattle.cli_format.specs.declared.error.TablesError.TheVariants as unread
+use Rattle.cli_format.specs.Demand.{first_fault}
+use Rattle.world_model.specs.declared.assemblies.AssemblyRow.{AssemblyRow}
+use Rattle.world_model.specs.declared.record.AsmRec.{AsmRec}
+use Rattle.world_model.specs.Thin.{is_thin}
+use Rattle.record_format.specs.Record.{record_demands, record_at}
+use Rattle.trim_core.specs.declared.answers.Refusal.{Refusal}
+use Rattle.trim_core.specs.declared.answers.Refusal.TheVariants.{BadFile, Limit, NotYet, NoMemory}
+
+-- the most bytes of a file that is read
+abbrev pub most_bytes : ℕ
+most_bytes = 67108864
+
+-- a record that can't be run or trimmed yet
+abbrev pub if_thin : AsmRec → Result AsmRec Refusal
+if_thin rec = if is_thin rec then Ok rec else Err (NotYet 0)
+
+-- by the first demand that fails: limit 5 is that on rows
+abbrev pub told_by : List ℕ → Option TablesError → Result AsmRec Refusal
+told_by file (Some (unread.Bad at)) = Err (BadFile 0 at)
+told_by file (Some (unread.Rows n)) = Err (Limit 5 n)
+told_by file (Some unread.NoMemory) = Err NoMemory
+told_by file None = if_thin (record_at file)
+
+-- one file: limit 2 is that on its length
+unfoldable pub told_alone : List ℕ → Result AsmRec Refusal
+told_alone file = if nat_le (length file) most_bytes then told_by file (first_fault (record_demands file)) else Err (Limit 2 (length file))
+
+-- What the files are. Of two files the second can't be taken, whatever they are; of none the first isn't there.
+abbrev pub told_of : List (List ℕ) → Result AsmRec Refusal
+told_of [] = Err (NotYet 0)
+told_of (f ∷ []) = told_alone f
+told_of (f ∷ g ∷ files) = Err (NotYet 1)
+
+-- A call refuses as it must, or memory ran out.
+abbrev pub RefusedBy : Refusal → Refusal → Type 0
+RefusedBy due NoMemory = Unit {0}
+RefusedBy due answer = due ≡ answer
+
+-- the name of a record's assembly
+abbrev pub first_name : List AssemblyRow → Option (List ℕ)
+first_name [] = None
+first_name (row ∷ rows) = Some row.name
+
+abbrev pub name_of : Result AsmRec Refusal → Option (List ℕ)
+name_of (Err refusal) = None
+name_of (Ok rec) = first_name rec.assembly
+
+-- What a read of a file's record answers.
+abbrev pub Told : Result AsmRec Refusal → Result AsmRec Refusal → Type 0
+Told told (Ok rec) = told ≡ Ok rec
+Told (Err due) (Err answer) = RefusedBy due answer
+Told (Ok rec) (Err NoMemory) = Unit {0}
+Told (Ok rec) (Err answer) = ⊥

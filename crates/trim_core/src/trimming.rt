@@ -1,0 +1,94 @@
+//! `trim`: leaves out what the entry point doesn't lead to.
+
+ghost use Rattle.std.specs.Prelude.{◌≡◌, ◌≤◌, length, IfOk};
+ghost use Rattle.trim_core.specs.Told.{told_alone, told_of};
+ghost use Rattle.trim_core.specs.Trim.{Trims, TrimsRecord, IsUnresolved};
+ghost use Rattle.trim_core.specs.Exec.{place_in};
+ghost use Rattle.trim_rules.specs.Marked.{IsMarking};
+ghost use Rattle.trim_rules.specs.BadOperands.{first_bad};
+
+use crate::answers::{Refusal, Trimmed};
+use crate::told::told_alone;
+use assembly_writer::{WriteError, write};
+use il_base::{Bits, Place, Seq, Text};
+use marking::{first_bad, mark_methods};
+use std::alloc::Global;
+use sweep::restrict;
+use trim_rules::BadOperand;
+use world_model::AsmRec;
+
+/// The place of an operand in the one file.
+fn place_of(operand: BadOperand) -> Place
+    ensures { result ≡ place_in operand.method operand.offset }
+{
+    Place {
+        asm: 0,
+        token: 0x0600_0001u32.wrapping_add(operand.method as u32),
+        offset: operand.offset,
+    }
+}
+
+/// The file of what is left.
+fn written(alloc: Global, rec: &AsmRec, marked: &Bits) -> Result<Trimmed, Refusal>
+    requires marking { IsMarking rec.now marked.now.flags }
+    requires good { first_bad rec.now marked.now.flags ≡ None }
+    ensures { TrimsRecord rec.now result }
+{
+    let left = match restrict(alloc, rec, marked.flags.as_slice()) {
+        Err(_) => return Err(Refusal::NoMemory),
+        Ok(left) => left,
+    };
+    let mut bytes = Vec::new(alloc);
+    match write(alloc, &left, &mut bytes) {
+        Err(WriteError::NoMemory) => Err(Refusal::NoMemory),
+        Err(WriteError::Limit { which, found }) => Err(Refusal::Limit { which, found }),
+        Ok(()) => Ok(Trimmed {
+            bytes: Seq::from_vec(bytes),
+            types: 2,
+            methods: left.method_def.len() as u32,
+        }),
+    }
+}
+
+/// What a trim of a thin record gives.
+fn trim_record(alloc: Global, rec: &AsmRec) -> Result<Trimmed, Refusal>
+    ensures { TrimsRecord rec.now result }
+{
+    let marked = match mark_methods(alloc, rec) {
+        Err(_) => return Err(Refusal::NoMemory),
+        Ok(marked) => marked,
+    };
+    match first_bad(alloc, rec, &marked) {
+        Err(_) => Err(Refusal::NoMemory),
+        Ok(Some(operand)) => Err(Refusal::Unresolved {
+            place: place_of(operand),
+        }),
+        Ok(None) => written(alloc, rec, &marked),
+    }
+}
+
+/// Trims one file's bytes.
+fn trim_file(alloc: Global, file: &[u8]) -> Result<Trimmed, Refusal>
+    ensures { Trims (told_alone file.now) result }
+{
+    match told_alone(alloc, file) {
+        Err(refusal) => Err(refusal),
+        Ok(rec) => trim_record(alloc, &rec),
+    }
+}
+
+/// Trims the program of the files, of which there is so far one: what is left are the methods that its entry point leads
+/// to.
+///
+/// `BadFile`, `Limit` 2 and 5 and `NotYet` come exactly where the files say so; `Unresolved` exactly where an operand of a
+/// method that is kept names nothing, and it is the first of them; `Limit` 7 exactly where the file that is written would
+/// have more than 268435456 bytes. `NoMemory` alone is free.
+pub fn trim(alloc: Global, files: &Seq<Text>) -> Result<Trimmed, Refusal>
+    ensures { Trims (told_of files.now) result }
+{
+    match files.as_slice() {
+        [] => Err(Refusal::NotYet { file: 0 }),
+        [file] => trim_file(alloc, file.as_slice()),
+        [_, _, ..] => Err(Refusal::NotYet { file: 1 }),
+    }
+}
