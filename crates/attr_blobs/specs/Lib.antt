@@ -3,4 +3,5 @@ pub mod Texts
 pub mod Values
 pub mod Writing
 pub mod Answers
+pub mod Grammar
 pub mod Laws

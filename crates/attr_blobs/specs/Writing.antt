@@ -1,8 +1,9 @@
 -- The spelling of an attribute's value that is written: each number in its shortest form.
-use Rattle.std.specs.Prelude.{ℕ, ◌+◌, ◌/◌, ◌%◌, min, nat_lt, List, [], ◌∷◌, ◌++◌, length, map, Option, Some, None, if◌then◌else◌, unwrap_or}
+use Rattle.std.specs.Prelude.{ℕ, min, List, [], ◌∷◌, ◌++◌, length, map, Option, Some, None, if◌then◌else◌, unwrap_or}
 use Rattle.std.specs.List.{concat, flat_map}
 use Rattle.std.specs.Option.{option_map}
 use Rattle.byteorder.specs.Endian.{little_bytes}
+use Rattle.blob_grammar.specs.Numbers.{shortest}
 use Rattle.attr_blobs.specs.declared.text.Width.{Width}
 use Rattle.attr_blobs.specs.declared.text.Width.TheVariants.{Eight}
 use Rattle.attr_blobs.specs.declared.kind.ParamKind.{ParamKind, out-ParamKind, fold-ParamKind}
@@ -13,13 +14,6 @@ use Rattle.attr_blobs.specs.declared.value.NamedArg.{NamedArg}
 use Rattle.attr_blobs.specs.declared.value.AttrValue.{AttrValue}
 use Rattle.attr_blobs.specs.Texts.{bytes_of}
 use Rattle.attr_blobs.specs.Values.{width_of_element, width_of_enum}
-
--- the shortest spelling of a compressed number (II.23.2)
-unfoldable pub shortest : ℕ → List ℕ
-shortest n =
-    if nat_lt n 128 then n ∷ []
-    else if nat_lt n 16384 then (128 + n / 256) ∷ (n % 256) ∷ []
-    else (192 + n / 16777216) ∷ (n / 65536 % 256) ∷ (n / 256 % 256) ∷ (n % 256) ∷ []
 
 -- a text. Its length is at most 2^29 - 1: no blob says more.
 unfoldable pub text_bytes : List ℕ → List ℕ

@@ -20,7 +20,7 @@ mod write;
 
 pub use error::AttrError;
 pub use kind::ParamKind;
-pub use laws::written_is_read;
+pub use laws::{values, written_is_read};
 pub use name::{NameRead, TypeName, parse_name};
 pub use read::read_attribute;
 pub use value::{Arg, AttrValue, EnumSize, NamedArg};

@@ -1,6 +1,6 @@
 ghost use Rattle.std.specs.Prelude.{◌≡◌};
 ghost use Rattle.attr_blobs.specs.Values.{fixed_at, named_by, named_at, nameds_at, prolog_at, value_at, whole_at, value_of_blob};
-ghost use Rattle.attr_blobs.specs.Answers.{Gives, Answers};
+ghost use Rattle.attr_blobs.specs.Answers.{Gives, Answers, Follows};
 
 use crate::args::arg_of;
 use crate::error::{AttrError, Unread};
@@ -22,9 +22,22 @@ pub fn read_attribute(
     params: &Seq<ParamKind>,
     enums: &Seq<EnumSize>,
 ) -> Result<AttrValue, AttrError>
+    ensures gives { Answers result (value_of_blob enums.now params.now bytes.now) }
+    ensures grammar { Follows result enums.now params.now bytes.now }
+{
+    answer_of(alloc, enums.as_slice(), params.as_slice(), bytes)
+}
+
+// The value, or the place of the bad byte, counted from the front.
+fn answer_of(
+    alloc: Global,
+    enums: &[EnumSize],
+    params: &[ParamKind],
+    bytes: &[u8],
+) -> Result<AttrValue, AttrError>
     ensures { Answers result (value_of_blob enums.now params.now bytes.now) }
 {
-    match whole_of(alloc, enums.as_slice(), params.as_slice(), bytes) {
+    match whole_of(alloc, enums, params, bytes) {
         Ok(value) => Ok(value),
         Err(Unread::Bad { left }) => Err(AttrError::Bad {
             at: bytes.len().saturating_sub(left).min(0xffff_ffff) as u32,

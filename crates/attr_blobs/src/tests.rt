@@ -133,6 +133,26 @@ fn written_again(rt: HostRuntime) -> Result<(), Fail> {
     Ok(())
 }
 
+// 1.5 and -2.0 of IEEE 754: a boxed R4, and an R8 as a property.
+#[test]
+fn floats(rt: HostRuntime) -> Result<(), Fail> {
+    let alloc = rt.alloc();
+    let bytes =
+        b"\x01\x00\x0c\x00\x00\xc0\x3f\x01\x00\x54\x0d\x01W\x00\x00\x00\x00\x00\x00\x00\xc0";
+    let value = read(alloc, bytes.as_slice(), ParamKind::Boxed)?;
+    let [Arg::Boxed(ParamKind::Prim(0x0c), inner)] = value.fixed.as_slice() else {
+        return Err(Fail::new("a boxed R4"));
+    };
+    assert!(rt; matches!(inner.get(), Arg::Number(0x3fc0_0000)));
+    let [named] = value.named.as_slice() else {
+        return Err(Fail::new("one named argument"));
+    };
+    assert!(rt; matches!(named.value, Arg::Number(0xc000_0000_0000_0000)));
+    let again = rewritten(alloc, bytes.as_slice(), ParamKind::Boxed)?;
+    assert_eq!(rt; again.as_slice(), bytes.as_slice());
+    Ok(())
+}
+
 #[test]
 fn enum_sizes(rt: HostRuntime) -> Result<(), Fail> {
     let alloc = rt.alloc();

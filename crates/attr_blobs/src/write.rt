@@ -3,7 +3,7 @@ ghost use Rattle.std.specs.List.{flat_map};
 ghost use Rattle.byteorder.specs.Endian.{little_bytes};
 ghost use Rattle.attr_blobs.specs.declared.kind.ParamKind.{out-ParamKind};
 ghost use Rattle.attr_blobs.specs.Writing.{kind_bytes, width_in, element_of, text_bytes, arg_bytes, fixed_bytes, named_bytes, attribute_bytes};
-ghost use Rattle.attr_blobs.specs.Answers.{Extends};
+ghost use Rattle.attr_blobs.specs.Answers.{Extends, Spells};
 
 use crate::kind::ParamKind;
 use crate::kinds::{width_of_element, width_of_enum};
@@ -126,8 +126,20 @@ fn put_args(args: &[Arg], kind: &ParamKind, out: &mut Vec<u8>) -> Result<(), NoM
 
 /// Puts the shortest spelling of a custom attribute's value behind the bytes (II.23.3), for the parameters of its
 /// constructor.
-#[tactic(auto, using(crate::proofs::Layers::extends_behind, crate::proofs::Layers::extends_same))]
 pub fn write_attribute(
+    value: &AttrValue,
+    params: &Seq<ParamKind>,
+    out: &mut Vec<u8>,
+) -> Result<(), NoMemory>
+    ensures ok { OnOk result (out.new.items ≡ out.old.items ++ attribute_bytes params.now value.now) }
+    ensures spelled { OnOk result (Spells params.now value.now out.old.items out.new.items) }
+    ensures err { OnErr result (Extends out.old.items out.new.items) }
+{
+    put_attribute(value, params, out)
+}
+
+#[tactic(auto, using(crate::proofs::Layers::extends_behind, crate::proofs::Layers::extends_same))]
+fn put_attribute(
     value: &AttrValue,
     params: &Seq<ParamKind>,
     out: &mut Vec<u8>,

@@ -90,11 +90,11 @@ module _ {A B : Type 0} (r : Reader A) (R : A → List ℕ → Type 0) (q : A �
   abbrev pub both : Reader B
   both bs = r bs >>= λ x. q x.0 x.1
 
-  then_takes : Law r R → ((x : A) → Law (q x) (Q x)) → (bs : List ℕ) (y : B) (rest : List ℕ) → IsBytes bs → both bs ≡ Ok (y, rest) → Takes both (Then R Q) bs y rest
+  then_takes : Law r R → ((x : A) (front : List ℕ) → R x front → Law (q x) (Q x)) → (bs : List ℕ) (y : B) (rest : List ℕ) → IsBytes bs → both bs ≡ Ok (y, rest) → Takes both (Then R Q) bs y rest
   then_takes law laws bs y rest fits e =
       let a = bind_ok (r bs) (λ x. q x.0 x.1) (y, rest) e in
       let t = law.takes bs a.0.0 a.0.1 fits a.1 in
-      let u = (laws a.0.0).takes a.0.1 y rest (IsBytes-behind t.front a.0.1 (subst IsBytes t.parts fits)) a.2 in
+      let u = (laws a.0.0 t.front t.spelled).takes a.0.1 y rest (IsBytes-behind t.front a.0.1 (subst IsBytes t.parts fits)) a.2 in
       record {
         front = t.front ++ u.front;
         parts = t.parts ∙ ap (λ (s : List ℕ). t.front ++ s) u.parts ∙ sym (append_assoc t.front u.front rest);
@@ -112,12 +112,12 @@ module _ {A B : Type 0} (r : Reader A) (R : A → List ℕ → Type 0) (q : A �
   stops_behind x front again what good (b ∷ bad) h = λ more. bind_is (r ((front ++ good) ++ b ∷ more)) (λ x. q x.0 x.1) (x, good ++ b ∷ more) (Err (suc (length more), what))
       (ap r (append_assoc front good (b ∷ more)) ∙ again (good ++ b ∷ more)) (h more)
 
-  then_refuses : Law r R → ((x : A) → Law (q x) (Q x)) → ((x : A) → Inhabited (Q x)) → (bs : List ℕ) (left what : ℕ) → IsBytes bs → both bs ≡ Err (left, what) → Refuses both (Then R Q) bs left what
+  then_refuses : Law r R → ((x : A) (front : List ℕ) → R x front → Law (q x) (Q x)) → ((x : A) (front : List ℕ) → R x front → Inhabited (Q x)) → (bs : List ℕ) (left what : ℕ) → IsBytes bs → both bs ≡ Err (left, what) → Refuses both (Then R Q) bs left what
   then_refuses law laws some bs left what fits e =
       elim (bind_err (r bs) (λ x. q x.0 x.1) (left, what) e) [
         | inl here ↦
             let v = law.refuses bs left what fits here in
-            let s = some v.value in
+            let s = some v.value (v.good ++ v.more) v.begun in
             record {
               good = v.good;
               bad = v.bad;
@@ -131,7 +131,7 @@ module _ {A B : Type 0} (r : Reader A) (R : A → List ℕ → Type 0) (q : A �
             }
         | inr (x, was, there) ↦
             let t = law.takes bs x.0 x.1 fits was in
-            let v = (laws x.0).refuses x.1 left what (IsBytes-behind t.front x.1 (subst IsBytes t.parts fits)) there in
+            let v = (laws x.0 t.front t.spelled).refuses x.1 left what (IsBytes-behind t.front x.1 (subst IsBytes t.parts fits)) there in
             record {
               good = t.front ++ v.good;
               bad = v.bad;
@@ -145,8 +145,12 @@ module _ {A B : Type 0} (r : Reader A) (R : A → List ℕ → Type 0) (q : A �
             }
       ]
 
+  -- what follows is looked at only behind a value that has a spelling
+  pub then_law_where : Law r R → ((x : A) (front : List ℕ) → R x front → Law (q x) (Q x)) → ((x : A) (front : List ℕ) → R x front → Inhabited (Q x)) → Law both (Then R Q)
+  then_law_where law laws some = record { takes = then_takes law laws; refuses = then_refuses law laws some }
+
   pub then_law : Law r R → ((x : A) → Law (q x) (Q x)) → ((x : A) → Inhabited (Q x)) → Law both (Then R Q)
-  then_law law laws some = record { takes = then_takes law laws; refuses = then_refuses law laws some }
+  then_law law laws some = then_law_where law (λ x front h. laws x) (λ x front h. some x)
 
 -- a value without bytes
 pub record Alone {A : Type 0} (made y : A) (bs : List ℕ) : Type 0 where

@@ -2,9 +2,11 @@
 //! The results are those of the grammar of bodies, `body_grammar`'s `specs/Bodies`.
 #![tactic(auto)]
 
+mod blocks;
 mod error;
 mod header;
 mod instructions;
+mod nesting;
 mod opcodes;
 mod reading;
 mod rules;

@@ -1,12 +1,15 @@
-ghost use Rattle.std.specs.Prelude.{◌≡◌, ℕ, ◌<◌, ◌^◌, length, get_or, false, IfOk, IfSome};
+ghost use Rattle.std.specs.Prelude.{◌≡◌, ℕ, ◌<◌, ◌^◌, length, get_or, true, false, IfOk, IfSome};
+ghost use Rattle.std.specs.Bool.{OnTrue};
 ghost use Rattle.body_grammar.specs.HandlerRules as nesting;
+ghost use Rattle.il_code.specs.Nesting.{FitTogether};
 
+use crate::nesting::fit_together;
 use body_grammar::Range;
 use il_base::{Handler, Instr, NoMemory, Seq};
 use std::alloc::Global;
 
 /// The range of a clause's try block.
-fn try_of(h: Handler) -> Range
+pub fn try_of(h: Handler) -> Range
     ensures { result ≡ nesting.try_of h }
 {
     Range {
@@ -16,7 +19,7 @@ fn try_of(h: Handler) -> Range
 }
 
 /// The range of its handler.
-fn handler_of(h: Handler) -> Range
+pub fn handler_of(h: Handler) -> Range
     ensures { result ≡ nesting.handler_of h }
 {
     Range {
@@ -31,13 +34,13 @@ fn are_disjoint(r: Range, s: Range) -> bool
     r.to <= s.from || s.to <= r.from
 }
 
-fn lies_in(r: Range, s: Range) -> bool
+pub fn lies_in(r: Range, s: Range) -> bool
     ensures { result ≡ nesting.lies_in r s }
 {
     s.from <= r.from && r.to <= s.to
 }
 
-fn is_same(r: Range, s: Range) -> bool
+pub fn is_same(r: Range, s: Range) -> bool
     ensures { result ≡ nesting.is_same r s }
 {
     r.from == s.from && r.to == s.to
@@ -139,20 +142,23 @@ fn is_clause(starts: &[bool], size: u32, h: Handler) -> bool
         && !is_same(tried, caught)
 }
 
+/// Whether clause `i` keeps the rules, where it may be known that each clause keeps those on pairs.
 #[tactic(auto, unfolding(body_grammar::specs::HandlerRules::meets_rules))]
-fn meets_rules(starts: &[bool], size: u32, all: &[Handler], i: usize, h: Handler) -> bool
+fn meets_rules(starts: &[bool], size: u32, all: &[Handler], fit: bool, i: usize, h: Handler) -> bool
+    requires { OnTrue fit (nesting.fits_beside_all i h 0 all.now ≡ true) }
     ensures { result ≡ nesting.meets_rules (λ k. get_or starts.now k false) size all.now i h }
 {
-    is_clause(starts, size, h) && fits_beside_all(i, h, all)
+    is_clause(starts, size, h) && (fit || fits_beside_all(i, h, all))
 }
 
 /// The first clause that doesn't keep the rules, counted from 0.
-fn first_offender(starts: &[bool], size: u32, all: &[Handler]) -> Option<usize>
+fn first_offender(starts: &[bool], size: u32, all: &[Handler], fit: bool) -> Option<usize>
+    requires { OnTrue fit (FitTogether all.now) }
     ensures within { IfSome result (λ i. i < length all.now) }
     ensures exact { result ≡ nesting.offender (λ k. get_or starts.now k false) size all.now }
 {
     for (i, h) in all.iter().enumerate() {
-        if !meets_rules(starts, size, all, i, *h) {
+        if !meets_rules(starts, size, all, fit, i, *h) {
             return Some(i);
         }
     }
@@ -187,5 +193,6 @@ pub fn offender(
         return Ok(None);
     }
     let starts = starts(alloc, code, size)?;
-    Ok(first_offender(&starts, size, all))
+    let fit = fit_together(alloc, all)?;
+    Ok(first_offender(&starts, size, all, fit))
 }

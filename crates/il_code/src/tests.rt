@@ -2,7 +2,7 @@ ghost use Rattle.std.specs.Prelude.{◌<◌, ◌^◌, length};
 
 use super::*;
 use body_grammar::{BODY, FILTER, FLOAT, INSTRUCTION};
-use il_base::{Form, Operand};
+use il_base::{Form, Handler, Instr, NoMemory, Operand};
 use std::test::Fail;
 
 /// The body of a program that writes a text: `ldstr 70000001`, `call 0a000001`, `ret`, and two bytes behind it.
@@ -102,4 +102,73 @@ fn faults(rt: HostRuntime) {
     bytes[20] = 2;
     bytes[25] = 0;
     assert_eq!(rt; fault(&rt, &bytes), Some((20, BODY)));
+}
+
+/// A clause of a kind by the places of its try block and its handler: `[from, to, from, to]`.
+fn clause(kind: u8, places: [u8; 4]) -> Handler {
+    let [try_from, try_to, from, to] = places;
+    Handler {
+        kind,
+        try_at: u32::from(try_from),
+        try_len: u32::from(try_to.saturating_sub(try_from)),
+        at: u32::from(from),
+        len: u32::from(to.saturating_sub(from)),
+        token: 0,
+    }
+}
+
+/// Whether clauses keep the rules on pairs, and the first that doesn't keep the rules in 20 bytes of `nop`.
+fn judged(rt: &HostRuntime, all: &[Handler]) -> Result<(bool, Option<usize>), NoMemory> {
+    let mut code: Vec<Instr> = Vec::new(rt.alloc());
+    for at in 0..20u32 {
+        code.push(Instr {
+            at,
+            form: Form::Nop,
+            opcode: 0,
+            operand: Operand::None,
+        })?;
+    }
+    let fit = nesting::fit_together(rt.alloc(), all)?;
+    let first = rules::offender(rt.alloc(), &code, 20, all)?;
+    Ok((fit, first))
+}
+
+#[test]
+fn nested_clauses(rt: HostRuntime) -> Result<(), Fail> {
+    // three levels, a sibling behind them, and two catch clauses that share a try block inside a handler
+    let good = [
+        clause(2, [2, 3, 3, 4]),
+        clause(2, [1, 5, 5, 6]),
+        clause(0, [0, 7, 7, 14]),
+        clause(0, [8, 9, 9, 10]),
+        clause(0, [8, 9, 10, 11]),
+        clause(4, [14, 15, 16, 20]),
+    ];
+    assert_eq!(rt; judged(&rt, &good)?, (true, None));
+    // an empty block is looked at pair by pair
+    let empty = [clause(2, [1, 1, 2, 3])];
+    assert_eq!(rt; judged(&rt, &empty)?, (false, None));
+    Ok(())
+}
+
+#[test]
+fn broken_rules(rt: HostRuntime) -> Result<(), Fail> {
+    let cases: [([Handler; 2], usize); 6] = [
+        // try blocks cross
+        ([clause(0, [0, 3, 3, 4]), clause(0, [2, 5, 5, 6])], 0),
+        // a finally clause shares the try block of a catch clause
+        ([clause(0, [0, 1, 1, 2]), clause(2, [0, 1, 2, 3])], 0),
+        // two handlers are the same
+        ([clause(0, [0, 1, 4, 5]), clause(0, [2, 3, 4, 5])], 0),
+        // the outer clause stands first
+        ([clause(0, [0, 5, 5, 6]), clause(0, [1, 2, 2, 3])], 1),
+        // the inner clause's handler lies outside the outer try block
+        ([clause(0, [1, 2, 6, 7]), clause(0, [0, 5, 5, 6])], 0),
+        // the inner clause's handler lies outside the handler around its try block
+        ([clause(0, [0, 1, 2, 6]), clause(0, [3, 4, 7, 8])], 1),
+    ];
+    for (all, first) in cases {
+        assert_eq!(rt; judged(&rt, &all)?, (false, Some(first)));
+    }
+    Ok(())
 }
