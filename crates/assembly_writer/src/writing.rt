@@ -42,12 +42,18 @@ fn content_of(alloc: Global, rec: &AsmRec) -> Result<Content, NoMemory>
     })
 }
 
+fn length_of(bytes: &[u8]) -> u64
+    ensures { result ≡ length bytes.now }
+{
+    bytes.len() as u64
+}
+
 /// How many bytes `#US` has (II.24.2.4).
 fn users_length(alloc: Global, rec: &AsmRec) -> Result<u64, NoMemory>
     ensures { IfOk result (λ n. n ≡ users_length rec.now) }
 {
     let heap = users(alloc, rec.user.as_slice())?;
-    Ok(heap.len() as u64)
+    Ok(length_of(&heap))
 }
 
 /// Whether the places behind code and metadata have 64 bits: so they do in any memory.

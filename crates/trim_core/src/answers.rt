@@ -6,7 +6,7 @@ pub enum Refusal {
     /// The file has no record: the first demand of II.22 to II.25 that fails, at its offset in the file.
     BadFile { file: u32, at: BadAt },
     /// More than a limit allows. Limit 2: a file has at most 67108864 bytes. Limit 5: a table has at most 1048576 rows.
-    /// Limit 7: a file that is written has at most 268435456 bytes. `found` is the number above it.
+    /// Limit 7: a file that is written has at most 268435456 bytes, and its `#US` at most 16777216. `found` is the number above it.
     Limit { which: u8, found: u64 },
     /// An operand of a method that is kept names nothing.
     Unresolved { place: Place },

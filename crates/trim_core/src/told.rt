@@ -1,8 +1,9 @@
 //! The record of a file, where it can be taken.
 
-ghost use Rattle.std.specs.Prelude.{◌≡◌, ◌≤◌, length, IfOk};
+ghost use Rattle.std.specs.Prelude.{◌≡◌, ◌≤◌, length, IfOk, IsTrue};
 ghost use Rattle.cli_format.specs.Demand.{first_fault};
-ghost use Rattle.record_format.specs.Record.{record_demands};
+ghost use Rattle.record_format.specs.Record.{record_demands, HasRecord};
+ghost use Rattle.world_model.specs.Thin.{is_thin};
 ghost use Rattle.trim_core.specs.Told.{Told, told_alone, told_by, if_thin, most_bytes, name_of};
 
 use crate::answers::Refusal;
@@ -18,7 +19,9 @@ const MOST_BYTES: usize = 67_108_864;
 /// The record of a file of at most that many bytes.
 fn read_told(alloc: Global, file: &[u8]) -> Result<AsmRec, Refusal>
     requires { length file.now ≤ most_bytes }
-    ensures { Told (told_by file.now (first_fault (record_demands file.now))) result }
+    ensures told { Told (told_by file.now (first_fault (record_demands file.now))) result }
+    ensures record { IfOk result (λ rec. HasRecord file.now rec) }
+    ensures thin { IfOk result (λ rec. IsTrue (is_thin rec)) }
 {
     match read_record(alloc, file) {
         Err(RecordError::Bad(at)) => Err(Refusal::BadFile { file: 0, at }),
@@ -37,7 +40,9 @@ fn read_told(alloc: Global, file: &[u8]) -> Result<AsmRec, Refusal>
 /// The record of the only file, where it can be taken.
 #[tactic(auto, unfolding(crate::specs::Told::told_alone))]
 pub(crate) fn told_alone(alloc: Global, file: &[u8]) -> Result<AsmRec, Refusal>
-    ensures { Told (told_alone file.now) result }
+    ensures told { Told (told_alone file.now) result }
+    ensures record { IfOk result (λ rec. HasRecord file.now rec) }
+    ensures thin { IfOk result (λ rec. IsTrue (is_thin rec)) }
 {
     if file.len() > MOST_BYTES {
         let found = file.len() as u64;

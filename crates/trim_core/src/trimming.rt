@@ -1,8 +1,11 @@
 //! `trim`: leaves out what the entry point doesn't lead to.
 
-ghost use Rattle.std.specs.Prelude.{◌≡◌, ◌≤◌, length, IfOk};
+ghost use Rattle.std.specs.Prelude.{◌≡◌, None, IsTrue};
+ghost use Rattle.blob_grammar.specs.Laws.{AreBytes};
+ghost use Rattle.record_format.specs.Record.{HasRecord};
+ghost use Rattle.world_model.specs.Thin.{is_thin};
 ghost use Rattle.trim_core.specs.Told.{told_alone, told_of};
-ghost use Rattle.trim_core.specs.Trim.{Trims, TrimsRecord, IsUnresolved};
+ghost use Rattle.trim_core.specs.Trim.{Trims, TrimsRecord};
 ghost use Rattle.trim_core.specs.Exec.{place_in};
 ghost use Rattle.trim_rules.specs.Marked.{IsMarking};
 ghost use Rattle.trim_rules.specs.BadOperands.{first_bad};
@@ -14,6 +17,7 @@ use il_base::{Bits, Place, Seq, Text};
 use marking::{first_bad, mark_methods};
 use std::alloc::Global;
 use sweep::restrict;
+use trim_laws::laws::{can_write, headline};
 use trim_rules::BadOperand;
 use world_model::AsmRec;
 
@@ -21,19 +25,30 @@ use world_model::AsmRec;
 fn place_of(operand: BadOperand) -> Place
     ensures { result ≡ place_in operand.method operand.offset }
 {
+    let row = (operand.method % 0x1_0000_0000) as u32;
     Place {
         asm: 0,
-        token: 0x0600_0001u32.wrapping_add(operand.method as u32),
+        token: 0x0600_0001u32.wrapping_add(row),
         offset: operand.offset,
     }
 }
 
-/// The file of what is left.
-fn written(alloc: Global, rec: &AsmRec, marked: &Bits) -> Result<Trimmed, Refusal>
+/// The file of what is left of a file's record.
+fn written(
+    alloc: Global,
+    file: &[u8],
+    rec: &AsmRec,
+    marked: &Bits,
+) -> Result<Trimmed, Refusal>
+    requires record { HasRecord file.now rec.now }
+    requires thin { IsTrue (is_thin rec.now) }
     requires marking { IsMarking rec.now marked.now.flags }
     requires good { first_bad rec.now marked.now.flags ≡ None }
     ensures { TrimsRecord rec.now result }
 {
+    let _ = file;
+    can_write();
+    headline();
     let left = match restrict(alloc, rec, marked.flags.as_slice()) {
         Err(_) => return Err(Refusal::NoMemory),
         Ok(left) => left,
@@ -50,8 +65,10 @@ fn written(alloc: Global, rec: &AsmRec, marked: &Bits) -> Result<Trimmed, Refusa
     }
 }
 
-/// What a trim of a thin record gives.
-fn trim_record(alloc: Global, rec: &AsmRec) -> Result<Trimmed, Refusal>
+/// What a trim of a file's thin record gives.
+fn trim_record(alloc: Global, file: &[u8], rec: &AsmRec) -> Result<Trimmed, Refusal>
+    requires record { HasRecord file.now rec.now }
+    requires thin { IsTrue (is_thin rec.now) }
     ensures { TrimsRecord rec.now result }
 {
     let marked = match mark_methods(alloc, rec) {
@@ -63,7 +80,7 @@ fn trim_record(alloc: Global, rec: &AsmRec) -> Result<Trimmed, Refusal>
         Ok(Some(operand)) => Err(Refusal::Unresolved {
             place: place_of(operand),
         }),
-        Ok(None) => written(alloc, rec, &marked),
+        Ok(None) => written(alloc, file, rec, &marked),
     }
 }
 
@@ -73,7 +90,7 @@ fn trim_file(alloc: Global, file: &[u8]) -> Result<Trimmed, Refusal>
 {
     match told_alone(alloc, file) {
         Err(refusal) => Err(refusal),
-        Ok(rec) => trim_record(alloc, &rec),
+        Ok(rec) => trim_record(alloc, file, &rec),
     }
 }
 
@@ -82,7 +99,7 @@ fn trim_file(alloc: Global, file: &[u8]) -> Result<Trimmed, Refusal>
 ///
 /// `BadFile`, `Limit` 2 and 5 and `NotYet` come exactly where the files say so; `Unresolved` exactly where an operand of a
 /// method that is kept names nothing, and it is the first of them; `Limit` 7 exactly where the file that is written would
-/// have more than 268435456 bytes. `NoMemory` alone is free.
+/// have more than 268435456 bytes, or its `#US` more than 16777216. `NoMemory` alone is free.
 pub fn trim(alloc: Global, files: &Seq<Text>) -> Result<Trimmed, Refusal>
     ensures { Trims (told_of files.now) result }
 {

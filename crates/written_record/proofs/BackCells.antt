@@ -11,7 +11,9 @@ use Rattle.cli_format.specs.declared.column.CodedIndex.{CodedIndex}
 use Rattle.cli_format.specs.declared.column.CodedIndex.TheVariants.{TypeDefOrRef, HasConstant, HasCustomAttribute, HasFieldMarshal, HasDeclSecurity, MemberRefParent, HasSemantics, MethodDefOrRef, MemberForwarded, Implementation, CustomAttributeType, ResolutionScope, TypeOrMethodDef}
 use Rattle.cli_format.specs.Coded.{targets_of, tag_bits_of, first_tag_of}
 use Rattle.cli_format.specs.Tables.{target_of, rows_of, names_row, names_coded}
-use Rattle.file_layout.specs.Cells.{Cell, CellTables, number, text, blob, guid}
+use Rattle.file_layout.specs.declared.cell.Cell.{Cell}
+use Rattle.file_layout.specs.declared.cell.Cell.TheVariants as cell
+use Rattle.file_layout.specs.Cells.{CellTables}
 use Rattle.file_layout.specs.TableStream as laid
 use Rattle.file_layout.specs.TableStream.{Tables, rows_in, fewer}
 use Rattle.written_tables.specs.Written.{IsText}
@@ -33,15 +35,15 @@ pub record IsCoded (cells : CellTables) (index : CodedIndex) (n : ℕ) : Type 0 
 
 -- what a column can have; runs begin at 1, since the tables that they are of have no rows or are one run
 abbrev pub FitsCell : CellTables → Column → Cell → Type 0
-FitsCell cells U8 (number n) = n < 2 ^ 8
-FitsCell cells U16 (number n) = n < 2 ^ 16
-FitsCell cells U32 (number n) = n < 2 ^ 32
-FitsCell cells Text (text t) = IsText t
-FitsCell cells Blob (blob b) = Unit {0}
-FitsCell cells Guid (guid g) = IsGuid g
-FitsCell cells (Run t) (number n) = n ≡ 1
-FitsCell cells (Coded index) (number n) = IsCoded cells index n
-FitsCell cells (CodedOrNone index) (number n) = (n ≡ 0) ⊎ IsCoded cells index n
+FitsCell cells U8 (cell.Number n) = n < 2 ^ 8
+FitsCell cells U16 (cell.Number n) = n < 2 ^ 16
+FitsCell cells U32 (cell.Number n) = n < 2 ^ 32
+FitsCell cells Text (cell.Text t) = IsText t
+FitsCell cells Blob (cell.Blob b) = Unit {0}
+FitsCell cells Guid (cell.Guid g) = IsGuid g
+FitsCell cells (Run t) (cell.Number n) = n ≡ 1
+FitsCell cells (Coded index) (cell.Number n) = IsCoded cells index n
+FitsCell cells (CodedOrNone index) (cell.Number n) = (n ≡ 0) ⊎ IsCoded cells index n
 FitsCell cells column cell = ⊥
 
 abbrev pub FitsCells : CellTables → List Column → List Cell → Type 0

@@ -13,7 +13,8 @@ use Rattle.world_model.specs.declared.types.TypeDefRow.{TypeDefRow}
 use Rattle.world_model.specs.declared.members.MethodDefRow.{MethodDefRow}
 use Rattle.world_model.specs.declared.record.AsmRec.{AsmRec}
 use Rattle.file_layout.specs.Bodies.{rvas_behind, rva_at, behind}
-use Rattle.file_layout.specs.Cells.{Cell, CellTables}
+use Rattle.file_layout.specs.declared.cell.Cell.{Cell}
+use Rattle.file_layout.specs.Cells.{CellTables}
 use Rattle.file_layout.specs.Rows.{module_cells, type_ref_cells, type_def_cells, method_def_cells, methods_cells, member_ref_cells, stand_alone_sig_cells, assembly_cells, assembly_ref_cells, none, cells_of}
 use Rattle.written_record.specs.Fits.{FitsTypeDef}
 use Rattle.written_record.specs.LaidOut.{LaidOut, LaidTypeRef, LaidMemberRef}

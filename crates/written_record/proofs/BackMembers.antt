@@ -21,7 +21,8 @@ use Rattle.world_model.specs.declared.members.StandAloneSigRow.{StandAloneSigRow
 use Rattle.world_model.specs.declared.assemblies.AssemblyRow.{AssemblyRow}
 use Rattle.world_model.specs.declared.assemblies.AssemblyRefRow.{AssemblyRefRow}
 use Rattle.world_model.specs.declared.record.AsmRec.{AsmRec}
-use Rattle.file_layout.specs.Cells.{Cell, coded_of}
+use Rattle.file_layout.specs.declared.cell.Cell.{Cell}
+use Rattle.file_layout.specs.Cells.{coded_of}
 use Rattle.file_layout.specs.Rows.{member_ref_cells, stand_alone_sig_cells, assembly_cells, assembly_ref_cells, cells_of, method_blob, member_blob, locals_blob}
 use Rattle.record_format.specs.Cells.{number_in, text_in, blob_in, token_in, token_by, run_end, count_of, all_rows, coded_token}
 use Rattle.record_format.specs.Parts.{known_of, known_map, begins_field, member_of_blob, body_by, bad_offset}
@@ -187,7 +188,7 @@ module _ (lower : Lower) (bs : List ℕ) (m : List ℕ) (rec : AsmRec) (h : Laid
   methods_counted : count_of m 0x06 ≡ length rec.method_def
   methods_counted = counted m rec h reads 0x06 own_method_cells rec.method_def (methods_are rec h)
 
-  method_number : (k c : ℕ) (row : MethodDefRow) (n : ℕ) → slice_get rec.method_def k ≡ Some row → slice_get (own_method_cells row) c ≡ Some (Cell.number n) → number_in m 0x06 c (suc k) ≡ n
+  method_number : (k c : ℕ) (row : MethodDefRow) (n : ℕ) → slice_get rec.method_def k ≡ Some row → slice_get (own_method_cells row) c ≡ Some (Cell.Number n) → number_in m 0x06 c (suc k) ≡ n
   method_number k c row n e f = read_number m (cells_of rec) reads 0x06 k c (own_method_cells row) (at m rec h reads 0x06 own_method_cells rec.method_def (methods_are rec h) k row e) n f
 
   params_end : (k : ℕ) (row : MethodDefRow) → slice_get rec.method_def k ≡ Some row → run_end m 0x06 5 0x08 (suc k) ≡ row.param_list_end

@@ -11,7 +11,9 @@ use Rattle.cli_format.specs.Columns.{columns_of, sort_key_of}
 use Rattle.cli_format.specs.Heaps.{string_of, blob_of, guid_of}
 use Rattle.file_layout.specs.Bytes.{zeros, aligned}
 use Rattle.file_layout.specs.Heaps.{strings_heap, string_place, blobs_heap, blob_place, blob_item, guids_heap, guid_number, heap_bits}
-use Rattle.file_layout.specs.Cells.{Cell, CellTables, Pools, number, text, blob, guid, texts_of_cell, blobs_of_cell, guids_of_cell, in_all, pools_of}
+use Rattle.file_layout.specs.declared.cell.Cell.{Cell}
+use Rattle.file_layout.specs.declared.cell.Cell.TheVariants as cell
+use Rattle.file_layout.specs.Cells.{CellTables, Pools, texts_of_cell, blobs_of_cell, guids_of_cell, in_all, pools_of}
 use Rattle.file_layout.specs.Laid.{sizes_of}
 use Rattle.file_layout.specs.TableStream.{heap_width}
 use Rattle.written_tables.specs.Written.{IsText, IsIn, StringsReadBack, BlobsReadBack, GuidsReadBack, Once}
@@ -42,10 +44,10 @@ pub record Small (pools : Pools) : Type 0 where
 -- ---- which items are in the pools
 
 abbrev pub Pooled : Pools → Cell → Type 0
-Pooled pools (number n) = Unit {0}
-Pooled pools (text t) = (t ≡ []) ⊎ IsIn pools.texts t
-Pooled pools (blob b) = (b ≡ []) ⊎ IsIn pools.blobs b
-Pooled pools (guid g) = (g ≡ []) ⊎ IsIn pools.guids g
+Pooled pools (cell.Number n) = Unit {0}
+Pooled pools (cell.Text t) = (t ≡ []) ⊎ IsIn pools.texts t
+Pooled pools (cell.Blob b) = (b ≡ []) ⊎ IsIn pools.blobs b
+Pooled pools (cell.Guid g) = (g ≡ []) ⊎ IsIn pools.guids g
 
 in_cells : (items : Cell → List (List ℕ)) (cells : CellTables) (t r c : ℕ) (row : List Cell) (x : Cell) (y : List ℕ)
     → slice_get (get_or cells t []) r ≡ Some row → slice_get row c ≡ Some x → IsIn (items x) y → IsIn (in_all items cells) y
@@ -56,17 +58,17 @@ in_cells items cells t r c row x y e f h =
 pub pooled : ((xs : List (List ℕ)) → Once xs) → (cells : CellTables) (t r c : ℕ) (row : List Cell) (x : Cell)
     → slice_get (get_or cells t []) r ≡ Some row → slice_get row c ≡ Some x → Pooled (pools_of cells) x
 unfolding pools_of
-pooled once cells t r c row (number n) e f = tt
-pooled once cells t r c row (text []) e f = inl refl
-pooled once cells t r c row (text (b ∷ bs)) e f = inr ((once (in_all texts_of_cell cells)).all (b ∷ bs) (in_cells texts_of_cell cells t r c row (text (b ∷ bs)) (b ∷ bs) e f (0, refl)))
-pooled once cells t r c row (blob []) e f = inl refl
-pooled once cells t r c row (blob (b ∷ bs)) e f = inr ((once (in_all blobs_of_cell cells)).all (b ∷ bs) (in_cells blobs_of_cell cells t r c row (blob (b ∷ bs)) (b ∷ bs) e f (0, refl)))
-pooled once cells t r c row (guid []) e f = inl refl
-pooled once cells t r c row (guid (b ∷ bs)) e f = inr ((once (in_all guids_of_cell cells)).all (b ∷ bs) (in_cells guids_of_cell cells t r c row (guid (b ∷ bs)) (b ∷ bs) e f (0, refl)))
+pooled once cells t r c row (cell.Number n) e f = tt
+pooled once cells t r c row (cell.Text []) e f = inl refl
+pooled once cells t r c row (cell.Text (b ∷ bs)) e f = inr ((once (in_all texts_of_cell cells)).all (b ∷ bs) (in_cells texts_of_cell cells t r c row (cell.Text (b ∷ bs)) (b ∷ bs) e f (0, refl)))
+pooled once cells t r c row (cell.Blob []) e f = inl refl
+pooled once cells t r c row (cell.Blob (b ∷ bs)) e f = inr ((once (in_all blobs_of_cell cells)).all (b ∷ bs) (in_cells blobs_of_cell cells t r c row (cell.Blob (b ∷ bs)) (b ∷ bs) e f (0, refl)))
+pooled once cells t r c row (cell.Guid []) e f = inl refl
+pooled once cells t r c row (cell.Guid (b ∷ bs)) e f = inr ((once (in_all guids_of_cell cells)).all (b ∷ bs) (in_cells guids_of_cell cells t r c row (cell.Guid (b ∷ bs)) (b ∷ bs) e f (0, refl)))
 
 -- ---- GUIDs have 16 bytes
 
-guid_fits : (cells : CellTables) (column : Column) (g : List ℕ) → FitsCell cells column (guid g) → IsGuid g
+guid_fits : (cells : CellTables) (column : Column) (g : List ℕ) → FitsCell cells column (cell.Guid g) → IsGuid g
 guid_fits cells U8 g h = absurd h
 guid_fits cells U16 g h = absurd h
 guid_fits cells U32 g h = absurd h
@@ -84,11 +86,11 @@ sixteen g (inl e) b bs f = absurd cc
 sixteen g (inr e) b bs f = e
 
 of_cell : (cells : CellTables) (column : Column) (x : Cell) (g : List ℕ) → FitsCell cells column x → IsIn (guids_of_cell x) g → length g ≡ 16
-of_cell cells column (number n) g h m = absurd (none-some g m.1)
-of_cell cells column (text t) g h m = absurd (none-some g m.1)
-of_cell cells column (blob b) g h m = absurd (none-some g m.1)
-of_cell cells column (guid []) g h m = absurd (none-some g m.1)
-of_cell cells column (guid (b ∷ bs)) g h m = at m.0 m.1
+of_cell cells column (cell.Number n) g h m = absurd (none-some g m.1)
+of_cell cells column (cell.Text t) g h m = absurd (none-some g m.1)
+of_cell cells column (cell.Blob b) g h m = absurd (none-some g m.1)
+of_cell cells column (cell.Guid []) g h m = absurd (none-some g m.1)
+of_cell cells column (cell.Guid (b ∷ bs)) g h m = at m.0 m.1
   where
     at : (k : ℕ) → slice_get ((b ∷ bs) ∷ []) k ≡ Some g → length g ≡ 16
     at zero e = let same : b ∷ bs ≡ g = same_Some (b ∷ bs) g e in rw (← same) (sixteen (b ∷ bs) (guid_fits cells column (b ∷ bs) h) b bs refl)
@@ -179,13 +181,13 @@ blobs_low pools place small within =
 -- ---- what the heaps give
 
 pub record Heaped (pools : Pools) : Type 0 where
-  pub text_is : (t : List ℕ) → Pooled pools (text t) → IsText t → string_of (strings_heap pools.texts) (string_place pools.texts t) ≡ Some t
-  pub blob_is : (b : List ℕ) → Pooled pools (blob b) → blob_of (blobs_heap pools.blobs) (blob_place pools.blobs b) ≡ Some b
-  pub guid_is : (g : List ℕ) → Pooled pools (guid g) → unwrap_or (guid_of (guids_heap pools.guids) (guid_number pools.guids g)) [] ≡ g
-  pub guid_there : (g : List ℕ) → Pooled pools (guid g) → guid_number pools.guids g ≤ length (guids_heap pools.guids) / 16
-  pub text_low : (t : List ℕ) → Pooled pools (text t) → string_place pools.texts t < 256 ^ heap_width (sizes_of pools) 1
-  pub blob_low : (b : List ℕ) → Pooled pools (blob b) → blob_place pools.blobs b < 256 ^ heap_width (sizes_of pools) 4
-  pub guid_low : (g : List ℕ) → Pooled pools (guid g) → guid_number pools.guids g < 256 ^ heap_width (sizes_of pools) 2
+  pub text_is : (t : List ℕ) → Pooled pools (cell.Text t) → IsText t → string_of (strings_heap pools.texts) (string_place pools.texts t) ≡ Some t
+  pub blob_is : (b : List ℕ) → Pooled pools (cell.Blob b) → blob_of (blobs_heap pools.blobs) (blob_place pools.blobs b) ≡ Some b
+  pub guid_is : (g : List ℕ) → Pooled pools (cell.Guid g) → unwrap_or (guid_of (guids_heap pools.guids) (guid_number pools.guids g)) [] ≡ g
+  pub guid_there : (g : List ℕ) → Pooled pools (cell.Guid g) → guid_number pools.guids g ≤ length (guids_heap pools.guids) / 16
+  pub text_low : (t : List ℕ) → Pooled pools (cell.Text t) → string_place pools.texts t < 256 ^ heap_width (sizes_of pools) 1
+  pub blob_low : (b : List ℕ) → Pooled pools (cell.Blob b) → blob_place pools.blobs b < 256 ^ heap_width (sizes_of pools) 4
+  pub guid_low : (g : List ℕ) → Pooled pools (cell.Guid g) → guid_number pools.guids g < 256 ^ heap_width (sizes_of pools) 2
 
 first_string : (texts : List (List ℕ)) → string_place texts [] ≡ 0
 unfolding string_place
@@ -210,27 +212,27 @@ blob_short blobs b h =
     omega (arith, item_within blob_item blobs b h, length-append (shortest (length b)) b, length-append (flat_map blob_item blobs) (zeros (aligned 4 (length (0 ∷ flat_map blob_item blobs)) - length (0 ∷ flat_map blob_item blobs))))
 
 module _ (pools : Pools) (small : Small pools) (strings : StringsReadBack pools.texts) (blobs : BlobsReadBack pools.blobs) (guids : GuidsReadBack pools.guids) where
-  text_here : (t : List ℕ) → Pooled pools (text t) → IsText t → string_of (strings_heap pools.texts) (string_place pools.texts t) ≡ Some t
+  text_here : (t : List ℕ) → Pooled pools (cell.Text t) → IsText t → string_of (strings_heap pools.texts) (string_place pools.texts t) ≡ Some t
   text_here t (inl e) h = rw e strings.empty
   text_here t (inr m) h = strings.each t m h
 
-  blob_here : (b : List ℕ) → Pooled pools (blob b) → blob_of (blobs_heap pools.blobs) (blob_place pools.blobs b) ≡ Some b
+  blob_here : (b : List ℕ) → Pooled pools (cell.Blob b) → blob_of (blobs_heap pools.blobs) (blob_place pools.blobs b) ≡ Some b
   blob_here b (inl e) = rw e blobs.empty
   blob_here b (inr m) = blobs.each b m (omega (arith, blob_short pools.blobs b m, small.blobs))
 
-  guid_here : (g : List ℕ) → Pooled pools (guid g) → unwrap_or (guid_of (guids_heap pools.guids) (guid_number pools.guids g)) [] ≡ g
+  guid_here : (g : List ℕ) → Pooled pools (cell.Guid g) → unwrap_or (guid_of (guids_heap pools.guids) (guid_number pools.guids g)) [] ≡ g
   guid_here g (inl e) = rw (e, no_guid pools.guids, none_zero (guids_heap pools.guids)) refl
   guid_here g (inr m) = rw (guids.each g m) refl
 
-  number_there : (g : List ℕ) → Pooled pools (guid g) → guid_number pools.guids g ≤ length (guids_heap pools.guids) / 16
+  number_there : (g : List ℕ) → Pooled pools (cell.Guid g) → guid_number pools.guids g ≤ length (guids_heap pools.guids) / 16
   number_there g (inl e) = rw (e, no_guid pools.guids) (omega arith)
   number_there g (inr m) = omega (arith, guids.within g m, guids.size)
 
-  text_within : (t : List ℕ) → Pooled pools (text t) → string_place pools.texts t ≤ length (strings_heap pools.texts)
+  text_within : (t : List ℕ) → Pooled pools (cell.Text t) → string_place pools.texts t ≤ length (strings_heap pools.texts)
   text_within t (inl e) = rw (e, first_string pools.texts) (omega arith)
   text_within t (inr m) = omega (arith, strings.within t m)
 
-  blob_within : (b : List ℕ) → Pooled pools (blob b) → blob_place pools.blobs b ≤ length (blobs_heap pools.blobs)
+  blob_within : (b : List ℕ) → Pooled pools (cell.Blob b) → blob_place pools.blobs b ≤ length (blobs_heap pools.blobs)
   blob_within b (inl e) = rw (e, first_blob pools.blobs) (omega arith)
   blob_within b (inr m) = omega (arith, blobs.within b m)
 

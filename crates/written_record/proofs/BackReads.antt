@@ -13,7 +13,9 @@ use Rattle.cli_format.specs.Tables.{rows_of, cell_number, names_row, column_of}
 use Rattle.cli_format.specs.Metadata.{tables_stream, names_item, cell_demands, row_demands, table_demands, is_run, run_demands, row_run_demands, table_run_demands, in_order, sort_demands, table_sort_demands, content_demands}
 use Rattle.cli_format.proofs.Faults.{none_then, one_holds, none_below}
 use Rattle.file_layout.specs.Heaps.{strings_heap, blobs_heap, guids_heap}
-use Rattle.file_layout.specs.Cells.{Cell, CellTables, number, text, blob, guid, pools_of, number_of, numbers_of}
+use Rattle.file_layout.specs.declared.cell.Cell.{Cell}
+use Rattle.file_layout.specs.declared.cell.Cell.TheVariants as cell
+use Rattle.file_layout.specs.Cells.{CellTables, pools_of, number_of, numbers_of}
 use Rattle.file_layout.specs.Laid.{sizes_of}
 use Rattle.file_layout.specs.TableStream as laid
 use Rattle.record_format.specs.Cells.{number_in, text_in, blob_in, guid_in}
@@ -58,21 +60,21 @@ reads m cells h s b g once heaps = record {
 -- ---- items in cells
 
 module _ (m : List ℕ) (cells : CellTables) (h : Reads m cells) (t r c : ℕ) (row : List Cell) (e : slice_get (get_or cells t []) r ≡ Some row) where
-  pub read_number : (n : ℕ) → slice_get row c ≡ Some (number n) → number_in m t c (suc r) ≡ n
+  pub read_number : (n : ℕ) → slice_get row c ≡ Some (cell.Number n) → number_in m t c (suc r) ≡ n
   unfolding number_in
-  read_number n f = h.cell t r c row (number n) e f
+  read_number n f = h.cell t r c row (cell.Number n) e f
 
-  pub read_text : (x : List ℕ) → slice_get row c ≡ Some (text x) → IsText x → text_in m t c (suc r) ≡ x
+  pub read_text : (x : List ℕ) → slice_get row c ≡ Some (cell.Text x) → IsText x → text_in m t c (suc r) ≡ x
   unfolding text_in number_in
-  read_text x f is = rw (h.cell t r c row (text x) e f, h.strings, h.heaps.text_is x (h.there t r c row (text x) e f) is) refl
+  read_text x f is = rw (h.cell t r c row (cell.Text x) e f, h.strings, h.heaps.text_is x (h.there t r c row (cell.Text x) e f) is) refl
 
-  pub read_blob : (x : List ℕ) → slice_get row c ≡ Some (blob x) → blob_in m t c (suc r) ≡ x
+  pub read_blob : (x : List ℕ) → slice_get row c ≡ Some (cell.Blob x) → blob_in m t c (suc r) ≡ x
   unfolding blob_in number_in
-  read_blob x f = rw (h.cell t r c row (blob x) e f, h.blobs, h.heaps.blob_is x (h.there t r c row (blob x) e f)) refl
+  read_blob x f = rw (h.cell t r c row (cell.Blob x) e f, h.blobs, h.heaps.blob_is x (h.there t r c row (cell.Blob x) e f)) refl
 
-  pub read_guid : (x : List ℕ) → slice_get row c ≡ Some (guid x) → guid_in m t c (suc r) ≡ x
+  pub read_guid : (x : List ℕ) → slice_get row c ≡ Some (cell.Guid x) → guid_in m t c (suc r) ≡ x
   unfolding guid_in number_in
-  read_guid x f = rw (h.cell t r c row (guid x) e f, h.guids) (h.heaps.guid_is x (h.there t r c row (guid x) e f))
+  read_guid x f = rw (h.cell t r c row (cell.Guid x) e f, h.guids) (h.heaps.guid_is x (h.there t r c row (cell.Guid x) e f))
 
 -- ---- demands on rows
 
@@ -84,16 +86,16 @@ none_each f (suc n) h = none_then (each_below f n) (f n) (none_each f n (λ i lt
 module _ (m : List ℕ) (cells : CellTables) (h : Reads m cells) (fit : Fitting cells) where
   names : (c : Column) (x : Cell) → FitsCell cells c x → Pooled (pools_of cells) x → names_item m c (number_of (pools_of cells) x) ≡ true
   unfolding names_item names_row
-  names U8 (number n) f p = refl
-  names U16 (number n) f p = refl
-  names U32 (number n) f p = refl
-  names Text (text t) f p = rw (h.strings, h.heaps.text_is t p f) refl
-  names Blob (blob b) f p = rw (h.blobs, h.heaps.blob_is b p) refl
-  names Guid (guid g) f p = rw h.guids (le-leb _ _ (h.heaps.guid_there g p))
-  names (Run t) (number n) f p = rw f (and_from _ _ (le-leb 1 1 (omega arith)) (le-leb 1 (rows_of (tables_stream m) t + 1) (omega arith)))
-  names (Coded index) (number n) f p = coded_names cells (tables_stream m) index n h.rows f
-  names (CodedOrNone index) (number n) (inl e) p = rw e refl
-  names (CodedOrNone index) (number n) (inr f) p = or_right (n == 0) _ (coded_names cells (tables_stream m) index n h.rows f)
+  names U8 (cell.Number n) f p = refl
+  names U16 (cell.Number n) f p = refl
+  names U32 (cell.Number n) f p = refl
+  names Text (cell.Text t) f p = rw (h.strings, h.heaps.text_is t p f) refl
+  names Blob (cell.Blob b) f p = rw (h.blobs, h.heaps.blob_is b p) refl
+  names Guid (cell.Guid g) f p = rw h.guids (le-leb _ _ (h.heaps.guid_there g p))
+  names (Run t) (cell.Number n) f p = rw f (and_from _ _ (le-leb 1 1 (omega arith)) (le-leb 1 (rows_of (tables_stream m) t + 1) (omega arith)))
+  names (Coded index) (cell.Number n) f p = coded_names cells (tables_stream m) index n h.rows f
+  names (CodedOrNone index) (cell.Number n) (inl e) p = rw e refl
+  names (CodedOrNone index) (cell.Number n) (inr f) p = or_right (n == 0) _ (coded_names cells (tables_stream m) index n h.rows f)
   names c x f p = absurd f
 
   -- a row and a cell that a place names
@@ -127,8 +129,8 @@ module _ (m : List ℕ) (cells : CellTables) (h : Reads m cells) (fit : Fitting 
   -- ---- runs
 
   rises : (c : Column) (x y : Cell) → FitsCell cells c x → FitsCell cells c y → (not (is_run c) || nat_le (number_of (pools_of cells) x) (number_of (pools_of cells) y)) ≡ true
-  rises (Run t) (number n) (number k) f g = rw (f, g) refl
-  rises (Run t) (number n) y f g = absurd g
+  rises (Run t) (cell.Number n) (cell.Number k) f g = rw (f, g) refl
+  rises (Run t) (cell.Number n) y f g = absurd g
   rises (Run t) x y f g = absurd f
   rises c x y f g = refl
 

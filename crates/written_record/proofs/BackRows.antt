@@ -16,7 +16,9 @@ use Rattle.world_model.specs.declared.members.MemberRefRow.{MemberRefRow}
 use Rattle.world_model.specs.declared.members.StandAloneSigRow.{StandAloneSigRow}
 use Rattle.world_model.specs.declared.assemblies.AssemblyRow.{AssemblyRow}
 use Rattle.world_model.specs.declared.assemblies.AssemblyRefRow.{AssemblyRefRow}
-use Rattle.file_layout.specs.Cells.{Cell, CellTables, number, coded_of}
+use Rattle.file_layout.specs.declared.cell.Cell.{Cell}
+use Rattle.file_layout.specs.declared.cell.Cell.TheVariants as cell
+use Rattle.file_layout.specs.Cells.{CellTables, coded_of}
 use Rattle.file_layout.specs.Rows.{module_cells, type_ref_cells, type_def_cells, method_def_cells, member_ref_cells, stand_alone_sig_cells, assembly_cells, assembly_ref_cells}
 use Rattle.written_record.specs.Fits.{FitsModule, FitsTypeDef, FitsMethodDef, FitsAssembly, FitsAssemblyRef, Names}
 use Rattle.written_record.specs.LaidOut.{LaidTypeRef, LaidTypeDef, LaidMethodDef, LaidMemberRef}
@@ -68,7 +70,7 @@ pub type_ref_fits : (cells : CellTables) (row : TypeRefRow) → LaidTypeRef (cou
 type_ref_fits cells row h = rw type_ref_columns (inr (scope_coded cells row.resolution_scope (named 0x23 (count cells 0x23) row.resolution_scope h.scope)), (h.name, (h.namespace, tt)))
 
 base_fits : (cells : CellTables) (token : ℕ) → (token ≡ 0) ⊎ (Names 0x02 (count cells 0x02) token ⊎ Names 0x01 (count cells 0x01) token)
-    → FitsCell cells (CodedOrNone TypeDefOrRef) (number (coded_of TypeDefOrRef token))
+    → FitsCell cells (CodedOrNone TypeDefOrRef) (cell.Number (coded_of TypeDefOrRef token))
 base_fits cells token (inl e) = inl (rw e (none_coded TypeDefOrRef))
 base_fits cells token (inr (inl n)) = inr (base_type_coded cells token (named 0x02 (count cells 0x02) token n))
 base_fits cells token (inr (inr n)) = inr (base_ref_coded cells token (named 0x01 (count cells 0x01) token n))

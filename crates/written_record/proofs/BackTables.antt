@@ -7,7 +7,9 @@ use Rattle.cli_format.specs.declared.column.Column.{Column}
 use Rattle.cli_format.specs.declared.column.Column.TheVariants.{U8, U16, U32, Text, Blob, Guid, Run, Coded, CodedOrNone}
 use Rattle.cli_format.specs.Coded.{targets_of, tag_bits_of}
 use Rattle.cli_format.specs.Columns.{columns_of}
-use Rattle.file_layout.specs.Cells.{Cell, CellTables, Pools, number, text, blob, guid, pools_of, number_of, numbers_of}
+use Rattle.file_layout.specs.declared.cell.Cell.{Cell}
+use Rattle.file_layout.specs.declared.cell.Cell.TheVariants as cell
+use Rattle.file_layout.specs.Cells.{CellTables, Pools, pools_of, number_of, numbers_of}
 use Rattle.file_layout.specs.Laid.{sizes_of}
 use Rattle.file_layout.specs.TableStream as laid
 use Rattle.file_layout.specs.TableStream.{Row, Tables, rows_in, fewer}
@@ -48,16 +50,16 @@ module _ (cells : CellTables) (fit : Fitting cells) (h : Heaped (pools_of cells)
 
   number_low : (c : Column) (x : Cell) → FitsCell cells c x → Pooled pools x → number_of pools x < 256 ^ laid.width (sizes_of pools) numbers c
   unfolding laid.width
-  number_low U8 (number n) f p = omega (arith, f)
-  number_low U16 (number n) f p = omega (arith, f)
-  number_low U32 (number n) f p = omega (arith, f)
-  number_low Text (text t) f p = h.text_low t p
-  number_low Blob (blob b) f p = h.blob_low b p
-  number_low Guid (guid g) f p = h.guid_low g p
-  number_low (Run t) (number n) f p = rw f (one_low (nat_lt (rows_in numbers t) 0x10000))
-  number_low (Coded index) (number n) f p = coded_fits cells numbers index n (same_count pools cells) few_rows f
-  number_low (CodedOrNone index) (number n) (inl e) p = rw e (zero_low (fewer numbers (2 ^ (16 - tag_bits_of index)) (targets_of index)))
-  number_low (CodedOrNone index) (number n) (inr f) p = coded_fits cells numbers index n (same_count pools cells) few_rows f
+  number_low U8 (cell.Number n) f p = omega (arith, f)
+  number_low U16 (cell.Number n) f p = omega (arith, f)
+  number_low U32 (cell.Number n) f p = omega (arith, f)
+  number_low Text (cell.Text t) f p = h.text_low t p
+  number_low Blob (cell.Blob b) f p = h.blob_low b p
+  number_low Guid (cell.Guid g) f p = h.guid_low g p
+  number_low (Run t) (cell.Number n) f p = rw f (one_low (nat_lt (rows_in numbers t) 0x10000))
+  number_low (Coded index) (cell.Number n) f p = coded_fits cells numbers index n (same_count pools cells) few_rows f
+  number_low (CodedOrNone index) (cell.Number n) (inl e) p = rw e (zero_low (fewer numbers (2 ^ (16 - tag_bits_of index)) (targets_of index)))
+  number_low (CodedOrNone index) (cell.Number n) (inr f) p = coded_fits cells numbers index n (same_count pools cells) few_rows f
   number_low c x f p = absurd f
 
   row_fits : (cs : List Column) (xs : List Cell) → FitsCells cells cs xs → ((k : ℕ) (x : Cell) → slice_get xs k ≡ Some x → Pooled pools x) → FitsRow (sizes_of pools) numbers cs (row_numbers pools xs)

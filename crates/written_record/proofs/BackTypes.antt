@@ -12,7 +12,8 @@ use Rattle.world_model.specs.declared.types.ModuleRow.{ModuleRow}
 use Rattle.world_model.specs.declared.types.TypeRefRow.{TypeRefRow}
 use Rattle.world_model.specs.declared.types.TypeDefRow.{TypeDefRow}
 use Rattle.world_model.specs.declared.record.AsmRec.{AsmRec}
-use Rattle.file_layout.specs.Cells.{Cell, CellTables, coded_of}
+use Rattle.file_layout.specs.declared.cell.Cell.{Cell}
+use Rattle.file_layout.specs.Cells.{CellTables, coded_of}
 use Rattle.file_layout.specs.Rows.{module_cells, type_ref_cells, type_def_cells, cells_of}
 use Rattle.record_format.specs.Cells.{number_in, text_in, guid_in, token_in, token_by, run_end, count_of, all_rows, coded_token}
 use Rattle.record_format.specs.Types.{module_row, type_ref_row, type_def_row}
@@ -110,7 +111,7 @@ module _ (m : List ℕ) (rec : AsmRec) (h : LaidOut rec) (reads : Reads m (cells
   types_counted = counted 0x02 type_def_cells rec.type_def (type_defs_are rec h)
 
   -- a number of a row
-  type_number : (k c : ℕ) (row : TypeDefRow) (n : ℕ) → slice_get rec.type_def k ≡ Some row → slice_get (type_def_cells row) c ≡ Some (Cell.number n) → number_in m 0x02 c (suc k) ≡ n
+  type_number : (k c : ℕ) (row : TypeDefRow) (n : ℕ) → slice_get rec.type_def k ≡ Some row → slice_get (type_def_cells row) c ≡ Some (Cell.Number n) → number_in m 0x02 c (suc k) ≡ n
   type_number k c row n e f = read_number m cells reads 0x02 k c (type_def_cells row) (at 0x02 type_def_cells rec.type_def (type_defs_are rec h) k row e) n f
 
   within : (k : ℕ) (row : TypeDefRow) → slice_get rec.type_def k ≡ Some row → suc k ≤ count_of m 0x02

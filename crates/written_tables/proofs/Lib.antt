@@ -5,4 +5,3 @@ pub mod Head
 pub mod Counts
 pub mod Rows
 pub mod Demands
-pub mod Vone
