@@ -25,3 +25,6 @@ mod writing;
 
 pub use error::WriteError;
 pub use writing::write;
+
+#[cfg(test)]
+mod tests;

@@ -122,8 +122,7 @@ fn put_table(
     ensures { OnOk result (tables.new ≡ tables.old ++ rows ∷ layout.none empty) }
 {
     tables.push(rows)?;
-    for i in 0..empty {
-        let _ = i;
+    for _ in 0..empty {
         tables.push(Seq::new(alloc))?;
     }
     Ok(())

@@ -220,7 +220,7 @@ fn bad_parts_stand_in_their_places(rt: HostRuntime) -> Result<(), Fail> {
 fn places_rows(rt: HostRuntime) -> Result<(), Fail> {
     let alloc = rt.alloc();
     let bytes = hello(alloc)?;
-    assert!(rt; 2048 <= bytes.len() && bytes.len() < 4096);
+    assert!(rt; bytes.len() < 4096);
     for (token, place) in [
         (0x0200_0002, Some(800)),
         (0x0200_0003, None),
@@ -229,7 +229,7 @@ fn places_rows(rt: HostRuntime) -> Result<(), Fail> {
         let found = row_place(alloc, &bytes, token).ok().ok_or("memory")?;
         assert!(rt; found == place);
     }
-    let cut = &bytes[..2000];
+    let cut = bytes.get(..2000).ok_or("2000 bytes")?;
     let found = row_place(alloc, cut, 0x0200_0002).ok().ok_or("memory")?;
     assert!(rt; found.is_none());
     let bad = refusal(alloc, cut).ok_or("a refusal")?;
