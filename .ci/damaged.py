@@ -15,9 +15,10 @@ import threading
 from concurrent.futures import ThreadPoolExecutor
 
 PLACE = r"\S*:[0-9a-f]{8}:[0-9a-f]{8}"
+WHY = "NotPe NoCli NotIlOnly Native Truncated BadRva BadRoot BadStream BadHeap UnknownTable RowOutOfRange ListOrder SortOrder"
 ANSWERS = {
     0: r"(ended -?\d+|done)",
-    3: r"bad file a\.exe (\d+) (NotPe|NoCli|NotIlOnly|Native|Truncated|BadRva|BadRoot|BadStream|BadHeap|UnknownTable|RowOutOfRange|ListOrder|SortOrder)",
+    3: r"bad file a\.exe \d+ (%s)" % "|".join(WHY.split()),
     5: r"unresolved " + PLACE,
     8: r"limit \d \d+",
     12: r"no entry [0-9a-f]{8}",
