@@ -3,262 +3,20 @@
 
     files.py hello OUT            the example: a class with `Main`, which prints `Hi`
     files.py uncalled OUT         the example with a second method `F`, which nothing calls
+    files.py mixed OUT            methods that are needed and that aren't, with rows and texts out of order, some of them twice
+    files.py mixed_left OUT       what a trim leaves of it
     files.py thin OUT             a thin file of about 1 MiB with 2047 methods, of which the entry needs every other one
     files.py needed OUT           that file with the methods alone that the entry needs
     files.py body N OUT           a thin file whose entry is a `ret` and behind it N instructions that are never run
     files.py large OUT            an assembly of about 4 MB with about half a million instructions in 16000 methods
 
-The same words give the same bytes each time. ECMA-335 is cited as in the rest of the repository.
+The same words give the same bytes each time.
 """
 import sys
 
 sys.dont_write_bytecode = True
+from assembly import Bodies, Metadata, compressed, fat, image, tiny, u32  # noqa: E402
 
-# ---- numbers and heaps
-
-
-def u16(value):
-    return value.to_bytes(2, "little")
-
-
-def u32(value):
-    return value.to_bytes(4, "little")
-
-
-def padded(data, to):
-    return data + bytes(-len(data) % to)
-
-
-def compressed(value):
-    """A compressed unsigned number (II.23.2)."""
-    if value < 0x80:
-        return bytes([value])
-    if value < 0x4000:
-        return (value | 0x8000).to_bytes(2, "big")
-    return (value | 0xC0000000).to_bytes(4, "big")
-
-
-def name_item(name):
-    return name.encode("utf-8") + b"\0"
-
-
-def blob_item(blob):
-    return compressed(len(blob)) + blob
-
-
-def text_item(text):
-    """A text of `#US` with its last byte (II.24.2.4)."""
-    units = text.encode("utf-16-le")
-    special = any(c > "~" or c in "'-" or c < " " for c in text)
-    return compressed(len(units) + 1) + units + bytes([special])
-
-
-class Heap:
-    """Items in the order in which they come, each once; the empty one is at 0."""
-
-    def __init__(self, item):
-        self.data, self.places, self.item = bytearray(1), {}, item
-
-    def place(self, value):
-        if not value:
-            return 0
-        if value not in self.places:
-            self.places[value] = len(self.data)
-            self.data += self.item(value)
-        return self.places[value]
-
-
-class Numbers:
-    """Numbers that look random and are the same each time."""
-
-    def __init__(self, seed):
-        self.state = seed
-
-    def below(self, bound):
-        self.state = (self.state * 6364136223846793005 + 1442695040888963407) % 2**64
-        return (self.state >> 33) % bound
-
-    def one_of(self, values):
-        return values[self.below(len(values))]
-
-
-# ---- tables (II.22): a column is a width, a heap, an index `(">", table)` or a coded index `(tag bits, tables)` (II.24.2.6)
-
-TYPE_DEF_OR_REF = (2, (0x02, 0x01, 0x1B))
-HAS_CUSTOM_ATTRIBUTE = (
-    5,
-    (0x06, 0x04, 0x01, 0x02, 0x08, 0x09, 0x0A, 0x00, 0x0E, 0x17, 0x14)
-    + (0x11, 0x1A, 0x1B, 0x20, 0x23, 0x26, 0x27, 0x28, 0x2A, 0x2C, 0x2B),
-)
-MEMBER_REF_PARENT = (3, (0x02, 0x01, 0x1A, 0x06, 0x1B))
-METHOD_DEF_OR_REF = (1, (0x06, 0x0A))
-CUSTOM_ATTRIBUTE_TYPE = (3, (None, None, 0x06, 0x0A, None))
-RESOLUTION_SCOPE = (2, (0x00, 0x1A, 0x23, 0x01))
-TYPE_OR_METHOD_DEF = (1, (0x02, 0x06))
-
-COLUMNS = {
-    0x00: (2, "name", "guid", "guid", "guid"),
-    0x01: (RESOLUTION_SCOPE, "name", "name"),
-    0x02: (4, "name", "name", TYPE_DEF_OR_REF, (">", 0x04), (">", 0x06)),
-    0x04: (2, "name", "blob"),
-    0x06: (4, 2, 2, "name", "blob", (">", 0x08)),
-    0x08: (2, 2, "name"),
-    0x09: ((">", 0x02), TYPE_DEF_OR_REF),
-    0x0A: (MEMBER_REF_PARENT, "name", "blob"),
-    0x0C: (HAS_CUSTOM_ATTRIBUTE, CUSTOM_ATTRIBUTE_TYPE, "blob"),
-    0x11: ("blob",),
-    0x1B: ("blob",),
-    0x20: (4, 2, 2, 2, 2, 4, "blob", "name", "name"),
-    0x23: (2, 2, 2, 2, 4, "blob", "name", "name", "blob"),
-    0x2A: (2, 2, TYPE_OR_METHOD_DEF, "name"),
-    0x2B: (METHOD_DEF_OR_REF, "blob"),
-}
-# Valid's bits for tables whose rows are sorted by a key.
-SORTED = 0x16003301FA00
-
-
-class Metadata:
-    """The rows and heaps of one assembly."""
-
-    def __init__(self):
-        self.rows = {}
-        self.names, self.blobs, self.texts = Heap(name_item), Heap(blob_item), Heap(text_item)
-
-    def row(self, table, *cells):
-        """Adds a row and gives its token. Cells: numbers, texts, blobs; a coded index is `(table, row)`, or None for 0."""
-        rows = self.rows.setdefault(table, [])
-        assert len(cells) == len(COLUMNS[table])
-        placed = []
-        for column, cell in zip(COLUMNS[table], cells):
-            if column == "name":
-                placed.append(self.names.place(cell))
-            elif column == "blob":
-                placed.append(self.blobs.place(cell))
-            elif isinstance(column, tuple) and column[0] != ">":
-                placed.append(0 if cell is None else cell[1] << column[0] | column[1].index(cell[0]))
-            else:
-                placed.append(cell)
-        rows.append(placed)
-        return table << 24 | len(rows)
-
-    def text(self, text):
-        """The token of a text (III.4.16)."""
-        return 0x70000000 | self.texts.place(text)
-
-    def count(self, table):
-        return len(self.rows.get(table, ()))
-
-    def widths(self, table, heap_sizes):
-        for column in COLUMNS[table]:
-            if column in ("name", "guid", "blob"):
-                yield 4 if heap_sizes & {"name": 1, "guid": 2, "blob": 4}[column] else 2
-            elif isinstance(column, int):
-                yield column
-            elif column[0] == ">":
-                yield 2 if self.count(column[1]) < 1 << 16 else 4
-            else:
-                yield 2 if max(self.count(t) for t in column[1]) < 1 << (16 - column[0]) else 4
-
-    def tables(self, heap_sizes):
-        """The stream `#~` (II.24.2.6)."""
-        present = sorted(self.rows)
-        out = u32(0) + bytes([2, 0, heap_sizes, 1])
-        out += sum(1 << t for t in present).to_bytes(8, "little") + SORTED.to_bytes(8, "little")
-        out += b"".join(u32(self.count(t)) for t in present)
-        parts = []
-        for table in present:
-            widths = list(self.widths(table, heap_sizes))
-            for cells in self.rows[table]:
-                parts += [cell.to_bytes(width, "little") for cell, width in zip(cells, widths)]
-        return padded(out + b"".join(parts), 4)
-
-    def root(self):
-        """The metadata root and its streams (II.24.2)."""
-        heap_sizes = (len(self.names.data) >= 1 << 16) | (len(self.blobs.data) >= 1 << 16) << 2
-        streams = (
-            (b"#~", self.tables(heap_sizes)),
-            (b"#Strings", padded(bytes(self.names.data), 4)),
-            (b"#US", padded(bytes(self.texts.data), 4)),
-            (b"#GUID", b"\x11" * 16),
-            (b"#Blob", padded(bytes(self.blobs.data), 4)),
-        )
-        head = b"BSJB" + u16(1) + u16(1) + u32(0) + u32(12) + b"v4.0.30319\0\0" + u16(0) + u16(len(streams))
-        place = len(head) + sum(8 + len(padded(name + b"\0", 4)) for name, _ in streams)
-        headers, data = b"", b""
-        for name, stream in streams:
-            headers += u32(place + len(data)) + u32(len(stream)) + padded(name + b"\0", 4)
-            data += stream
-        return head + headers + data
-
-
-# ---- the image (II.25)
-
-TEXT_RVA = 0x2000
-BODIES_AT = 8 + 72  # behind the import address and the CLI header
-
-
-class Bodies:
-    """Method bodies one behind the other, each at a multiple of 4."""
-
-    def __init__(self):
-        self.data = bytearray(BODIES_AT)
-
-    def add(self, body):
-        """Adds a body and gives its RVA."""
-        self.data += bytes(-len(self.data) % 4)
-        rva = TEXT_RVA + len(self.data)
-        self.data += body
-        return rva
-
-
-def image(bodies, metadata, entry):
-    """A PE32 file with the sections .text and .reloc, IL only."""
-    text = bytearray(bodies.data)
-    root_at, root = len(text), metadata.root()
-    text += root
-    imports = len(text)
-    hint, library = imports + 48, imports + 62
-    jump = library + 12
-    jump += -(jump + 2) % 4
-    text += u32(TEXT_RVA + imports + 40) + bytes(8) + u32(TEXT_RVA + library) + u32(TEXT_RVA) + bytes(20)
-    text += u32(TEXT_RVA + hint) + bytes(4) + b"\0\0_CorExeMain\0mscoree.dll\0"
-    text += bytes(jump - len(text)) + b"\xff\x25" + u32(0x400000 + TEXT_RVA)
-    text[0:4] = u32(TEXT_RVA + hint)
-    text[8:80] = u32(72) + u16(2) + u16(5) + u32(TEXT_RVA + root_at) + u32(len(root)) + u32(1) + u32(entry) + bytes(48)
-    raw, relocs = len(padded(text, 0x200)), TEXT_RVA + len(padded(text, 0x2000))
-    directories = [(0, 0)] * 16
-    directories[1], directories[5] = (TEXT_RVA + imports, library + 12 - imports), (relocs, 12)
-    directories[12], directories[14] = (TEXT_RVA, 8), (TEXT_RVA + 8, 72)
-    stub = bytes.fromhex("0e1fba0e00b409cd21b8014ccd21") + b"This program cannot be run in DOS mode.\r\r\n$"
-    out = bytes.fromhex("4d5a90000300000004000000ffff0000b80000000000000040") + bytes(35) + u32(0x80) + stub
-    out = padded(out, 0x80) + b"PE\0\0" + u16(0x14C) + u16(2) + bytes(12) + u16(0xE0) + u16(0x102)
-    out += u16(0x10B) + u16(0x30)
-    out += b"".join(map(u32, (raw, 0x200, 0, TEXT_RVA + jump, TEXT_RVA, relocs, 0x400000, 0x2000, 0x200)))
-    out += b"".join(map(u16, (4, 0, 0, 0, 4, 0))) + b"".join(map(u32, (0, relocs + 0x2000, 0x200, 0)))
-    out += u16(3) + u16(0x8540) + b"".join(map(u32, (0x100000, 0x1000, 0x100000, 0x1000, 0, 16)))
-    out += b"".join(u32(rva) + u32(size) for rva, size in directories)
-    out += b".text\0\0\0" + b"".join(map(u32, (len(text), TEXT_RVA, raw, 0x200))) + bytes(12) + u32(0x60000020)
-    out += b".reloc\0\0" + b"".join(map(u32, (12, relocs, 0x200, 0x200 + raw))) + bytes(12) + u32(0x42000040)
-    at = TEXT_RVA + jump + 2
-    relocations = u32(at & ~0xFFF) + u32(12) + u16(0x3000 | at & 0xFFF) + u16(0)
-    return padded(out, 0x200) + padded(bytes(text), 0x200) + padded(relocations, 0x200)
-
-
-def tiny(code):
-    assert len(code) < 64
-    return bytes([len(code) << 2 | 2]) + code
-
-
-def fat(code, stack=8, slots=0, handlers=()):
-    """A body with a fat header, and with handler clauses in the fat format (II.25.4)."""
-    head = u16(0x3013 | (8 if handlers else 0)) + u16(stack) + u32(len(code)) + u32(slots)
-    if not handlers:
-        return head + code
-    clauses = b"".join(b"".join(map(u32, clause)) for clause in handlers)
-    return padded(head + code, 4) + u32((len(clauses) + 4) << 8 | 0x41) + clauses
-
-
-# ---- files
 
 VOID, INT, STRING, OBJECT = 1, 8, 14, 28
 # A class without special layout that isn't public, and a private static method that is hidden by signature (II.23.1).
@@ -327,6 +85,99 @@ def body(count):
     pairs = [b"\x2b\x00\x00" if k % 10 == 9 else bytes([0x1F, k % 100, 0x26]) for k in range(count // 2)]
     return small_program([("Main", lambda metadata: b"\x2a" + b"".join(pairs) + b"\x2a")])
 
+
+# ---- a file whose references, texts and locals are in other orders than those in which a trim leaves them
+
+
+def method(metadata, bodies, name, code, signature, slots=0):
+    body = fat(code, slots=slots) if slots else tiny(code)
+    metadata.row(0x06, bodies.add(body), 0, STATIC, name, signature, 1)
+
+
+def helper_code(print_text, print_number):
+    """Prints its string and its int32, and gives the next number."""
+    return b"\x03" + print_text + b"\x02" + print_number + b"\x02\x17\x58\x2a"
+
+
+def main_code(metadata, helper, last, empty_text):
+    code = b"\x15" + load_text(metadata, "b") + call(helper) + b"\x0a"
+    code += b"\x06" + load_text(metadata, "a'") + call(helper) + b"\x0a"
+    code += b"\x1f\x07\x72" + u32(empty_text) + call(helper) + b"\x0a"
+    code += b"\x06" + load_text(metadata, "b") + call(helper) + b"\x26"
+    return code + call(last) + b"\x06\x2a"
+
+
+def last_code(metadata, print_text):
+    return load_text(metadata, "\u00fc\u20ac") + print_text + b"\x2b\x00\x38" + u32(0) + b"\xfe\x0c\x00\x00\x26\x2a"
+
+
+MAIN_SIGNATURE, HELPER_SIGNATURE = static_signature(INT), static_signature(INT, INT, STRING)
+
+
+def mixed():
+    metadata, bodies = Metadata(), Bodies()
+    metadata.row(0x00, 0, "App.exe", 1, 0, 0)
+    for scope, name in ((1, "Console"), (2, "Object"), (3, "Object"), (1, "Console")):
+        metadata.row(0x01, (0x23, scope), name, "System")
+    metadata.row(0x02, 0, "<Module>", "", None, 1, 1)
+    metadata.row(0x02, CLASS, "Program\u00e9", "N.S", (0x01, 3), 1, 1)
+    load_text(metadata, "no method loads this")
+    method(metadata, bodies, "Zero", load_text(metadata, "zero") + call(0x0A000002) + b"\x2a", static_signature(VOID))
+    method(metadata, bodies, "Helper", helper_code(call(0x0A000003), call(0x0A000001)), HELPER_SIGNATURE)
+    method(metadata, bodies, "Locals", b"\x06\x26\x2a", static_signature(VOID), slots=0x11000002)
+    code = main_code(metadata, 0x06000002, 0x06000006, 0x70000000)
+    method(metadata, bodies, "Main", code, MAIN_SIGNATURE, slots=0x11000004)
+    method(metadata, bodies, "Helper", b"\x2a", static_signature(VOID, INT))
+    method(metadata, bodies, "Last", last_code(metadata, call(0x0A000002)), static_signature(VOID), slots=0x11000003)
+    for parent, parameter in ((4, INT), (1, STRING), (4, STRING), (4, STRING)):
+        metadata.row(0x0A, (0x01, parent), "WriteLine", static_signature(VOID, parameter))
+    for slots in ([STRING], [STRING], [INT, STRING], [INT, STRING]):
+        metadata.row(0x11, bytes([7, len(slots), *slots]))
+    metadata.row(0x20, 0x8004, 1, 2, 3, 4, 0, b"", "App", "")
+    for name, hash_value in (("Console", b"\1\2\3"), ("Runtime", b"\4"), ("Runtime", b""), ("Console", b"")):
+        metadata.row(0x23, 8, 0, 0, 0, 0, CORE_KEY, "System." + name, "", hash_value)
+    return image(bodies, metadata, 0x06000004)
+
+
+def mixed_left():
+    metadata, bodies = Metadata(), Bodies()
+    metadata.row(0x00, 0, "App.exe", 1, 0, 0)
+    metadata.row(0x01, (0x23, 1), "Object", "System")
+    metadata.row(0x01, (0x23, 2), "Console", "System")
+    metadata.row(0x02, 0, "<Module>", "", None, 1, 1)
+    metadata.row(0x02, CLASS, "Program\u00e9", "N.S", (0x01, 1), 1, 1)
+    method(metadata, bodies, "Helper", helper_code(PRINT_TEXT, PRINT_NUMBER), HELPER_SIGNATURE)
+    # Texts stand in the order in which code loads them; the empty one, too, has an item of its own.
+    load_text(metadata, "b"), load_text(metadata, "a'")
+    empty_text = 0x70000000 | len(metadata.texts.data)
+    metadata.texts.data += b"\x01\x00"
+    code = main_code(metadata, 0x06000001, 0x06000003, empty_text)
+    method(metadata, bodies, "Main", code, MAIN_SIGNATURE, slots=0x11000001)
+    method(metadata, bodies, "Last", last_code(metadata, PRINT_TEXT), static_signature(VOID), slots=0x11000001)
+    metadata.row(0x0A, (0x01, 2), "WriteLine", static_signature(VOID, STRING))
+    metadata.row(0x0A, (0x01, 2), "WriteLine", static_signature(VOID, INT))
+    metadata.row(0x11, bytes([7, 2, INT, STRING]))
+    metadata.row(0x20, 0x8004, 1, 2, 3, 4, 0, b"", "App", "")
+    metadata.row(0x23, 8, 0, 0, 0, 0, CORE_KEY, "System.Runtime", "", b"")
+    metadata.row(0x23, 8, 0, 0, 0, 0, CORE_KEY, "System.Console", "", b"")
+    return image(bodies, metadata, 0x06000002)
+
+
+class Numbers:
+    """Numbers that look random and are the same each time."""
+
+    def __init__(self, seed):
+        self.state = seed
+
+    def below(self, bound):
+        self.state = (self.state * 6364136223846793005 + 1442695040888963407) % 2**64
+        return (self.state >> 33) % bound
+
+    def one_of(self, values):
+        return values[self.below(len(values))]
+
+
+# ---- about 1 MiB of methods that each call another
 
 METHODS = 2047
 TEXTS = 1500
@@ -494,7 +345,7 @@ def large():
     return image(bodies, metadata, 0x06000001)
 
 
-FILES = {"hello": hello, "uncalled": uncalled, "thin": thin, "needed": needed, "large": large}
+FILES = {f.__name__: f for f in (hello, uncalled, mixed, mixed_left, thin, needed, large)}
 
 
 def main(words):
