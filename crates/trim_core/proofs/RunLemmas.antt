@@ -11,7 +11,7 @@ use Rattle.cil_values.specs.Words.{Next, went, over}
 use Rattle.cil_values.specs.Step.{step}
 use Rattle.cil_values.specs.Run.{Outcome, printed_before, after, run}
 use Rattle.cil_machine.specs.declared.step_out.StepOut.TheVariants as out
-use Rattle.trim_core.specs.declared.answers.Refusal.TheVariants.{NotYet, NoMemory}
+use Rattle.trim_core.specs.declared.answers.Refusal.TheVariants.{BadFile, Limit, Unresolved, NotYet, NoMemory}
 use Rattle.trim_core.specs.declared.answers.ExecFault.{ExecFault}
 use Rattle.trim_core.specs.declared.answers.ExecFault.TheVariants.{Refused, Write}
 use Rattle.trim_core.specs.Exec.{LoopsTo, TurnsTo}
@@ -103,9 +103,15 @@ rose_from a b c e r = subst (λ (x : ℕ). Rose x c) e r
 pub turn_fails : (total : Outcome) (old now new : SinkState) (next : Next) (t : State) (fault : ExecFault) (f : State → Outcome) → Left total old now (after next f) → TurnsTo next t now new (Err fault) → LoopsTo total old new (Err fault)
 turn_fails total old now new (went s bytes) t Write f left turn = (cut total old now new bytes (f s) left turn.0, rose_from old.faults now.faults new.faults left.faults turn.1)
 turn_fails total old now new (went s bytes) t (Refused NoMemory) f left turn = (cut total old now new bytes (f s) left turn.0, turn.1 ∙ left.faults)
+turn_fails total old now new (went s bytes) t (Refused (BadFile file at)) f left turn = absurd turn
+turn_fails total old now new (went s bytes) t (Refused (Limit which found)) f left turn = absurd turn
+turn_fails total old now new (went s bytes) t (Refused (Unresolved place)) f left turn = absurd turn
 turn_fails total old now new (went s bytes) t (Refused (NotYet file)) f left turn = absurd turn
 turn_fails total old now new (over e) t Write f left turn = absurd turn
 turn_fails total old now new (over e) t (Refused NoMemory) f left turn = (stands total old now new (record { output = []; end = Some e }) left turn.0, turn.1 ∙ left.faults)
+turn_fails total old now new (over e) t (Refused (BadFile file at)) f left turn = absurd turn
+turn_fails total old now new (over e) t (Refused (Limit which found)) f left turn = absurd turn
+turn_fails total old now new (over e) t (Refused (Unresolved place)) f left turn = absurd turn
 turn_fails total old now new (over e) t (Refused (NotYet file)) f left turn = absurd turn
 
 -- all turns went on

@@ -1,5 +1,5 @@
 -- What a trim of files gives, and when it refuses.
-use Rattle.std.specs.Prelude.{◌≡◌, ℕ, Bool, List, length, Some, None, Result, Ok, Err}
+use Rattle.std.specs.Prelude.{◌≡◌, ℕ, Bool, List, Some, None, Result, Ok, Err}
 use Rattle.il_base.specs.declared.ids.Place.{Place}
 use Rattle.world_model.specs.declared.record.AsmRec.{AsmRec}
 use Rattle.trim_rules.specs.declared.bad_operand.BadOperand.{BadOperand}
@@ -8,7 +8,6 @@ use Rattle.trim_rules.specs.BadOperands.{first_bad}
 use Rattle.file_layout.specs.Laid.{laid}
 use Rattle.assembly_writer.specs.Written.{PassesLimit}
 use Rattle.trim_laws.specs.Headline.{Headline}
-use Rattle.restriction.specs.Numbering.{rank}
 use Rattle.restriction.specs.Restricted.{restricted}
 use Rattle.trim_core.specs.declared.answers.Refusal.{Refusal}
 use Rattle.trim_core.specs.declared.answers.Refusal.TheVariants.{Limit, Unresolved, NoMemory}
@@ -25,8 +24,6 @@ pub record TrimmedTo (rec : AsmRec) (t : Trimmed) : Type 0 where
   pub good : first_bad rec flags ≡ None
   pub bytes : t.bytes ≡ laid (restricted rec flags)
   pub headline : Headline rec flags
-  pub types : t.types ≡ 2
-  pub methods : t.methods ≡ rank flags (length rec.method_def)
 
 -- the first operand of a marked method that names nothing
 pub record IsUnresolved (rec : AsmRec) (place : Place) : Type 0 where

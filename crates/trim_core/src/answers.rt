@@ -46,9 +46,6 @@ pub struct Ending {
 pub struct Trimmed {
     /// The file that is written.
     pub bytes: Text,
-    /// How many types and methods are kept.
-    pub types: u32,
-    pub methods: u32,
 }
 
 /// Why a run over a sink gave no end.

@@ -17,6 +17,7 @@ use world_reader::{RecordError, read_record};
 const MOST_BYTES: usize = 67_108_864;
 
 /// The record of a file of at most that many bytes.
+#[tactic(auto, unfolding(cli_format::specs::Metadata::Refused))]
 fn read_told(alloc: Global, file: &[u8]) -> Result<AsmRec, Refusal>
     requires { length file.now ≤ most_bytes }
     ensures told { Told (told_by file.now (first_fault (record_demands file.now))) result }

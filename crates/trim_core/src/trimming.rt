@@ -59,8 +59,6 @@ fn written(
         Err(WriteError::Limit { which, found }) => Err(Refusal::Limit { which, found }),
         Ok(()) => Ok(Trimmed {
             bytes: Seq::from_vec(bytes),
-            types: 2,
-            methods: left.method_def.len() as u32,
         }),
     }
 }

@@ -1,0 +1,23 @@
+use Rattle.std.proofs.Common.{◌≡◌, ◌≤◌, ℕ, List, Bool, [], ◌++◌, refl, sym, ap, subst, ◌∙◌, arith}
+use Rattle.blob_grammar.specs.Laws.{AreBytes}
+use Rattle.world_model.specs.declared.record.AsmRec.{AsmRec}
+use Rattle.file_layout.specs.Laid.{laid, laid_length}
+use Rattle.restriction.specs.Restricted.{restricted}
+use Rattle.assembly_writer.specs.Written.{users_length}
+use Rattle.trim_core.proofs.trimming.written.Goals as goal
+
+pub returns : goal.returns
+returns c =
+    let rec = c.args.rec.now in
+    let flags = c.args.marked.now.flags in
+    let fits : AreBytes c.args.file.now = λ i. let h = c.type_inv.file i in omega arith in
+    let left : c.in-Ok.left ≡ restricted c.args.rec.now c.args.marked.now.flags = c.in-Ok.ensures ∙ ap (λ (fs : List Bool). restricted c.args.rec.now fs) c.as_slice.ensures in
+    let short : laid_length (restricted c.args.rec.now c.args.marked.now.flags) ≤ 268435456 = subst (λ (r : AsmRec). laid_length r ≤ 268435456) left c.in-Ok-write.ensures.short.0 in
+    let users : users_length (restricted c.args.rec.now c.args.marked.now.flags) ≤ 16777216 = subst (λ (r : AsmRec). users_length r ≤ 16777216) left c.in-Ok-write.ensures.short.1 in
+    record {
+      flags = flags;
+      marking = c.requires.marking;
+      good = c.requires.good;
+      bytes = c.from_vec.ensures ∙ c.in-Ok-write.ensures.written ∙ ap (λ (bs : List ℕ). bs ++ laid c.in-Ok.left) c.new-bytes.ensures.items ∙ ap (λ (r : AsmRec). laid r) left;
+      headline = c.headline.ensures c.args.file.now rec flags fits c.requires.record c.requires.thin c.requires.marking c.requires.good short users;
+    }
