@@ -1,6 +1,6 @@
 use super::*;
 use il_base::{NoMemory, Seq};
-use il_outside::{MemFolder, MemSink, MemSource, NamedFile};
+use il_outside::{Folder, MemFolder, MemSink, MemSource, NamedFile};
 use std::alloc::{AllocError, Global};
 use std::test::*;
 
@@ -236,6 +236,38 @@ fn bad_words_are_named_by_their_place(rt: HostRuntime) -> Result<(), Fail> {
         Status::ReadFault,
         b"",
         b"read fault\n",
+    );
+    assert!(rt; missing.ok().ok_or("memory")?);
+    Ok(())
+}
+
+/// Trims `hello.exe` into `out.exe`, and says whether the two are the same bytes.
+fn trims_to_itself(alloc: Global) -> Result<bool, NoMemory> {
+    let words = words_of(alloc, &["trim", "out.exe", "hello.exe"])?;
+    let mut folder = folder_of(alloc)?;
+    let mut input = MemSource::new(Seq::new(alloc), Seq::new(alloc));
+    let mut out = MemSink::new(Seq::new(alloc));
+    let mut err = MemSink::new(Seq::new(alloc));
+    let answer = run(alloc, &words, &mut folder, &mut input, &mut out, &mut err);
+    let whole = hello(alloc)?;
+    match folder.read(alloc, "out.exe") {
+        Err(_) => Ok(false),
+        Ok(left) => Ok(answer == Status::Done
+            && err.held() == b"done\n"
+            && left.as_slice() == whole.as_slice()),
+    }
+}
+
+#[test]
+fn a_file_without_leftovers_trims_to_itself(rt: HostRuntime) -> Result<(), Fail> {
+    let same = trims_to_itself(rt.alloc());
+    assert!(rt; same.ok().ok_or("memory")?);
+    let missing = answers(
+        rt.alloc(),
+        &["trim", "out.exe"],
+        Status::BadWords { place: 2 },
+        b"",
+        b"bad words 2\n",
     );
     assert!(rt; missing.ok().ok_or("memory")?);
     Ok(())
