@@ -81,7 +81,8 @@ fn are_thin_type_refs(rec: &AsmRec, rows: &[TypeRefRow]) -> bool
 fn are_core_members(rec: &AsmRec, rows: &[MemberRefRow]) -> bool
     ensures { result ≡ list_all (λ row. is_some (core_member rec.now row)) rows.now }
 {
-    rows.iter().all(|row| resolve_core_member(rec, row).is_some())
+    rows.iter()
+        .all(|row| resolve_core_member(rec, row).is_some())
 }
 
 /// Whether a method takes no parameters and returns void or int32.

@@ -252,9 +252,11 @@ fn trims_to_itself(alloc: Global) -> Result<bool, NoMemory> {
     let whole = hello(alloc)?;
     match folder.read(alloc, "out.exe") {
         Err(_) => Ok(false),
-        Ok(left) => Ok(answer == Status::Done
-            && err.held() == b"done\n"
-            && left.as_slice() == whole.as_slice()),
+        Ok(left) => Ok(
+            answer == Status::Done
+                && err.held() == b"done\n"
+                && left.as_slice() == whole.as_slice(),
+        ),
     }
 }
 

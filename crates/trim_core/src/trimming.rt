@@ -34,12 +34,7 @@ fn place_of(operand: BadOperand) -> Place
 }
 
 /// The file of what is left of a file's record.
-fn written(
-    alloc: Global,
-    file: &[u8],
-    rec: &AsmRec,
-    marked: &Bits,
-) -> Result<Trimmed, Refusal>
+fn written(alloc: Global, file: &[u8], rec: &AsmRec, marked: &Bits) -> Result<Trimmed, Refusal>
     requires record { HasRecord file.now rec.now }
     requires thin { IsTrue (is_thin rec.now) }
     requires marking { IsMarking rec.now marked.now.flags }
