@@ -254,7 +254,7 @@ fn trims_to_itself(alloc: Global) -> Result<bool, NoMemory> {
         Err(_) => Ok(false),
         Ok(left) => Ok(
             answer == Status::Done
-                && err.held() == b"done\n"
+                && err.held() == b"done\n".as_slice()
                 && left.as_slice() == whole.as_slice(),
         ),
     }
