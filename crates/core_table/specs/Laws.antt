@@ -11,7 +11,7 @@ use Rattle.core_table.specs.declared.shape.CoreSig.{CoreSig}
 use Rattle.core_table.specs.declared.shape.CoreSig.TheVariants as core
 use Rattle.core_table.specs.declared.shape.CoreType.{CoreType}
 use Rattle.core_table.specs.declared.types.TheConstants.{TYPES, METHOD_COUNT}
-use Rattle.core_table.specs.declared.tokens.TheConstants.{OBJECT, VALUE_TYPE, ARRAY, RUNTIME_FIELD_HANDLE, EXCEPTION, MEMBER_INFO, METHOD_BASE, SYSTEM_EXCEPTION, APPLICATION_EXCEPTION, MEMBER_ACCESS_EXCEPTION, MISSING_MEMBER_EXCEPTION, ARGUMENT_EXCEPTION, ARITHMETIC_EXCEPTION}
+use Rattle.core_table.specs.declared.tokens.TheConstants.{OBJECT, VALUE_TYPE, ENUM, ARRAY, RUNTIME_FIELD_HANDLE, EXCEPTION, MEMBER_INFO, METHOD_BASE, SYSTEM_EXCEPTION, APPLICATION_EXCEPTION, MEMBER_ACCESS_EXCEPTION, MISSING_MEMBER_EXCEPTION, ARGUMENT_EXCEPTION, ARITHMETIC_EXCEPTION}
 use Rattle.core_table.specs.Names.{text_of}
 use Rattle.core_table.specs.Members.{methods_of}
 
@@ -114,6 +114,7 @@ abbrev pub named_tokens : List (ℕ × List ℕ)
 named_tokens =
     (OBJECT, codes "Object")
     ∷ (VALUE_TYPE, codes "ValueType")
+    ∷ (ENUM, codes "Enum")
     ∷ (ARRAY, codes "Array")
     ∷ (RUNTIME_FIELD_HANDLE, codes "RuntimeFieldHandle")
     ∷ (EXCEPTION, codes "Exception")

@@ -4,6 +4,8 @@
 pub const OBJECT: u32 = 0x0200_0002;
 /// The TypeDef token of ValueType.
 pub const VALUE_TYPE: u32 = 0x0200_0003;
+/// The TypeDef token of Enum.
+pub const ENUM: u32 = 0x0200_0004;
 /// The TypeDef token of Array.
 pub const ARRAY: u32 = 0x0200_0016;
 /// The TypeDef token of RuntimeFieldHandle.

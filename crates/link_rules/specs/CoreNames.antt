@@ -1,0 +1,117 @@
+-- Names of the core library that modifiers use and that it doesn't have (II.7.1.1): they are added to it as types without
+-- members, since a modifier is part of a signature whether its type is there or not.
+use Rattle.std.specs.Prelude.{ℕ, suc, ◌+◌, ◌-◌, List, [], ◌∷◌, ◌++◌, length, map, Option, Some, None, slice_get, ◌==◌, ◌&&◌, Bool, true, false, if◌then◌else◌}
+use Rattle.std.specs.List.{list_any, flat_map, concat}
+use Rattle.std.specs.Option.{option_and_then}
+use Rattle.il_base.specs.declared.sig.Sig.{Sig, fold-Sig}
+use Rattle.il_base.specs.declared.sig.Sig.TheOpen.{Sig-F}
+use Rattle.il_base.specs.declared.sig.MethodSig.{MethodSig}
+use Rattle.world_model.specs.declared.known.Known.{Known}
+use Rattle.world_model.specs.declared.known.Known.TheVariants.{Good, Bad}
+use Rattle.world_model.specs.declared.expr.MemberSig.{MemberSig}
+use Rattle.world_model.specs.declared.expr.MemberSig.TheVariants as member
+use Rattle.world_model.specs.declared.types.TypeRefRow.{TypeRefRow}
+use Rattle.world_model.specs.declared.types.TypeDefRow.{TypeDefRow}
+use Rattle.world_model.specs.declared.members.FieldRow.{FieldRow}
+use Rattle.world_model.specs.declared.members.MethodDefRow.{MethodDefRow}
+use Rattle.world_model.specs.declared.members.MemberRefRow.{MemberRefRow}
+use Rattle.world_model.specs.declared.members.StandAloneSigRow.{StandAloneSigRow}
+use Rattle.world_model.specs.declared.members.PropertyRow.{PropertyRow}
+use Rattle.world_model.specs.declared.types.TypeSpecRow.{TypeSpecRow}
+use Rattle.world_model.specs.declared.members.MethodSpecRow.{MethodSpecRow}
+use Rattle.world_model.specs.declared.record.AsmRec.{AsmRec}
+use Rattle.world_model.specs.Tokens.{index_in}
+use Rattle.world_model.specs.Core.{same_name, is_core_scope}
+use Rattle.core_table.specs.declared.tokens.TheConstants.{OBJECT, STATIC_TYPE}
+use Rattle.link_rules.specs.Types.{type_in}
+use Rattle.link_rules.specs.Cycles.{add_all, listed}
+
+-- ---- modifiers
+
+-- the tokens of the modifiers in a signature, in order
+abbrev pub modifiers_layer : Sig-F (List ℕ) → List ℕ
+modifiers_layer (Sig-F.Prim n) = []
+modifiers_layer (Sig-F.Named value token) = []
+modifiers_layer (Sig-F.Array x) = x
+modifiers_layer (Sig-F.ByRef x) = x
+modifiers_layer (Sig-F.Inst value token args) = flat_map (λ xs. xs) args
+modifiers_layer (Sig-F.Var n) = []
+modifiers_layer (Sig-F.MVar n) = []
+modifiers_layer (Sig-F.Mod required token x) = token ∷ x
+modifiers_layer (Sig-F.Pinned x) = x
+
+unfoldable pub modifiers : Sig → List ℕ
+modifiers = fold-Sig (List ℕ) modifiers_layer
+
+unfoldable pub modifiers_of : List Sig → List ℕ
+modifiers_of sigs = flat_map modifiers sigs
+
+abbrev pub method_modifiers : MethodSig → List ℕ
+method_modifiers s = modifiers s.ret ++ modifiers_of s.params
+
+abbrev pub member_modifiers : MemberSig → List ℕ
+member_modifiers (member.Field s) = modifiers s
+member_modifiers (member.Method s) = method_modifiers s
+
+abbrev pub in_good : {A : Type 0} → (A → List ℕ) → Known A → List ℕ
+in_good tokens (Good x) = tokens x
+in_good tokens (Bad why) = []
+
+-- those in the signatures of an assembly that have a reading, table by table
+unfoldable pub all_modifiers : AsmRec → List ℕ
+all_modifiers rec =
+    flat_map (λ (r : FieldRow). in_good modifiers r.signature) rec.field
+    ++ flat_map (λ (r : MethodDefRow). in_good method_modifiers r.signature) rec.method_def
+    ++ flat_map (λ (r : MemberRefRow). in_good member_modifiers r.signature) rec.member_ref
+    ++ flat_map (λ (r : StandAloneSigRow). in_good modifiers_of r.signature) rec.stand_alone_sig
+    ++ flat_map (λ (r : PropertyRow). in_good method_modifiers r.signature) rec.property
+    ++ flat_map (λ (r : TypeSpecRow). in_good modifiers r.signature) rec.type_spec
+    ++ flat_map (λ (r : MethodSpecRow). in_good modifiers_of r.instantiation) rec.method_spec
+
+-- ---- names that the core library lacks
+
+pub record CoreTypeName : Type 0 where
+  pub namespace : List ℕ
+  pub name : List ℕ
+
+abbrev pub same_core_name : CoreTypeName → CoreTypeName → Bool
+same_core_name x y = same_name x.name y.name && same_name x.namespace y.namespace
+
+abbrev pub is_missing : AsmRec → Option ℕ → Bool
+is_missing core None = true
+is_missing core (Some k) = false
+
+-- a reference in the core library to a type that it doesn't have
+abbrev pub missing_name : AsmRec → AsmRec → TypeRefRow → List CoreTypeName
+missing_name core rec row =
+    if is_core_scope rec row.resolution_scope && is_missing core (type_in core None row.namespace row.name)
+    then record { namespace = row.namespace; name = row.name } ∷ [] else []
+
+abbrev pub missing_at : AsmRec → AsmRec → ℕ → List CoreTypeName
+missing_at core rec token =
+    flat_map (missing_name core rec) (listed (option_and_then (slice_get rec.type_ref) (index_in 0x01 token)))
+
+abbrev pub missing_in : AsmRec → AsmRec → List CoreTypeName
+missing_in core rec = flat_map (missing_at core rec) (all_modifiers rec)
+
+-- each once, in the order in which they are met
+unfoldable pub missing_names : AsmRec → List AsmRec → List CoreTypeName
+missing_names core recs = add_all same_core_name [] (flat_map (missing_in core) recs)
+
+-- ---- the core library with them
+
+-- public, abstract and sealed, as .NET has IsVolatile or IsExternalInit
+abbrev pub added_type : AsmRec → CoreTypeName → TypeDefRow
+added_type core x = record {
+  flags = STATIC_TYPE;
+  name = x.name;
+  namespace = x.namespace;
+  extends = OBJECT;
+  field_list_first = length core.field + 1;
+  field_list_end = length core.field + 1;
+  method_list_first = length core.method_def + 1;
+  method_list_end = length core.method_def + 1;
+}
+
+unfoldable pub core_with : AsmRec → List CoreTypeName → AsmRec
+core_with core names = record core { type_def = core.type_def ++ map (added_type core) names }
