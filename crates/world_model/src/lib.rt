@@ -9,6 +9,8 @@ mod expr;
 mod extras;
 mod known;
 mod laws;
+mod links;
+mod lookup;
 mod members;
 mod opcodes;
 mod record;
@@ -32,6 +34,7 @@ pub use extras::{
 };
 pub use known::{BadKind, Known};
 pub use laws::same_expr_is_equality;
+pub use lookup::type_link_at;
 pub use members::{
     EventMapRow, EventRow, FieldRow, MemberRefRow, MethodDefRow, MethodImplRow, MethodSemanticsRow,
     MethodSpecRow, ParamRow, PropertyMapRow, PropertyRow, StandAloneSigRow,
