@@ -3,3 +3,4 @@ pub mod SameExpr
 pub mod SameLayers
 pub mod Levels
 pub mod Linked
+pub mod Counting

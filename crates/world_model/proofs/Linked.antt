@@ -1,17 +1,11 @@
 -- Links by their places among those of their assembly.
 use Rattle.std.proofs.Common.{◌≡◌, ℕ, zero, suc, ◌+◌, List, [], ◌∷◌, drop, take, sum_by, slice_get, Option, Some, None, refl, ap, ◌∙◌, zero-add, arith}
-use Rattle.std.proofs.lemmas.List.Sums.{sum_by-cons}
 use Rattle.std.specs.Option.{option_map, option_and_then}
 use Rattle.world_model.specs.declared.links.LinkKind.{LinkKind}
 use Rattle.world_model.specs.declared.record.AsmRec.{AsmRec}
 use Rattle.world_model.specs.Worlds.{rows_before, behind, link_place}
+use Rattle.world_model.proofs.Counting.{before_is}
 use Rattle.world_model.specs.Kinds.{rows_in, row_in, link_in}
-
-pub before_is : (f : AsmRec → ℕ) (recs : List AsmRec) (a : ℕ) → sum_by f (take a recs) ≡ rows_before f recs a
-unfolding rows_before
-before_is f recs zero = refl
-before_is f [] (suc a) = refl
-before_is f (rec ∷ recs) (suc a) = sum_by-cons f rec (take a recs) ∙ ap (λ (n : ℕ). f rec + n) (before_is f recs a)
 
 pub no_assembly : {A : Type 0} (k : LinkKind) (recs : List AsmRec) (links : List A) (a token : ℕ) → slice_get recs a ≡ None → link_in k recs links a token ≡ None
 unfolding link_place

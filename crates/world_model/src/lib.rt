@@ -13,6 +13,7 @@ mod links;
 mod lookup;
 mod members;
 mod opcodes;
+mod prims;
 mod record;
 mod type_exprs;
 mod type_tests;
@@ -40,6 +41,7 @@ pub use members::{
     MethodSpecRow, ParamRow, PropertyMapRow, PropertyRow, StandAloneSigRow,
 };
 pub use opcodes::instruction_len;
+pub use prims::{prim_of, prim_type, type_id};
 pub use record::{AsmRec, UserText};
 pub use types::{
     ClassLayoutRow, ExportedTypeRow, GenericParamConstraintRow, GenericParamRow, InterfaceImplRow,
