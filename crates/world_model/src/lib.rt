@@ -8,9 +8,15 @@ mod core_refs;
 mod expr;
 mod extras;
 mod known;
+mod laws;
+mod links;
+mod lookup;
 mod members;
 mod opcodes;
+mod prims;
 mod record;
+mod type_exprs;
+mod type_tests;
 mod types;
 mod world;
 
@@ -28,11 +34,14 @@ pub use extras::{
     FileRow, ImplMapRow, ManifestResourceRow,
 };
 pub use known::{BadKind, Known};
+pub use laws::same_expr_is_equality;
+pub use lookup::type_link_at;
 pub use members::{
     EventMapRow, EventRow, FieldRow, MemberRefRow, MethodDefRow, MethodImplRow, MethodSemanticsRow,
     MethodSpecRow, ParamRow, PropertyMapRow, PropertyRow, StandAloneSigRow,
 };
 pub use opcodes::instruction_len;
+pub use prims::{prim_of, prim_type, type_id};
 pub use record::{AsmRec, UserText};
 pub use types::{
     ClassLayoutRow, ExportedTypeRow, GenericParamConstraintRow, GenericParamRow, InterfaceImplRow,
