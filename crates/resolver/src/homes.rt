@@ -1,6 +1,6 @@
 //! Where the items of a world stand.
 
-ghost use Rattle.std.specs.Prelude.{◌≡◌, ◌++◌, ℕ, suc, length, map, OnOk, IfOk};
+ghost use Rattle.std.specs.Prelude.{◌≡◌, ◌+◌, ◌*◌, ◌++◌, ℕ, suc, length, map, OnOk, IfOk};
 ghost use Rattle.std.specs.List.{range_with_len};
 ghost use Rattle.link_rules.specs.Linked.{home, homes_from, homes};
 ghost use Rattle.resolver.specs.Kinds.{count_in, item_of, table_of};
