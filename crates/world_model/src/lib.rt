@@ -8,9 +8,12 @@ mod core_refs;
 mod expr;
 mod extras;
 mod known;
+mod laws;
 mod members;
 mod opcodes;
 mod record;
+mod type_exprs;
+mod type_tests;
 mod types;
 mod world;
 
@@ -28,6 +31,7 @@ pub use extras::{
     FileRow, ImplMapRow, ManifestResourceRow,
 };
 pub use known::{BadKind, Known};
+pub use laws::same_expr_is_equality;
 pub use members::{
     EventMapRow, EventRow, FieldRow, MemberRefRow, MethodDefRow, MethodImplRow, MethodSemanticsRow,
     MethodSpecRow, ParamRow, PropertyMapRow, PropertyRow, StandAloneSigRow,

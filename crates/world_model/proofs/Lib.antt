@@ -1,0 +1,4 @@
+pub mod ExprLayers
+pub mod SameExpr
+pub mod SameLayers
+pub mod Levels
