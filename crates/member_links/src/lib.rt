@@ -5,6 +5,8 @@
 
 mod counted;
 mod homes;
+mod method_types;
+mod own_types;
 mod owners;
 mod params;
 mod runs;
