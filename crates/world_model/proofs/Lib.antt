@@ -2,3 +2,5 @@ pub mod ExprLayers
 pub mod SameExpr
 pub mod SameLayers
 pub mod Levels
+pub mod Linked
+pub mod Counting

@@ -9,8 +9,11 @@ mod expr;
 mod extras;
 mod known;
 mod laws;
+mod links;
+mod lookup;
 mod members;
 mod opcodes;
+mod prims;
 mod record;
 mod type_exprs;
 mod type_tests;
@@ -32,11 +35,13 @@ pub use extras::{
 };
 pub use known::{BadKind, Known};
 pub use laws::same_expr_is_equality;
+pub use lookup::type_link_at;
 pub use members::{
     EventMapRow, EventRow, FieldRow, MemberRefRow, MethodDefRow, MethodImplRow, MethodSemanticsRow,
     MethodSpecRow, ParamRow, PropertyMapRow, PropertyRow, StandAloneSigRow,
 };
 pub use opcodes::instruction_len;
+pub use prims::{prim_of, prim_type, type_id};
 pub use record::{AsmRec, UserText};
 pub use types::{
     ClassLayoutRow, ExportedTypeRow, GenericParamConstraintRow, GenericParamRow, InterfaceImplRow,
