@@ -3,8 +3,10 @@
 //! each Field and MemberRef row.
 #![tactic(auto)]
 
+mod bases;
 mod counted;
 mod homes;
+mod linked;
 mod method_types;
 mod own_types;
 mod owners;
