@@ -1,1 +1,4 @@
 pub mod RowLemmas
+pub mod OwnLemmas
+pub mod SubstNone
+pub mod MethodTypes

@@ -7,6 +7,7 @@ mod bases;
 mod counted;
 mod homes;
 mod linked;
+mod members;
 mod method_types;
 mod own_types;
 mod owners;

@@ -1,4 +1,5 @@
 ghost use Rattle.std.specs.Prelude.{◌≡◌, Some, slice_get, IfOk};
+ghost use Rattle.world_model.specs.Worlds.{type_id};
 ghost use Rattle.link_rules.specs.Signatures.{prim_at, definition_expr};
 ghost use Rattle.link_rules.specs.Members.{own_args, own_type, open_parent};
 ghost use Rattle.member_links.specs.Params.{AreParamCounts};
