@@ -2,3 +2,4 @@ pub mod RowLemmas
 pub mod OwnLemmas
 pub mod SubstNone
 pub mod MethodTypes
+pub mod Searching
