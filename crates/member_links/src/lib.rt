@@ -13,4 +13,6 @@ mod method_types;
 mod own_types;
 mod owners;
 mod params;
+mod references;
 mod runs;
+mod uses;
