@@ -3,3 +3,4 @@ pub mod OwnLemmas
 pub mod SubstNone
 pub mod MethodTypes
 pub mod Searching
+pub mod Owning

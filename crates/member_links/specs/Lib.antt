@@ -1,4 +1,5 @@
 pub mod Counted
+pub mod Definitions
 pub mod Found
 pub mod Linked
 pub mod Owners

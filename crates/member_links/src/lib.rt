@@ -5,6 +5,7 @@
 
 mod bases;
 mod counted;
+mod definitions;
 mod found;
 mod homes;
 mod linked;
