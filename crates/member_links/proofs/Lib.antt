@@ -4,3 +4,5 @@ pub mod SubstNone
 pub mod MethodTypes
 pub mod Searching
 pub mod Owning
+pub mod Linking
+pub mod Telling

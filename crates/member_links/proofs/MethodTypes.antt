@@ -79,3 +79,15 @@ pub method_none : (k : Known MethodType) → known_map (subst_method []) k ≡ k
 unfolding subst_method
 method_none (Good m) = λ i. Good (record { this = m.this; generic = m.generic; ret = subst_none m.ret i; params = subst_all_none m.params i })
 method_none (Bad why) = refl
+
+-- the types of signatures without arguments, as names_at has them, where the links tell so
+
+type_at : (all : List AsmRec) (links : List TypeLink) (a : ℕ) (names : Names) (s : Sig) → sig_expr (names_by all links a) s ≡ sig_expr names s
+    → expr_by all links a [] [] s ≡ sig_expr names s
+unfolding expr_by
+type_at all links a names s tell = type_none (sig_expr (names_by all links a) s) ∙ tell
+
+pub types_at : (all : List AsmRec) (links : List TypeLink) (a : ℕ) (names : Names) → ((s : Sig) → sig_expr (names_by all links a) s ≡ sig_expr names s)
+    → (ss : List Sig) → map (expr_by all links a [] []) ss ≡ map (sig_expr names) ss
+types_at all links a names tell [] = refl
+types_at all links a names tell (s ∷ ss) = λ i. type_at all links a names s (tell s) i ∷ types_at all links a names tell ss i

@@ -8,7 +8,9 @@ mod counted;
 mod definitions;
 mod found;
 mod homes;
+mod instances;
 mod linked;
+mod links;
 mod members;
 mod method_types;
 mod own_types;
@@ -17,3 +19,5 @@ mod params;
 mod references;
 mod runs;
 mod uses;
+
+pub use links::{field_links, method_links};
