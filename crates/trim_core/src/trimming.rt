@@ -11,7 +11,7 @@ ghost use Rattle.trim_rules.specs.Marked.{IsMarking};
 ghost use Rattle.trim_rules.specs.BadOperands.{first_bad};
 
 use crate::answers::{Refusal, Trimmed};
-use crate::told::told_alone;
+use crate::told::told_world;
 use assembly_writer::{WriteError, write};
 use il_base::{Bits, Place, Seq, Text};
 use marking::{first_bad, mark_methods};
@@ -81,9 +81,12 @@ fn trim_record(alloc: Global, file: &[u8], rec: &AsmRec) -> Result<Trimmed, Refu
 fn trim_file(alloc: Global, file: &[u8]) -> Result<Trimmed, Refusal>
     ensures { Trims (told_alone file.now) result }
 {
-    match told_alone(alloc, file) {
+    match told_world(alloc, file) {
         Err(refusal) => Err(refusal),
-        Ok(rec) => trim_record(alloc, file, &rec),
+        Ok(world) => match world.recs.as_slice() {
+            [] => unreachable!(),
+            [rec, ..] => trim_record(alloc, file, rec),
+        },
     }
 }
 

@@ -1,0 +1,10 @@
+//! The core library with the names that modifiers use: in go the core library's record and the inputs, out comes the record
+//! with a type without members for each name that it lacks. `link_rules/specs/CoreNames` defines it.
+#![tactic(auto)]
+
+mod missing;
+mod modifiers;
+mod with_names;
+
+pub use missing::missing_names;
+pub use with_names::add_names;
