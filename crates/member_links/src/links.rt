@@ -3,7 +3,7 @@ ghost use Rattle.std.specs.List.{range_with_len};
 ghost use Rattle.link_rules.specs.Faults.{numbered};
 ghost use Rattle.link_rules.specs.Members.{method_def_use, field_def_use, method_ref_use, field_ref_use, method_spec_use};
 ghost use Rattle.link_rules.specs.Linked.{method_link, field_link, methods_of, fields_of, links_from};
-ghost use Rattle.link_rules.specs.Laws.{AreTypeLinks, LinksTell};
+ghost use Rattle.link_rules.specs.Laws.{AreTypeLinks};
 ghost use Rattle.member_links.specs.Linked.{IsScope};
 ghost use Rattle.member_links.specs.Definitions.{OwnMethods, OwnFields};
 
@@ -13,6 +13,7 @@ use crate::linked::{Linked, Scope};
 use crate::params::token_of;
 use crate::references::{field_ref_use, method_ref_use};
 use il_base::{AsmId, NoMemory};
+use link_laws::laws::links_tell;
 use std::alloc::Global;
 use world_model::{AsmRec, FieldLink, FieldUse, Known, MethodLink, MethodUse, TypeLink};
 
@@ -169,10 +170,10 @@ pub fn method_links(
     all: &[AsmRec],
     links: &[TypeLink],
 ) -> Result<Vec<MethodLink>, NoMemory>
-    requires tells { LinksTell }
-    requires types { AreTypeLinks all.now links.now }
+    requires { AreTypeLinks all.now links.now }
     ensures { IfOk result (λ methods. methods.items ≡ links_from (methods_of all.now) 0 all.now) }
 {
+    links_tell();
     let linked = Linked { all, links };
     let mut methods = Vec::new(alloc);
     for (a, rec) in all.iter().enumerate() {
@@ -193,10 +194,10 @@ pub fn field_links(
     all: &[AsmRec],
     links: &[TypeLink],
 ) -> Result<Vec<FieldLink>, NoMemory>
-    requires tells { LinksTell }
-    requires types { AreTypeLinks all.now links.now }
+    requires { AreTypeLinks all.now links.now }
     ensures { IfOk result (λ fields. fields.items ≡ links_from (fields_of all.now) 0 all.now) }
 {
+    links_tell();
     let linked = Linked { all, links };
     let mut fields = Vec::new(alloc);
     for (a, rec) in all.iter().enumerate() {
