@@ -1,0 +1,19 @@
+-- What the links of types tell in each of the assemblies.
+use Rattle.std.proofs.Common.{◌≡◌, ℕ, ◌<◌, List, length, get_or, Some, refl}
+use Rattle.std.specs.Prelude.{slice_get}
+use Rattle.std.proofs.lemmas.Option.{slice_get_read}
+use Rattle.world_model.specs.declared.record.AsmRec.{AsmRec}
+use Rattle.link_rules.specs.Laws.{AreTypeLinks, LinksTell}
+use Rattle.member_links.specs.declared.linked.Linked.{Linked}
+use Rattle.member_links.specs.declared.linked.Scope.{Scope}
+use Rattle.member_links.specs.Linked.{IsLinked, IsScope}
+
+is_linked : LinksTell → (w : Linked) → AreTypeLinks w.all.now w.links.now → IsLinked w
+is_linked tell w are = let told = tell w.all.now w.links.now are in record { tokens = told.0; signatures = told.1; methods = told.2 }
+
+pub is_scope : LinksTell → (s : Scope) (a : ℕ) → AreTypeLinks s.linked.all.now s.linked.links.now → s.asm ≡ a → a < length s.linked.all.now
+    → s.rec.now ≡ get_or s.linked.all.now a s.rec.now → IsScope s
+is_scope tell s a are at within is = record {
+  linked = is_linked tell s.linked are;
+  here = rw at (slice_get_read s.linked.all.now (length s.linked.all.now) a s.rec.now refl within is);
+}

@@ -1,0 +1,6 @@
+pub mod Counted
+pub mod Definitions
+pub mod Found
+pub mod Linked
+pub mod Owners
+pub mod Params
