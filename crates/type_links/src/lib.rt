@@ -1,0 +1,7 @@
+//! The type links of several assemblies: what each TypeRef, TypeDef and TypeSpec token names, as `link_rules` defines it, and
+//! the index of types by name that they are found with.
+#![tactic(auto)]
+
+mod enclosers;
+mod first;
+mod names;
