@@ -4,3 +4,5 @@ pub mod SameLayers
 pub mod Levels
 pub mod Linked
 pub mod Counting
+pub mod SigLayers
+pub mod SigTokens

@@ -1,0 +1,5 @@
+//! The core library with the names that modifiers use: in go the core library's record and the inputs, out comes the record
+//! with a type without members for each name that it lacks. `link_rules/specs/CoreNames` defines it.
+#![tactic(auto)]
+
+mod modifiers;
