@@ -1,2 +1,4 @@
 pub mod Outers
 pub mod Named
+pub mod Forwarded
+pub mod Indexing

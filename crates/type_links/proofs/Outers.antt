@@ -10,15 +10,16 @@ use Rattle.world_model.specs.Tokens.{token_of, index_in}
 use Rattle.link_rules.specs.Types.{encloser_in, encloser}
 use Rattle.type_links.specs.declared.enclosers.Enclosers.{Enclosers}
 use Rattle.type_links.specs.Nesting.{encloser_by, AreEnclosers}
+use Rattle.type_links.specs.Forwarding.{inner}
 
 abbrev pub outer_in : ℕ → List NestedClassRow → Option (Option ℕ)
 outer_in token [] = None
 outer_in token (row ∷ rows) = if row.nested_class == token then Some (index_in 0x02 row.enclosing_class) else outer_in token rows
 
-abbrev inner : Option (Option ℕ) → Option ℕ
-inner o = option_and_then (λ outer. outer) o
 
-outer_case : (b : Bool) (row : Option ℕ) (rest : Option (Option ℕ)) (found : Option ℕ) → inner rest ≡ found
+
+
+pub outer_case : (b : Bool) (row : Option ℕ) (rest : Option (Option ℕ)) (found : Option ℕ) → inner rest ≡ found
     → inner (if b then Some row else rest) ≡ (if b then row else found)
 outer_case true row rest found e = refl
 outer_case false row rest found e = e

@@ -1,3 +1,6 @@
 pub mod First
 pub mod Nesting
 pub mod Names
+pub mod Forwarding
+pub mod Scopes
+pub mod Index

@@ -2,6 +2,12 @@
 //! the index of types by name that they are found with.
 #![tactic(auto)]
 
+mod assemblies;
 mod enclosers;
 mod first;
+mod forwarders;
+mod index;
 mod names;
+
+pub use index::TypeIndex;
+pub use names::TypeName;

@@ -1,5 +1,4 @@
 ghost use Rattle.std.specs.Prelude.{◌≡◌, ℕ, ◌+◌, IfOk};
-ghost use Rattle.link_rules.specs.Types.{type_in};
 ghost use Rattle.type_links.specs.Nesting.{AreEnclosers};
 ghost use Rattle.type_links.specs.Names.{AreTypeRows};
 
@@ -10,21 +9,27 @@ use std::alloc::Global;
 use std::collections::HashMap;
 use world_model::AsmRec;
 
-/// What a type is known by among those of its assembly.
+/// The name of a type, in UTF-8.
 #[derive(Clone, Copy, PartialEq, Eq, Hash)]
-pub(crate) struct TypeName<'a> {
-    /// The row of the enclosing type, from 0; None for a type that isn't nested.
-    pub(crate) around: Option<u32>,
-    pub(crate) namespace: &'a [u8],
-    pub(crate) name: &'a [u8],
+pub struct TypeName<'a> {
+    pub namespace: &'a [u8],
+    pub name: &'a [u8],
 }
 
-/// The first row, from 0, of the types of each name.
-fn type_rows<'a>(
+/// What a type is known by among those of its assembly.
+#[derive(Clone, Copy, PartialEq, Eq, Hash)]
+pub(crate) struct TypeKey<'a> {
+    /// The row of the enclosing type, from 0; None for a type that isn't nested.
+    pub(crate) around: Option<u32>,
+    pub(crate) name: TypeName<'a>,
+}
+
+/// The first row, from 0, of the types with each key.
+pub(crate) fn type_rows<'a>(
     alloc: Global,
     rec: &'a AsmRec,
     enclosers: &Enclosers,
-) -> Result<HashMap<TypeName<'a>, u32>, NoMemory>
+) -> Result<HashMap<TypeKey<'a>, u32>, NoMemory>
     requires { AreEnclosers rec.now enclosers.now }
     ensures { IfOk result (AreTypeRows rec.now) }
 {
@@ -32,11 +37,11 @@ fn type_rows<'a>(
     let mut at = 0u32;
     for row in rec.type_def.as_slice() {
         let name = TypeName {
-            around: enclosers.get(at),
             namespace: row.namespace.as_slice(),
             name: row.name.as_slice(),
         };
-        keep_first(&mut rows, name, at)?;
+        let around = enclosers.get(at);
+        keep_first(&mut rows, TypeKey { around, name }, at)?;
         at = next(at)?;
     }
     Ok(rows)
