@@ -2,3 +2,4 @@ pub mod Outers
 pub mod Named
 pub mod Forwarded
 pub mod Indexing
+pub mod Walks

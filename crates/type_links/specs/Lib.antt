@@ -4,3 +4,4 @@ pub mod Names
 pub mod Forwarding
 pub mod Scopes
 pub mod Index
+pub mod References

@@ -8,6 +8,7 @@ mod first;
 mod forwarders;
 mod index;
 mod names;
+mod references;
 
 pub use index::TypeIndex;
 pub use names::TypeName;
