@@ -3,3 +3,4 @@ pub mod Named
 pub mod Forwarded
 pub mod Indexing
 pub mod Walks
+pub mod Pushing

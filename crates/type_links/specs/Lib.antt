@@ -5,3 +5,4 @@ pub mod Forwarding
 pub mod Scopes
 pub mod Index
 pub mod References
+pub mod Linking

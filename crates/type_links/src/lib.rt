@@ -3,12 +3,15 @@
 #![tactic(auto)]
 
 mod assemblies;
+mod definitions;
 mod enclosers;
 mod first;
 mod forwarders;
 mod index;
+mod links;
 mod names;
 mod references;
 
 pub use index::TypeIndex;
+pub use links::type_links;
 pub use names::TypeName;
