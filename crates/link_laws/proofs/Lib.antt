@@ -2,3 +2,4 @@ pub mod Lists
 pub mod SignatureNames
 pub mod Places
 pub mod Tell
+pub mod NoArguments

@@ -1,0 +1,29 @@
+-- The links of one assembly's type tokens, table by table.
+use Rattle.std.specs.Prelude.{ℕ, List, length, map}
+use Rattle.std.specs.List.{range_with_len}
+use Rattle.world_model.specs.declared.known.Known.TheVariants.{Good}
+use Rattle.world_model.specs.declared.types.TypeSpecRow.{TypeSpecRow}
+use Rattle.world_model.specs.declared.record.AsmRec.{AsmRec}
+use Rattle.world_model.specs.declared.world.TypeLink.{TypeLink}
+use Rattle.link_rules.specs.Types.{at_row, ref_at}
+use Rattle.link_rules.specs.Signatures.{definition_expr, known_expr, spec_type}
+use Rattle.link_rules.specs.Faults.{numbered}
+use Rattle.link_rules.specs.Linked.{type_link}
+
+abbrev pub ref_link : List AsmRec → ℕ → AsmRec → ℕ → TypeLink
+ref_link all a rec k = type_link a 0x01 k (known_expr all (ref_at all a rec k))
+
+abbrev pub def_link : List AsmRec → ℕ → ℕ → TypeLink
+def_link all a k = type_link a 0x02 k (Good (definition_expr all (at_row a k)))
+
+abbrev pub spec_link : List AsmRec → ℕ → AsmRec → ℕ → TypeSpecRow → TypeLink
+spec_link all a rec k row = type_link a 0x1b k (spec_type all a rec row)
+
+abbrev pub refs_of : List AsmRec → ℕ → AsmRec → List TypeLink
+refs_of all a rec = map (ref_link all a rec) (range_with_len 0 (length rec.type_ref))
+
+abbrev pub defs_of : List AsmRec → ℕ → AsmRec → List TypeLink
+defs_of all a rec = map (def_link all a) (range_with_len 0 (length rec.type_def))
+
+abbrev pub specs_of : List AsmRec → ℕ → AsmRec → List TypeLink
+specs_of all a rec = numbered (spec_link all a rec) 0 rec.type_spec

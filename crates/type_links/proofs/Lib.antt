@@ -1,0 +1,6 @@
+pub mod Outers
+pub mod Named
+pub mod Forwarded
+pub mod Indexing
+pub mod Walks
+pub mod Pushing

@@ -1,0 +1,70 @@
+ghost use Rattle.std.specs.Prelude.{◌≡◌, IfOk, position};
+ghost use Rattle.link_rules.specs.Types.{is_called, assembly_named};
+ghost use Rattle.type_links.specs.Scopes.{assemblies_of};
+
+use il_base::NoMemory;
+use std::alloc::Global;
+use world_model::{AsmRec, is_core_name};
+
+/// Whether an assembly has this simple name.
+fn is_called(rec: &AsmRec, name: &[u8]) -> bool
+    ensures { result ≡ is_called name.now rec.now }
+{
+    match rec.assembly.get(0) {
+        None => false,
+        Some(row) => row.name.as_slice() == name,
+    }
+}
+
+/// The first assembly of this name.
+fn own_place(all: &[AsmRec], name: &[u8]) -> Option<usize>
+    ensures { result ≡ position (is_called name.now) all.now }
+{
+    all.iter().position(|rec| is_called(rec, name))
+}
+
+/// The first assembly of this name, and else the core library, which is the last, under its reference names.
+#[tactic(auto, unfolding(link_rules::specs::Types::assembly_named))]
+fn place_named(all: &[AsmRec], name: &[u8]) -> Option<usize>
+    ensures { result ≡ assembly_named all.now name.now }
+{
+    match own_place(all, name) {
+        Some(at) => Some(at),
+        None => {
+            if is_core_name(name) {
+                Some(all.len().saturating_sub(1))
+            } else {
+                None
+            }
+        }
+    }
+}
+
+/// The same as a number of 32 bits.
+fn assembly_named(all: &[AsmRec], name: &[u8]) -> Result<Option<u32>, NoMemory>
+    ensures { IfOk result (λ at. at ≡ assembly_named all.now name.now) }
+{
+    match place_named(all, name) {
+        None => Ok(None),
+        Some(at) => match u32::try_from(at) {
+            Ok(at) => Ok(Some(at)),
+            Err(_) => Err(NoMemory),
+        },
+    }
+}
+
+/// The assembly that each AssemblyRef row names, from 0; None for one that isn't there.
+pub(crate) fn assemblies_of(
+    alloc: Global,
+    all: &[AsmRec],
+    rec: &AsmRec,
+) -> Result<Vec<Option<u32>>, NoMemory>
+    ensures { IfOk result (λ v. v.items ≡ assemblies_of all.now rec.now) }
+{
+    let mut named = Vec::new(alloc);
+    for row in rec.assembly_ref.as_slice() {
+        let at = assembly_named(all, row.name.as_slice())?;
+        named.push(at)?;
+    }
+    Ok(named)
+}
