@@ -1,9 +1,7 @@
 -- The owners of rows, by the runs of types.
-use Rattle.std.proofs.Common.{◌≡◌, ℕ, suc, ◌+◌, ◌<◌, List, [], ◌∷◌, length, map, Bool, true, false, cond, Option, Some, None, get_or, refl, ap, ◌∙◌}
+use Rattle.std.proofs.Common.{◌≡◌, ℕ, suc, ◌+◌, List, [], ◌∷◌, length, map, Bool, cond, Option, Some, refl, ap, ◌∙◌}
 use Rattle.std.specs.List.{position_from}
 use Rattle.world_model.specs.declared.record.AsmRec.{AsmRec}
-use Rattle.world_model.specs.declared.types.TypeDefRow.{TypeDefRow}
-use Rattle.link_rules.specs.Members.{owns_method, owns_field}
 use Rattle.member_links.specs.declared.owners.Run.{Run}
 use Rattle.member_links.specs.Owners.{method_run, field_run, holds, AreOwners}
 use Rattle.member_links.specs.Definitions.{AreMethodOwners, AreFieldOwners}

@@ -1,8 +1,6 @@
 -- What the links of types tell in each of the assemblies.
-use Rattle.std.proofs.Common.{◌≡◌, ℕ, ◌<◌, List, length, get_or, Some, refl}
-use Rattle.std.specs.Prelude.{slice_get}
+use Rattle.std.proofs.Common.{◌≡◌, ℕ, ◌<◌, length, get_or, refl}
 use Rattle.std.proofs.lemmas.Option.{slice_get_read}
-use Rattle.world_model.specs.declared.record.AsmRec.{AsmRec}
 use Rattle.link_rules.specs.Laws.{AreTypeLinks, LinksTell}
 use Rattle.member_links.specs.declared.linked.Linked.{Linked}
 use Rattle.member_links.specs.declared.linked.Scope.{Scope}

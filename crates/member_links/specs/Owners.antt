@@ -1,5 +1,5 @@
 -- The types that hold the rows of a table in their runs (II.22.37).
-use Rattle.std.specs.Prelude.{◌≡◌, ℕ, suc, ◌<◌, List, length, map, Bool, Option, Some, None, slice_index_or}
+use Rattle.std.specs.Prelude.{◌≡◌, ℕ, suc, ◌<◌, List, length, Bool, Option, None, slice_index_or}
 use Rattle.std.specs.List.{position_from}
 use Rattle.world_model.specs.declared.types.TypeDefRow.{TypeDefRow}
 use Rattle.link_rules.specs.Members.{is_in_run}

@@ -1,6 +1,6 @@
 use Rattle.std.proofs.Common.{◌≡◌, ◌+◌, ◌-◌, drop}
 use Rattle.std.specs.List.{position_from}
-use Rattle.link_rules.specs.Members.{is_field, find_in_run}
+use Rattle.link_rules.specs.Members.{is_field}
 use Rattle.member_links.proofs.members.field_in.Given as goal
 
 abbrev pub invariant-loop-i : goal.invariant-loop-i

@@ -1,6 +1,6 @@
 use Rattle.std.proofs.Common.{◌≡◌, ◌+◌, ◌-◌, drop}
 use Rattle.std.specs.List.{position_from}
-use Rattle.link_rules.specs.Members.{is_method, find_in_run}
+use Rattle.link_rules.specs.Members.{is_method}
 use Rattle.member_links.proofs.members.method_in.Given as goal
 
 abbrev pub invariant-loop-i : goal.invariant-loop-i
