@@ -5,3 +5,6 @@
 mod assemblies;
 mod homes;
 mod kind;
+mod linking;
+
+pub use linking::link;
