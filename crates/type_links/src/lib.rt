@@ -11,6 +11,8 @@ mod index;
 mod links;
 mod names;
 mod references;
+#[cfg(test)]
+mod tests;
 
 pub use index::TypeIndex;
 pub use links::type_links;
