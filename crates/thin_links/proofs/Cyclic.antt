@@ -1,20 +1,17 @@
 -- Which types of a thin record are on a cycle.
-use Rattle.std.proofs.Common.{◌≡◌, ◌<◌, ◌+◌, ◌-◌, ◌*◌, ◌/◌, ◌%◌, ℕ, zero, suc, List, [], ◌∷◌, ◌++◌, length, take, drop, Bool, true, false, true≢false, Option, Some, None, ◌⊎◌, inl, inr, ◌&&◌, ◌||◌, nat_eq, refl, ap, sym, subst, ◌∙◌, arith, eqb-true, eq-eqb}
-use Rattle.std.specs.Prelude.{slice_get, codes, ◌==◌, if◌then◌else◌}
-use Rattle.std.specs.List.{list_any, flat_map}
-use Rattle.std.specs.Option.{option_map, option_and_then}
+use Rattle.std.proofs.Common.{◌≡◌, ◌<◌, ◌-◌, ◌/◌, ◌%◌, ℕ, zero, suc, List, [], ◌∷◌, ◌++◌, length, take, drop, Bool, true, false, true≢false, Option, Some, None, ◌⊎◌, inl, inr, ◌||◌, refl, ap, sym, subst, ◌∙◌, arith, eqb-true, eq-eqb}
+use Rattle.std.specs.Prelude.{slice_get, ◌==◌, if◌then◌else◌}
+use Rattle.std.specs.List.{flat_map}
 use Rattle.std.proofs.lemmas.Bool.{or_from}
 use Rattle.world_model.specs.declared.types.TypeDefRow.{TypeDefRow}
 use Rattle.world_model.specs.declared.members.FieldRow.{FieldRow}
 use Rattle.world_model.specs.declared.record.AsmRec.{AsmRec}
 use Rattle.world_model.specs.Tokens.{token_of, table_of, index_in, index_from, row_index}
-use Rattle.world_model.specs.Thin.{is_only_class}
 use Rattle.link_rules.specs.declared.row_at.RowAt.{RowAt}
 use Rattle.link_rules.specs.Types.{at_row}
 use Rattle.link_rules.specs.Members.{type_count, run_of}
-use Rattle.link_rules.specs.Cycles.{led_to, is_on_cycle, same_row, listed, supertypes, is_value_type, values_in_field, values_in_row, field_values}
+use Rattle.link_rules.specs.Cycles.{is_on_cycle, same_row, listed, supertypes, is_value_type, values_in_field, values_in_row, field_values}
 use Rattle.link_rules.specs.Faults.{is_cyclic_type}
-use Rattle.agreement.proofs.Members.{and_left, and_right}
 use Rattle.thin_links.specs.Linking.{extends_first}
 use Rattle.thin_links.proofs.CoreTypes.{IsCore}
 use Rattle.thin_links.proofs.Linkable.{Linkable, TwoTypes}

@@ -4,3 +4,8 @@ pub mod Tokens
 pub mod Supertypes
 pub mod Leading
 pub mod Cyclic
+pub mod Compared
+pub mod Repeats
+pub mod Faults
+pub mod Differing
+pub mod Restricted

@@ -1,5 +1,5 @@
 -- What of a thin record matters where it is linked.
-use Rattle.std.proofs.Common.{◌≡◌, ℕ, List, [], ◌∷◌, Bool, true, false, Option, Some, None, ◌&&◌, refl, ap, sym, ◌∙◌}
+use Rattle.std.proofs.Common.{◌≡◌, List, [], ◌∷◌, Bool, true, ◌&&◌, refl}
 use Rattle.std.specs.Prelude.{IsTrue, is_some, not, ◌==◌}
 use Rattle.std.specs.List.{list_all}
 use Rattle.world_model.specs.declared.types.TypeDefRow.{TypeDefRow}
@@ -8,7 +8,7 @@ use Rattle.world_model.specs.declared.record.AsmRec.{AsmRec}
 use Rattle.world_model.specs.Tokens.{index_in}
 use Rattle.world_model.specs.Core.{is_core_name, core_member}
 use Rattle.world_model.specs.Thin.{no_rows, has_no_other_rows, is_own_name, is_module_type, is_only_class, are_two_types, is_thin_type_ref, is_thin_flags, begins_with_dot, has_thin_sig, has_thin_body, is_thin_method, all_differ, is_entry_at, is_thin}
-use Rattle.agreement.proofs.Members.{and_left, and_right, both, In, in_at, list_all_in}
+use Rattle.agreement.proofs.Members.{and_left, and_right, both}
 use Rattle.thin_links.specs.Linking.{is_thin_apart}
 
 -- a method that linking compares with others

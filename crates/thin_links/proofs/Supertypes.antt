@@ -1,8 +1,8 @@
 -- What the types that matter in the world of a thin record have above them.
-use Rattle.std.proofs.Common.{◌≡◌, ◌<◌, ◌+◌, ℕ, zero, suc, List, [], ◌∷◌, ◌++◌, length, Bool, true, false, Option, Some, None, ◌⊎◌, inl, inr, ◌&&◌, refl, ap, sym, subst, ◌∙◌, arith, eqb-true}
+use Rattle.std.proofs.Common.{◌≡◌, ◌<◌, ◌+◌, ℕ, suc, List, [], ◌∷◌, ◌++◌, length, Bool, true, false, Option, Some, None, refl, ap, ◌∙◌, arith, eqb-true}
 use Rattle.std.specs.Prelude.{slice_get, codes, ◌==◌, if◌then◌else◌}
 use Rattle.std.specs.List.{flat_map}
-use Rattle.std.specs.Option.{option_map, option_and_then}
+use Rattle.std.specs.Option.{option_and_then}
 use Rattle.std.proofs.lemmas.List.{append-nil}
 use Rattle.world_model.specs.declared.expr.TypeExpr.{TypeExpr}
 use Rattle.world_model.specs.declared.types.TypeDefRow.{TypeDefRow}
@@ -15,11 +15,11 @@ use Rattle.link_rules.specs.declared.row_at.RowAt.{RowAt}
 use Rattle.link_rules.specs.Types.{at_row}
 use Rattle.link_rules.specs.Signatures.{token_type}
 use Rattle.link_rules.specs.Members.{good_type, base_in, base_at}
-use Rattle.link_rules.specs.Cycles.{listed, home_of, is_row_of, interface_of, interfaces_in, interfaces_at, supertypes}
+use Rattle.link_rules.specs.Cycles.{listed, home_of, interface_of, interfaces_in, interfaces_at, supertypes}
 use Rattle.agreement.proofs.Members.{and_left, and_right}
 use Rattle.thin_links.proofs.CoreTypes.{IsCore}
-use Rattle.thin_links.proofs.Linkable.{Linkable, TwoTypes}
-use Rattle.thin_links.proofs.Tokens.{world, led, Leads, token_leads, ObjectToken, object_token, token_is_object, token_is_own, table_is, core_token}
+use Rattle.thin_links.proofs.Linkable.{Linkable}
+use Rattle.thin_links.proofs.Tokens.{Leads, token_leads, ObjectToken, object_token, token_is_object, token_is_own, table_is, core_token}
 
 -- ---- a type of an assembly without interface rows
 

@@ -1,15 +1,11 @@
 -- What the type tokens of a thin record name, in the world of it and the core library.
-use Rattle.std.proofs.Common.{◌≡◌, ◌<◌, ◌≤◌, ◌+◌, ◌-◌, ℕ, zero, suc, List, [], ◌∷◌, length, Bool, true, false, true≢false, Option, Some, None, ◌⊎◌, inl, inr, ◌&&◌, ◌||◌, refl, ap, sym, subst, ◌∙◌, arith, rules, eq-eqb, eqb-true}
+use Rattle.std.proofs.Common.{◌≡◌, ◌<◌, ◌≤◌, ◌+◌, ◌-◌, ℕ, zero, suc, List, [], ◌∷◌, length, Bool, true, false, true≢false, Option, Some, None, ◌&&◌, ◌||◌, refl, ap, sym, subst, ◌∙◌, arith, rules, eqb-true}
 use Rattle.std.specs.Prelude.{slice_get, position, codes, nat_lt, not, ◌==◌, if◌then◌else◌}
-use Rattle.std.specs.List.{list_all}
 use Rattle.std.specs.Option.{option_map, option_and_then}
 use Rattle.std.proofs.lemmas.Bool.{lt-ltb, ltb-true}
 use Rattle.world_model.specs.declared.known.Known.{Known}
-use Rattle.world_model.specs.declared.known.Known.TheVariants.{Good, Bad}
-use Rattle.world_model.specs.declared.known.BadKind.TheVariants.{Unresolved}
 use Rattle.world_model.specs.declared.expr.TypeExpr.{TypeExpr}
 use Rattle.world_model.specs.declared.expr.TypeExpr as expr
-use Rattle.world_model.specs.declared.types.TypeDefRow.{TypeDefRow}
 use Rattle.world_model.specs.declared.types.TypeRefRow.{TypeRefRow}
 use Rattle.world_model.specs.declared.assemblies.AssemblyRow.{AssemblyRow}
 use Rattle.world_model.specs.declared.assemblies.AssemblyRefRow.{AssemblyRefRow}
@@ -17,13 +13,13 @@ use Rattle.world_model.specs.declared.record.AsmRec.{AsmRec}
 use Rattle.world_model.specs.Tokens.{table_of, row_index, index_in}
 use Rattle.world_model.specs.Core.{same_name, is_core_name, is_core_row, is_core_at, is_core_scope, is_system_type, names_type, names_type_at, is_type_token}
 use Rattle.world_model.specs.Thin.{is_own_name, is_thin_type_ref}
-use Rattle.world_model.specs.Worlds.{row_below, types_in, type_id, rows_before, core_types, prim_of, prim_type}
+use Rattle.world_model.specs.Worlds.{row_below, types_in, type_id, rows_before, core_types, prim_type}
 use Rattle.link_rules.specs.declared.row_at.RowAt.{RowAt}
-use Rattle.link_rules.specs.Types.{or_else, at_row, has_name, is_called, core_named, assembly_named, assembly_at, type_in, top_type, type_of_scope, ref_type_by, ref_type, ref_at, definition_at}
-use Rattle.link_rules.specs.Signatures.{prim_at, definition_expr, known_expr, named_type, spec_type_at, token_type}
+use Rattle.link_rules.specs.Types.{or_else, at_row, has_name, is_called, assembly_named, assembly_at, type_in, top_type, ref_type_by, ref_type, ref_at, definition_at}
+use Rattle.link_rules.specs.Signatures.{definition_expr, known_expr, named_type, spec_type_at, token_type}
 use Rattle.link_rules.specs.Members.{home_from, type_home, owner_of, good_type}
 use Rattle.link_rules.specs.Cycles.{home_of}
-use Rattle.agreement.proofs.Members.{and_left, and_right, both, In, in_at, list_all_in}
+use Rattle.agreement.proofs.Members.{and_left, and_right, in_at, list_all_in}
 use Rattle.agreement.proofs.Equal.{name_same}
 use Rattle.thin_links.proofs.CoreTypes.{IsCore}
 use Rattle.thin_links.proofs.Linkable.{Linkable}

@@ -1,8 +1,5 @@
-use Rattle.thin_links.proofs.CoreTypes.{IsCore}
-use Rattle.thin_links.proofs.Linkable.{Linkable}
-use Rattle.thin_links.proofs.Tokens.{token_leads}
-use Rattle.thin_links.proofs.Cyclic.{class_acyclic, module_acyclic, module_cyclic}
+use Rattle.thin_links.proofs.Restricted.{left_links}
 use Rattle.thin_links.proofs.laws.stays_linked.Goals as goal
 
 pub returns : goal.returns
-returns c rec flags thin linked = ?
+returns c rec flags thin linked = left_links rec flags thin linked
