@@ -1,9 +1,10 @@
 //! `trim`: leaves out what the entry point doesn't lead to.
 
-ghost use Rattle.std.specs.Prelude.{◌≡◌, None, IsTrue};
+ghost use Rattle.std.specs.Prelude.{◌≡◌, [], ◌∷◌, None, IsTrue};
 ghost use Rattle.blob_grammar.specs.Laws.{AreBytes};
 ghost use Rattle.record_format.specs.Record.{HasRecord};
 ghost use Rattle.world_model.specs.Thin.{is_thin};
+ghost use Rattle.link_rules.specs.Linked.{link_fault_of};
 ghost use Rattle.trim_core.specs.Told.{told_alone, told_of};
 ghost use Rattle.trim_core.specs.Trim.{Trims, TrimsRecord};
 ghost use Rattle.trim_core.specs.Exec.{place_in};
@@ -37,6 +38,7 @@ fn place_of(operand: BadOperand) -> Place
 fn written(alloc: Global, file: &[u8], rec: &AsmRec, marked: &Bits) -> Result<Trimmed, Refusal>
     requires record { HasRecord file.now rec.now }
     requires thin { IsTrue (is_thin rec.now) }
+    requires linked { link_fault_of (rec.now ∷ []) ≡ None }
     requires marking { IsMarking rec.now marked.now.flags }
     requires good { first_bad rec.now marked.now.flags ≡ None }
     ensures { TrimsRecord rec.now result }
@@ -62,6 +64,7 @@ fn written(alloc: Global, file: &[u8], rec: &AsmRec, marked: &Bits) -> Result<Tr
 fn trim_record(alloc: Global, file: &[u8], rec: &AsmRec) -> Result<Trimmed, Refusal>
     requires record { HasRecord file.now rec.now }
     requires thin { IsTrue (is_thin rec.now) }
+    requires linked { link_fault_of (rec.now ∷ []) ≡ None }
     ensures { TrimsRecord rec.now result }
 {
     let marked = match mark_methods(alloc, rec) {
