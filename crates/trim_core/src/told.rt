@@ -13,7 +13,7 @@ use il_base::{BadAt, NoMemory, Seq, Text};
 use link_rules::LinkError;
 use resolver::link;
 use std::alloc::Global;
-use thin_check::is_thin;
+use thin_check::is_thin_linked;
 use world_model::{AsmRec, World};
 use world_reader::{RecordError, read_record, row_place};
 
@@ -62,7 +62,7 @@ fn link_told(alloc: Global, file: &[u8], rec: AsmRec) -> Result<World, Refusal>
         Ok(world) => match world.recs.as_slice() {
             [] => unreachable!(),
             [rec, ..] => {
-                if is_thin(rec) {
+                if is_thin_linked(rec) {
                     Ok(world)
                 } else {
                     Err(Refusal::NotYet { file: 0 })
