@@ -1,0 +1,6 @@
+//! Which demand of linking several assemblies fails first: the records of all assemblies and what their type tokens name go
+//! in, and the first fault comes out, as `link_rules` defines it (`Faults`).
+#![tactic(auto)]
+
+mod graph;
+mod ranks;
