@@ -1,3 +1,5 @@
+pub mod Walks
 pub mod Each
 pub mod Leading
 pub mod Ranked
+pub mod Taken

@@ -3,4 +3,5 @@
 #![tactic(auto)]
 
 mod graph;
+mod names;
 mod ranks;
