@@ -3,3 +3,7 @@ pub mod Each
 pub mod Leading
 pub mod Ranked
 pub mod Taken
+pub mod Nexts
+pub mod Tokens
+pub mod Renamed
+pub mod Around

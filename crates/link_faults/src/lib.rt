@@ -2,6 +2,8 @@
 //! in, and the first fault comes out, as `link_rules` defines it (`Faults`).
 #![tactic(auto)]
 
+mod found;
 mod graph;
 mod names;
+mod nesting;
 mod ranks;
