@@ -4,3 +4,4 @@ pub mod Core
 pub mod Thin
 pub mod Exprs
 pub mod Worlds
+pub mod Kinds

@@ -8,9 +8,17 @@ mod core_refs;
 mod expr;
 mod extras;
 mod known;
+mod laws;
+mod links;
+mod lookup;
 mod members;
 mod opcodes;
+mod prims;
 mod record;
+mod sig_exprs;
+mod sig_names;
+mod type_exprs;
+mod type_tests;
 mod types;
 mod world;
 
@@ -28,12 +36,16 @@ pub use extras::{
     FileRow, ImplMapRow, ManifestResourceRow,
 };
 pub use known::{BadKind, Known};
+pub use laws::{same_expr_is_equality, type_specs_are_not_asked};
+pub use lookup::type_link_at;
 pub use members::{
     EventMapRow, EventRow, FieldRow, MemberRefRow, MethodDefRow, MethodImplRow, MethodSemanticsRow,
     MethodSpecRow, ParamRow, PropertyMapRow, PropertyRow, StandAloneSigRow,
 };
 pub use opcodes::instruction_len;
+pub use prims::{prim_of, prim_type, type_id};
 pub use record::{AsmRec, UserText};
+pub use sig_exprs::expr_by;
 pub use types::{
     ClassLayoutRow, ExportedTypeRow, GenericParamConstraintRow, GenericParamRow, InterfaceImplRow,
     ModuleRow, NestedClassRow, TypeDefRow, TypeRefRow, TypeSpecRow,

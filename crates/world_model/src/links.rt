@@ -1,0 +1,161 @@
+//! The links of tokens in lists of links, which have those of the assemblies in order, and of each assembly those of its
+//! rows, table by table.
+
+ghost use Rattle.std.specs.Prelude.{◌≡◌, drop, slice_get, sum_by};
+ghost use Rattle.std.specs.Option.{option_copied, option_and_then};
+ghost use Rattle.world_model.specs.Kinds.{rows_in, row_in, link_in};
+ghost use Rattle.world_model.specs.Worlds.{row_below, type_row, method_row, field_row};
+
+use crate::core_refs::index_in;
+use crate::record::AsmRec;
+use il_base::AsmId;
+
+/// What a link is of.
+#[derive(Clone, Copy, Debug, PartialEq, Eq)]
+pub(crate) enum LinkKind {
+    /// A TypeRef, TypeDef or TypeSpec row.
+    Type,
+    /// A MethodDef, MemberRef or MethodSpec row.
+    Method,
+    /// A Field or MemberRef row.
+    Field,
+}
+
+/// The items behind the first `count`.
+fn behind<T>(items: &[T], count: usize) -> &[T]
+    ensures { result.now ≡ drop count items.now }
+{
+    if count > items.len() {
+        &[]
+    } else {
+        &items[count..]
+    }
+}
+
+/// The item at a place below `count`.
+fn below<T>(items: &[T], count: usize, at: Option<u32>) -> Option<&T>
+    ensures { option_copied result ≡ option_and_then (slice_get items.now) (row_below count at) }
+{
+    match at {
+        None => None,
+        Some(at) => {
+            if (at as usize) < count {
+                items.get(at as usize)
+            } else {
+                None
+            }
+        }
+    }
+}
+
+/// The links behind those of an assembly's rows.
+fn behind_rows<'a, T>(kind: LinkKind, rec: &AsmRec, links: &'a [T]) -> &'a [T]
+    ensures { result.now ≡ drop (rows_in kind rec.now) links.now }
+{
+    match kind {
+        LinkKind::Type => {
+            let links = behind(links, rec.type_ref.len());
+            let links = behind(links, rec.type_def.len());
+            behind(links, rec.type_spec.len())
+        }
+        LinkKind::Method => {
+            let links = behind(links, rec.method_def.len());
+            let links = behind(links, rec.member_ref.len());
+            behind(links, rec.method_spec.len())
+        }
+        LinkKind::Field => {
+            let links = behind(links, rec.field.len());
+            behind(links, rec.member_ref.len())
+        }
+    }
+}
+
+/// The links behind those of the rows of these assemblies.
+fn behind_all<'a, T>(kind: LinkKind, recs: &[AsmRec], links: &'a [T]) -> &'a [T]
+    ensures { result.now ≡ drop (sum_by (rows_in kind) recs.now) links.now }
+{
+    let mut rest = links;
+    for rec in recs {
+        rest = behind_rows(kind, rec, rest);
+    }
+    rest
+}
+
+/// The link of a type token among those that begin with the assembly's own.
+#[tactic(auto, unfolding(crate::specs::Worlds::type_row))]
+fn type_among<'a, T>(rec: &AsmRec, own: &'a [T], token: u32) -> Option<&'a T>
+    ensures { option_copied result ≡ option_and_then (slice_get own.now) (type_row rec.now token) }
+{
+    match token / 0x100_0000 {
+        0x01 => below(own, rec.type_ref.len(), index_in(0x01, token)),
+        0x02 => {
+            let own = behind(own, rec.type_ref.len());
+            below(own, rec.type_def.len(), index_in(0x02, token))
+        }
+        _ => {
+            let own = behind(own, rec.type_ref.len());
+            let own = behind(own, rec.type_def.len());
+            below(own, rec.type_spec.len(), index_in(0x1b, token))
+        }
+    }
+}
+
+/// The link of a method token among those that begin with the assembly's own.
+#[tactic(auto, unfolding(crate::specs::Worlds::method_row))]
+fn method_among<'a, T>(rec: &AsmRec, own: &'a [T], token: u32) -> Option<&'a T>
+    ensures { option_copied result ≡ option_and_then (slice_get own.now) (method_row rec.now token) }
+{
+    match token / 0x100_0000 {
+        0x06 => below(own, rec.method_def.len(), index_in(0x06, token)),
+        0x0a => {
+            let own = behind(own, rec.method_def.len());
+            below(own, rec.member_ref.len(), index_in(0x0a, token))
+        }
+        _ => {
+            let own = behind(own, rec.method_def.len());
+            let own = behind(own, rec.member_ref.len());
+            below(own, rec.method_spec.len(), index_in(0x2b, token))
+        }
+    }
+}
+
+/// The link of a field token among those that begin with the assembly's own.
+#[tactic(auto, unfolding(crate::specs::Worlds::field_row))]
+fn field_among<'a, T>(rec: &AsmRec, own: &'a [T], token: u32) -> Option<&'a T>
+    ensures { option_copied result ≡ option_and_then (slice_get own.now) (field_row rec.now token) }
+{
+    if token / 0x100_0000 == 0x04 {
+        below(own, rec.field.len(), index_in(0x04, token))
+    } else {
+        let own = behind(own, rec.field.len());
+        below(own, rec.member_ref.len(), index_in(0x0a, token))
+    }
+}
+
+/// The link of a token among those that begin with the assembly's own.
+fn among<'a, T>(kind: LinkKind, rec: &AsmRec, own: &'a [T], token: u32) -> Option<&'a T>
+    ensures { option_copied result ≡ option_and_then (slice_get own.now) (row_in kind rec.now token) }
+{
+    match kind {
+        LinkKind::Type => type_among(rec, own, token),
+        LinkKind::Method => method_among(rec, own, token),
+        LinkKind::Field => field_among(rec, own, token),
+    }
+}
+
+/// The link of a token of an assembly among all links of its kind; None where there is no such row.
+pub(crate) fn link_at<'a, T>(
+    kind: LinkKind,
+    recs: &[AsmRec],
+    links: &'a [T],
+    a: AsmId,
+    token: u32,
+) -> Option<&'a T>
+    ensures { option_copied result ≡ link_in kind recs.now links.now a.0 token }
+{
+    let at = a.0 as usize;
+    match recs.get(at) {
+        None => None,
+        Some(rec) => among(kind, rec, behind_all(kind, &recs[..at], links), token),
+    }
+}

@@ -1,0 +1,69 @@
+//! The types and definitions that tokens of an assembly name in its signatures.
+
+ghost use Rattle.std.specs.Prelude.{◌≡◌, IfOk, MatchResult};
+ghost use Rattle.world_model.specs.Worlds.{type_link_at, prim_type, named_in, definition_of, definition_named, names_by};
+
+use crate::expr::TypeExpr;
+use crate::known::{BadKind, Known};
+use crate::lookup::type_link_at;
+use crate::prims::prim_type;
+use crate::record::AsmRec;
+use crate::world::TypeLink;
+use il_base::{AsmId, NoMemory, TypeId};
+
+/// The type that a TypeDef or TypeRef token names in a signature, or why it names none. A TypeSpec token names nothing.
+#[tactic(auto, unfolding(crate::specs::Worlds::named_in))]
+pub(crate) fn type_named<'a>(
+    recs: &[AsmRec],
+    links: &'a [TypeLink],
+    a: AsmId,
+    token: u32,
+) -> Result<&'a TypeExpr, BadKind>
+    ensures { MatchResult result (λ e. named_in (type_link_at recs.now links.now a.0) token ≡ Known.Good e.now) (λ why. named_in (type_link_at recs.now links.now a.0) token ≡ Known.Bad why) }
+{
+    if token / 0x100_0000 == 0x1b {
+        return Err(BadKind::Unresolved);
+    }
+    match type_link_at(recs, links, a, token) {
+        None => Err(BadKind::Unresolved),
+        Some(Known::Good(named)) => Ok(named),
+        Some(Known::Bad(why)) => Err(*why),
+    }
+}
+
+/// The definition that a type is where it stands in an instance or a modifier.
+#[tactic(auto, unfolding(crate::specs::Worlds::definition_of))]
+fn definition_of(recs: &[AsmRec], named: &TypeExpr) -> Result<Known<TypeId>, NoMemory>
+    ensures { IfOk result (λ t. t ≡ definition_of (prim_type recs.now) named.now) }
+{
+    match named {
+        TypeExpr::Prim(code) => match prim_type(recs, *code) {
+            Ok(Some(id)) => Ok(Known::Good(id)),
+            Ok(None) => Ok(Known::Bad(BadKind::Unresolved)),
+            Err(error) => Err(error),
+        },
+        TypeExpr::Def(id) => Ok(Known::Good(*id)),
+        TypeExpr::Inst(_, _) => Ok(Known::Bad(BadKind::Unresolved)),
+        TypeExpr::Array(_) => Ok(Known::Bad(BadKind::Unresolved)),
+        TypeExpr::ByRef(_) => Ok(Known::Bad(BadKind::Unresolved)),
+        TypeExpr::Var(_) => Ok(Known::Bad(BadKind::Unresolved)),
+        TypeExpr::MVar(_) => Ok(Known::Bad(BadKind::Unresolved)),
+        TypeExpr::Mod { .. } => Ok(Known::Bad(BadKind::Unresolved)),
+    }
+}
+
+/// The definition that a token names in an instance or a modifier, or why it names none.
+#[tactic(auto, unfolding(crate::specs::Worlds::definition_named))]
+pub(crate) fn definition_named(
+    recs: &[AsmRec],
+    links: &[TypeLink],
+    a: AsmId,
+    token: u32,
+) -> Result<Known<TypeId>, NoMemory>
+    ensures { IfOk result (λ t. t ≡ definition_named (names_by recs.now links.now a.0) token) }
+{
+    match type_named(recs, links, a, token) {
+        Ok(named) => definition_of(recs, named),
+        Err(why) => Ok(Known::Bad(why)),
+    }
+}
