@@ -1,0 +1,4 @@
+pub mod Lists
+pub mod SignatureNames
+pub mod Places
+pub mod Tell

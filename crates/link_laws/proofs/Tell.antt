@@ -1,0 +1,226 @@
+-- What a token names by the links of all types is what it names.
+use Rattle.std.proofs.Common.{◌≡◌, ◌<◌, ◌≤◌, ℕ, zero, suc, ◌+◌, Bool, true, false, nat_lt, List, ◌++◌, length, map, Option, Some, None, refl, sym, ap, ◌∙◌, arith, rules, append_assoc}
+use Rattle.std.specs.Prelude.{slice_get, ◌==◌, if◌then◌else◌}
+use Rattle.std.specs.List.{range_with_len}
+use Rattle.std.specs.Option.{option_map, option_and_then}
+use Rattle.std.proofs.lemmas.List.{length-append}
+use Rattle.std.proofs.lemmas.Option.{slice_get_past}
+use Rattle.world_model.specs.declared.known.Known.{Known}
+use Rattle.world_model.specs.declared.known.Known.TheVariants.{Good, Bad}
+use Rattle.world_model.specs.declared.known.BadKind.TheVariants.{Unresolved}
+use Rattle.world_model.specs.declared.expr.TypeExpr.{TypeExpr}
+use Rattle.world_model.specs.declared.types.TypeSpecRow.{TypeSpecRow}
+use Rattle.world_model.specs.declared.record.AsmRec.{AsmRec}
+use Rattle.world_model.specs.declared.world.TypeLink.{TypeLink}
+use Rattle.world_model.specs.Tokens.{table_of, row_index, index_in}
+use Rattle.world_model.specs.Worlds.{known_or, row_below, behind, rows_before, type_rows, type_row, link_place, type_link_at, named_in, names_by}
+use Rattle.link_rules.specs.Types.{at_row, ref_type, ref_at, definition_at}
+use Rattle.link_rules.specs.Signatures.{definition_expr, known_expr, named_type, names_at, spec_type, spec_type_at, token_type}
+use Rattle.link_rules.specs.Faults.{numbered}
+use Rattle.link_rules.specs.Linked.{type_link, types_of}
+use Rattle.link_rules.specs.Laws.{AreTypeLinks, TellTokens, LinksTell}
+use Rattle.link_laws.proofs.Lists.{get_front, get_behind, get_range, length_range, get_numbered, length_numbered}
+use Rattle.link_laws.proofs.SignatureNames.{SameNames, same_signature, same_method}
+use Rattle.link_laws.proofs.Places.{link_in}
+
+-- ---- the links of one assembly: those of its references, of its definitions, of its specifications
+
+abbrev refs_of : List AsmRec → ℕ → AsmRec → List TypeLink
+refs_of all a rec = map (λ k. type_link a 0x01 k (known_expr all (ref_at all a rec k))) (range_with_len 0 (length rec.type_ref))
+
+abbrev defs_of : List AsmRec → ℕ → AsmRec → List TypeLink
+defs_of all a rec = map (λ k. type_link a 0x02 k (Good (definition_expr all (at_row a k)))) (range_with_len 0 (length rec.type_def))
+
+abbrev specs_of : List AsmRec → ℕ → AsmRec → List TypeLink
+specs_of all a rec = numbered (λ k (row : TypeSpecRow). type_link a 0x1b k (spec_type all a rec row)) 0 rec.type_spec
+
+three_parts : (all : List AsmRec) (a : ℕ) (rec : AsmRec) → types_of all a rec ≡ refs_of all a rec ++ (defs_of all a rec ++ specs_of all a rec)
+unfolding types_of
+three_parts all a rec = append_assoc (refs_of all a rec) (defs_of all a rec) (specs_of all a rec)
+
+long_refs : (all : List AsmRec) (a : ℕ) (rec : AsmRec) → length (refs_of all a rec) ≡ length rec.type_ref
+long_refs all a rec = length_range (λ k. type_link a 0x01 k (known_expr all (ref_at all a rec k))) (length rec.type_ref) 0
+
+long_defs : (all : List AsmRec) (a : ℕ) (rec : AsmRec) → length (defs_of all a rec) ≡ length rec.type_def
+long_defs all a rec = length_range (λ k. type_link a 0x02 k (Good (definition_expr all (at_row a k)))) (length rec.type_def) 0
+
+long_specs : (all : List AsmRec) (a : ℕ) (rec : AsmRec) → length (specs_of all a rec) ≡ length rec.type_spec
+long_specs all a rec = length_numbered (λ k (row : TypeSpecRow). type_link a 0x1b k (spec_type all a rec row)) rec.type_spec 0
+
+pub long_types : (all : List AsmRec) (a : ℕ) (rec : AsmRec) → length (types_of all a rec) ≡ type_rows rec
+long_types all a rec =
+    ap length (three_parts all a rec) ∙ length-append (refs_of all a rec) (defs_of all a rec ++ specs_of all a rec)
+    ∙ ap (λ (n : ℕ). length (refs_of all a rec) + n) (length-append (defs_of all a rec) (specs_of all a rec))
+    ∙ rw (long_refs all a rec, long_defs all a rec, long_specs all a rec) refl
+
+ref_link : (all : List AsmRec) (a : ℕ) (rec : AsmRec) (k : ℕ) → k < length rec.type_ref
+    → slice_get (types_of all a rec) k ≡ Some (type_link a 0x01 k (known_expr all (ref_at all a rec k)))
+ref_link all a rec k below =
+    let within : k < length (refs_of all a rec) = rw (long_refs all a rec) below in
+    ap (λ (xs : List TypeLink). slice_get xs k) (three_parts all a rec) ∙ get_front (refs_of all a rec) (defs_of all a rec ++ specs_of all a rec) k within
+    ∙ get_range (λ k. type_link a 0x01 k (known_expr all (ref_at all a rec k))) (length rec.type_ref) 0 k k (omega arith) below
+
+def_link : (all : List AsmRec) (a : ℕ) (rec : AsmRec) (k : ℕ) → k < length rec.type_def
+    → slice_get (types_of all a rec) (length rec.type_ref + k) ≡ Some (type_link a 0x02 k (Good (definition_expr all (at_row a k))))
+def_link all a rec k below =
+    let within : k < length (defs_of all a rec) = rw (long_defs all a rec) below in
+    let from : length rec.type_ref + k ≡ length (refs_of all a rec) + k = rw (long_refs all a rec) refl in
+    ap (λ (xs : List TypeLink). slice_get xs (length rec.type_ref + k)) (three_parts all a rec)
+    ∙ ap (slice_get (refs_of all a rec ++ (defs_of all a rec ++ specs_of all a rec))) from
+    ∙ get_behind (refs_of all a rec) (defs_of all a rec ++ specs_of all a rec) k
+    ∙ get_front (defs_of all a rec) (specs_of all a rec) k within
+    ∙ get_range (λ k. type_link a 0x02 k (Good (definition_expr all (at_row a k)))) (length rec.type_def) 0 k k (omega arith) below
+
+spec_link : (all : List AsmRec) (a : ℕ) (rec : AsmRec) (k : ℕ)
+    → slice_get (types_of all a rec) (length rec.type_ref + length rec.type_def + k)
+    ≡ option_map (λ (row : TypeSpecRow). type_link a 0x1b k (spec_type all a rec row)) (slice_get rec.type_spec k)
+spec_link all a rec k =
+    let from : length rec.type_ref + length rec.type_def + k ≡ length (refs_of all a rec) + (length (defs_of all a rec) + k) =
+    rw (long_refs all a rec, long_defs all a rec) (omega arith) in
+    ap (λ (xs : List TypeLink). slice_get xs (length rec.type_ref + length rec.type_def + k)) (three_parts all a rec)
+    ∙ ap (slice_get (refs_of all a rec ++ (defs_of all a rec ++ specs_of all a rec))) from
+    ∙ get_behind (refs_of all a rec) (defs_of all a rec ++ specs_of all a rec) (length (defs_of all a rec) + k)
+    ∙ get_behind (defs_of all a rec) (specs_of all a rec) k
+    ∙ get_numbered (λ k (row : TypeSpecRow). type_link a 0x1b k (spec_type all a rec row)) rec.type_spec 0 k k (omega arith)
+
+-- ---- a link at a place of an assembly's, among all
+
+abbrev to_of : TypeLink → Known TypeExpr
+to_of l = l.to
+
+-- what the link at a place of an assembly's tells; None for a place that isn't there
+told : List TypeLink → ℕ → Option ℕ → Known TypeExpr
+told links before at = known_or (option_map to_of (option_and_then (slice_get links) (behind before at)))
+
+record Stands (all : List AsmRec) (links : List TypeLink) (before a : ℕ) (rec : AsmRec) : Type 0 where
+  at : (k : ℕ) → k < type_rows rec → slice_get links (before + k) ≡ slice_get (types_of all a rec) k
+
+none_at : (all : List AsmRec) (a : ℕ) (rec : AsmRec) (n k : ℕ) → slice_get rec.type_ref k ≡ None → ref_type all a rec n k ≡ None
+unfolding ref_type
+none_at all a rec zero k e = refl
+none_at all a rec (suc n) k e = rw e refl
+
+no_ref : (all : List AsmRec) (a : ℕ) (rec : AsmRec) (k : ℕ) → length rec.type_ref ≤ k → ref_at all a rec k ≡ None
+no_ref all a rec k ge = none_at all a rec (length rec.type_ref) k (slice_get_past rec.type_ref k ge)
+
+told_ref : (all : List AsmRec) (links : List TypeLink) (before a : ℕ) (rec : AsmRec) → Stands all links before a rec → (k : ℕ) (below : Bool) → nat_lt k (length rec.type_ref) ≡ below
+    → told links before (if below then Some k else None) ≡ known_expr all (ref_at all a rec k)
+unfolding told
+told_ref all links before a rec stands k true is =
+    let lt : k < length rec.type_ref = search rules in
+    let e : slice_get links (before + k) ≡ Some (type_link a 0x01 k (known_expr all (ref_at all a rec k))) = stands.at k (omega arith) ∙ ref_link all a rec k lt in
+    rw e refl
+told_ref all links before a rec stands k false is = let ge : length rec.type_ref ≤ k = search rules in ap (known_expr all) (sym (no_ref all a rec k ge))
+
+told_def : (all : List AsmRec) (links : List TypeLink) (before a : ℕ) (rec : AsmRec) → Stands all links before a rec → (k : ℕ) (below : Bool) → nat_lt k (length rec.type_def) ≡ below
+    → told links before (behind (length rec.type_ref) (if below then Some k else None)) ≡ known_expr all (option_map (at_row a) (if below then Some k else None))
+unfolding told
+told_def all links before a rec stands k true is =
+    let lt : k < length rec.type_def = search rules in
+    let e : slice_get links (before + (length rec.type_ref + k)) ≡ Some (type_link a 0x02 k (Good (definition_expr all (at_row a k)))) =
+    stands.at (length rec.type_ref + k) (omega arith) ∙ def_link all a rec k lt in
+    rw e refl
+told_def all links before a rec stands k false is = refl
+
+told_spec : (all : List AsmRec) (links : List TypeLink) (before a : ℕ) (rec : AsmRec) → Stands all links before a rec → (k : ℕ) (below : Bool) → nat_lt k (length rec.type_spec) ≡ below
+    → told links before (behind (length rec.type_ref + length rec.type_def) (if below then Some k else None)) ≡ spec_type_at all a rec (slice_get rec.type_spec k)
+unfolding told
+told_spec all links before a rec stands k true is =
+    let lt : k < length rec.type_spec = search rules in
+    let e : slice_get links (before + (length rec.type_ref + length rec.type_def + k)) ≡ option_map (λ (row : TypeSpecRow). type_link a 0x1b k (spec_type all a rec row)) (slice_get rec.type_spec k) =
+    stands.at (length rec.type_ref + length rec.type_def + k) (omega arith) ∙ spec_link all a rec k in
+    rw e (by_row (slice_get rec.type_spec k))
+  where
+    by_row : (o : Option TypeSpecRow) → known_or (option_map to_of (option_map (λ (row : TypeSpecRow). type_link a 0x1b k (spec_type all a rec row)) o)) ≡ spec_type_at all a rec o
+    by_row None = refl
+    by_row (Some row) = refl
+told_spec all links before a rec stands k false is =
+    let ge : length rec.type_spec ≤ k = search rules in
+    let e : slice_get rec.type_spec k ≡ None = slice_get_past rec.type_spec k ge in
+    rw e refl
+
+-- ---- by the token's table
+
+told_refs : (all : List AsmRec) (links : List TypeLink) (before a : ℕ) (rec : AsmRec) → Stands all links before a rec → (i : Option ℕ)
+    → told links before (row_below (length rec.type_ref) i) ≡ known_expr all (option_and_then (ref_at all a rec) i)
+unfolding told
+told_refs all links before a rec stands None = refl
+told_refs all links before a rec stands (Some k) = told_ref all links before a rec stands k (nat_lt k (length rec.type_ref)) refl
+
+told_defs : (all : List AsmRec) (links : List TypeLink) (before a : ℕ) (rec : AsmRec) → Stands all links before a rec → (i : Option ℕ)
+    → told links before (behind (length rec.type_ref) (row_below (length rec.type_def) i)) ≡ known_expr all (option_map (at_row a) (row_below (length rec.type_def) i))
+unfolding told
+told_defs all links before a rec stands None = refl
+told_defs all links before a rec stands (Some k) = told_def all links before a rec stands k (nat_lt k (length rec.type_def)) refl
+
+told_specs : (all : List AsmRec) (links : List TypeLink) (before a : ℕ) (rec : AsmRec) → Stands all links before a rec → (i : Option ℕ)
+    → told links before (behind (length rec.type_ref + length rec.type_def) (row_below (length rec.type_spec) i)) ≡ spec_type_at all a rec (option_and_then (slice_get rec.type_spec) i)
+unfolding told
+told_specs all links before a rec stands None = refl
+told_specs all links before a rec stands (Some k) = told_spec all links before a rec stands k (nat_lt k (length rec.type_spec)) refl
+
+by_table : (all : List AsmRec) (links : List TypeLink) (before a : ℕ) (rec : AsmRec) → Stands all links before a rec → (r : Option ℕ) (one two spec : Bool)
+    → (one ≡ true → two ≡ false) → (one ≡ true → spec ≡ false) → (two ≡ true → spec ≡ false)
+    → told links before
+    (if one then row_below (length rec.type_ref) (if one then r else None)
+    else if two then behind (length rec.type_ref) (row_below (length rec.type_def) (if two then r else None))
+    else behind (length rec.type_ref + length rec.type_def) (row_below (length rec.type_spec) (if spec then r else None)))
+    ≡ (if spec then spec_type_at all a rec (option_and_then (slice_get rec.type_spec) (if spec then r else None))
+    else known_expr all
+    (if two then option_map (at_row a) (row_below (length rec.type_def) (if two then r else None))
+    else option_and_then (ref_at all a rec) (if one then r else None)))
+unfolding told
+by_table all links before a rec stands r true true spec d e f = let g : true ≡ false = d refl in cc
+by_table all links before a rec stands r true false true d e f = let g : true ≡ false = e refl in cc
+by_table all links before a rec stands r true false false d e f = told_refs all links before a rec stands r
+by_table all links before a rec stands r false true true d e f = let g : true ≡ false = f refl in cc
+by_table all links before a rec stands r false true false d e f = told_defs all links before a rec stands r
+by_table all links before a rec stands r false false true d e f = told_specs all links before a rec stands r
+by_table all links before a rec stands r false false false d e f = refl
+
+differ : (t m n : ℕ) (ne : m ≡ n → ⊥) → (t == m) ≡ true → (t == n) ≡ false
+differ t m n ne e = grind arith
+
+told_row : (all : List AsmRec) (links : List TypeLink) (before a : ℕ) (rec : AsmRec) → Stands all links before a rec → (token : ℕ)
+    → told links before (type_row rec token) ≡ token_type all a rec token
+unfolding type_row token_type named_type definition_at
+told_row all links before a rec stands token =
+    by_table all links before a rec stands (row_index token) (table_of token == 0x01) (table_of token == 0x02) (table_of token == 0x1b)
+    (differ (table_of token) 0x01 0x02 (omega arith)) (differ (table_of token) 0x01 0x1b (omega arith)) (differ (table_of token) 0x02 0x1b (omega arith))
+
+-- ---- among all
+
+tell_at : (all : List AsmRec) (links : List TypeLink) → AreTypeLinks all links → TellTokens all links
+unfolding type_link_at link_place told
+tell_at all links are a rec is token = rw is (told_row all links (rows_before type_rows all a) a rec stands token)
+  where
+    stands : Stands all links (rows_before type_rows all a) a rec
+    stands = record {
+      at = λ k below. ap (λ (xs : List TypeLink). slice_get xs (rows_before type_rows all a + k)) are ∙ link_in (types_of all) type_rows (long_types all) all 0 a a rec is (omega arith) k below;
+    }
+
+-- a token of TypeSpec names nothing in a signature
+same_if : (spec : Bool) (x y : Known TypeExpr) (z : Known TypeExpr) → x ≡ (if spec then z else y) → (if spec then Bad Unresolved else x) ≡ (if spec then Bad Unresolved else y)
+same_if true x y z e = refl
+same_if false x y z e = e
+
+same_type : (all : List AsmRec) (links : List TypeLink) → AreTypeLinks all links → (a : ℕ) (rec : AsmRec) → slice_get all a ≡ Some rec
+    → (token : ℕ) → named_in (type_link_at all links a) token ≡ named_in (λ t. Some (named_type all a rec t)) token
+unfolding named_in token_type
+same_type all links are a rec is token =
+    same_if (table_of token == 0x1b) (known_or (type_link_at all links a token)) (named_type all a rec token)
+    (spec_type_at all a rec (option_and_then (slice_get rec.type_spec) (index_in 0x1b token))) (by_tell (tell_at all links are a rec is token))
+  where
+    by_tell : known_or (type_link_at all links a token) ≡ token_type all a rec token
+        → known_or (type_link_at all links a token) ≡ (if table_of token == 0x1b then spec_type_at all a rec (option_and_then (slice_get rec.type_spec) (index_in 0x1b token)) else named_type all a rec token)
+    by_tell e = e
+
+same_names : (all : List AsmRec) (links : List TypeLink) → AreTypeLinks all links → (a : ℕ) (rec : AsmRec) → slice_get all a ≡ Some rec → SameNames (names_by all links a) (names_at all a rec)
+same_names all links are a rec is = record { types = same_type all links are a rec is; core = refl }
+
+pub all_tell : LinksTell
+all_tell all links are = (
+  tell_at all links are,
+  λ a rec is s. same_signature (names_by all links a) (names_at all a rec) (same_names all links are a rec is) s,
+  λ a rec is s. same_method (names_by all links a) (names_at all a rec) (same_names all links are a rec is) s,
+)

@@ -1,0 +1,5 @@
+pub mod Subtypes
+pub mod Slots
+pub mod Dispatch
+pub mod Texts
+pub mod Searches

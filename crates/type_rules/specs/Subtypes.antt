@@ -1,0 +1,79 @@
+-- Which types a type can stand for (I.8.7), without variance: itself, its base, its interfaces, and all that these can stand
+-- for; an array also for an array whose element its own is a reference to.
+use Rattle.std.specs.Prelude.{◌≡◌, ℕ, zero, suc, List, [], ◌∷◌, ◌++◌, map, Option, Some, None, ◌==◌, ◌&&◌, ◌||◌, Bool, true, false, not, IsTrue}
+use Rattle.std.specs.List.{list_any, flat_map}
+use Rattle.std.specs.Option.{option_map}
+use Rattle.world_model.specs.declared.expr.TypeExpr.{TypeExpr, out-TypeExpr}
+use Rattle.world_model.specs.declared.expr.TypeExpr.TheOpen.{TypeExpr-F}
+use Rattle.world_model.specs.declared.expr.TypeExpr as expr
+use Rattle.world_model.specs.declared.record.AsmRec.{AsmRec}
+use Rattle.world_model.specs.Exprs.{subst, levels, same_expr}
+use Rattle.link_rules.specs.declared.row_at.RowAt.{RowAt}
+use Rattle.link_rules.specs.Members.{array_type, args_of, base_of, type_count}
+use Rattle.link_rules.specs.Cycles.{listed, home_of, interfaces_at, is_value_type}
+
+-- ---- one step up
+
+-- the interfaces that the rows of a type name, with the type's arguments put in; a bad row gives nothing
+unfoldable pub interfaces_of : List AsmRec → TypeExpr → List TypeExpr
+interfaces_of recs e = map (subst (args_of e) []) (flat_map (interfaces_at recs) (listed (home_of recs e)))
+
+-- of an array it is System.Array (I.8.9.1)
+abbrev pub up_in : List AsmRec → TypeExpr → TypeExpr-F TypeExpr → List TypeExpr
+up_in recs e (TypeExpr-F.Array x) = listed (option_map (λ t. expr.Def t) (array_type recs))
+up_in recs e _ = listed (base_of recs e) ++ interfaces_of recs e
+
+unfoldable pub up : List AsmRec → TypeExpr → List TypeExpr
+up recs e = up_in recs e (out-TypeExpr e)
+
+-- ---- the relation
+
+-- a class, an interface or an array, but no value type (I.8.2.1)
+abbrev pub is_class_at : List AsmRec → Option RowAt → Bool
+is_class_at recs None = false
+is_class_at recs (Some at) = not (is_value_type recs at)
+
+-- STRING and OBJECT are the primitives that are classes (II.23.1.16)
+abbrev pub is_reference_in : List AsmRec → TypeExpr → TypeExpr-F TypeExpr → Bool
+is_reference_in recs e (TypeExpr-F.Prim n) = n == 0x0e || n == 0x1c
+is_reference_in recs e (TypeExpr-F.Def t) = is_class_at recs (home_of recs e)
+is_reference_in recs e (TypeExpr-F.Inst t args) = is_class_at recs (home_of recs e)
+is_reference_in recs e (TypeExpr-F.Array x) = true
+is_reference_in recs e _ = false
+
+unfoldable pub is_reference : List AsmRec → TypeExpr → Bool
+is_reference recs e = is_reference_in recs e (out-TypeExpr e)
+
+-- the least relation that is so
+pub data IsSubtype (recs : List AsmRec) : TypeExpr → TypeExpr → Type 0 where
+  same : (e : TypeExpr) → IsSubtype recs e e
+  step : (a b c : TypeExpr) → IsTrue (list_any (same_expr b) (up recs a)) → IsSubtype recs b c → IsSubtype recs a c
+  array : (a b c : TypeExpr) → IsTrue (is_reference recs a) → IsSubtype recs a b → IsSubtype recs (expr.Array b) c → IsSubtype recs (expr.Array a) c
+
+-- ---- the same as a search
+
+-- in at most n steps up
+unfoldable pub leads_up : List AsmRec → ℕ → TypeExpr → TypeExpr → Bool
+leads_up recs zero a b = same_expr a b
+leads_up recs (suc n) a b = same_expr a b || list_any (λ x. leads_up recs n x b) (up recs a)
+
+abbrev pub element_in : TypeExpr-F TypeExpr → Option TypeExpr
+element_in (TypeExpr-F.Array x) = Some x
+element_in _ = None
+
+unfoldable pub element_of : TypeExpr → Option TypeExpr
+element_of e = element_in (out-TypeExpr e)
+
+abbrev pub are_elements : List AsmRec → (TypeExpr → TypeExpr → Bool) → Option TypeExpr → Option TypeExpr → Bool
+are_elements recs below None y = false
+are_elements recs below (Some x) None = false
+are_elements recs below (Some x) (Some y) = is_reference recs x && below x y
+
+-- Steps up pass each type of a linked world once, and System.Array before; arrays are at most n levels deep.
+unfoldable pub is_below : List AsmRec → ℕ → TypeExpr → TypeExpr → Bool
+is_below recs zero a b = leads_up recs (suc (type_count recs)) a b
+is_below recs (suc n) a b =
+    leads_up recs (suc (type_count recs)) a b || are_elements recs (is_below recs n) (element_of a) (element_of b)
+
+abbrev pub is_subtype : List AsmRec → TypeExpr → TypeExpr → Bool
+is_subtype recs a b = is_below recs (levels a) a b
