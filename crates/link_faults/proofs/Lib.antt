@@ -7,3 +7,6 @@ pub mod Nexts
 pub mod Tokens
 pub mod Renamed
 pub mod Around
+pub mod Ids
+pub mod Defined
+pub mod Interfaces

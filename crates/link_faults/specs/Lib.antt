@@ -1,3 +1,5 @@
 pub mod Graphs
 pub mod Names
 pub mod Nesting
+pub mod Targets
+pub mod Supertypes

@@ -2,7 +2,7 @@
 
 ghost use Rattle.std.specs.Prelude.{◌≡◌, nat_eq, IfOk, OnOk};
 ghost use Rattle.std.specs.List.{flat_map, list_any};
-ghost use Rattle.link_rules.specs.Cycles.{add_new, add_all, led_to, is_on_cycle};
+ghost use Rattle.link_rules.specs.Cycles.{listed, add_new, add_all, led_to, is_on_cycle};
 ghost use Rattle.link_faults.specs.Graphs.{next_in};
 
 use il_base::{NoMemory, Seq};
@@ -16,6 +16,17 @@ pub(crate) fn next_in(graph: &[Seq<u32>], node: u32) -> &[u32]
         Some(led) => led.as_slice(),
         None => &[],
     }
+}
+
+/// The list of this node, or of none.
+pub(crate) fn list_of(alloc: Global, node: Option<u32>) -> Result<Seq<u32>, NoMemory>
+    ensures { IfOk result (λ nodes. nodes ≡ listed node) }
+{
+    let mut nodes = Seq::new(alloc);
+    if let Some(node) = node {
+        nodes.push(node)?;
+    }
+    Ok(nodes)
 }
 
 /// Whether a node is among some.

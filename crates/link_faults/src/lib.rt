@@ -7,3 +7,6 @@ mod graph;
 mod names;
 mod nesting;
 mod ranks;
+mod scope;
+mod supertypes;
+mod targets;

@@ -8,7 +8,7 @@ ghost use Rattle.link_faults.specs.Graphs.{next_in};
 ghost use Rattle.link_faults.specs.Nesting.{IsAround};
 
 use crate::found::row_fault;
-use crate::graph::is_on_cycle;
+use crate::graph::{is_on_cycle, list_of};
 use crate::ranks::is_acyclic;
 use il_base::{NoMemory, Seq};
 use link_rules::LinkError;
@@ -37,10 +37,7 @@ fn lead(
 ) -> Result<(), NoMemory>
     ensures { OnOk result ((other : ℕ) → next_in graph.new.items other ≡ (if node == other then listed to else next_in graph.old.items other)) }
 {
-    let mut led = Seq::new(alloc);
-    if let Some(to) = to {
-        led.push(to)?;
-    }
+    let led = list_of(alloc, to)?;
     grow(alloc, graph, node as usize + 1)?;
     graph[node as usize] = led;
     Ok(())
