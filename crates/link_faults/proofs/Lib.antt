@@ -10,3 +10,5 @@ pub mod Around
 pub mod Ids
 pub mod Defined
 pub mod Interfaces
+pub mod Typed
+pub mod SupersTold
