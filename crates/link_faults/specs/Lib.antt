@@ -3,3 +3,4 @@ pub mod Names
 pub mod Nesting
 pub mod Targets
 pub mod Supertypes
+pub mod Values

@@ -10,3 +10,4 @@ mod ranks;
 mod scope;
 mod supertypes;
 mod targets;
+mod value_types;
