@@ -12,3 +12,5 @@ pub mod Defined
 pub mod Interfaces
 pub mod Typed
 pub mod SupersTold
+pub mod HeldLayers
+pub mod Unsubstituted

@@ -4,10 +4,12 @@
 
 mod found;
 mod graph;
+mod held;
 mod names;
 mod nesting;
 mod ranks;
 mod scope;
+mod signatures;
 mod supertypes;
 mod targets;
 mod value_types;
