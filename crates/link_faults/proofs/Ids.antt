@@ -68,11 +68,20 @@ home_is (rec ∷ recs) i n at e = stands_by rec recs i n at (nat_lt n (length re
 
 -- ---- how many there are
 
-pub below_count : (recs : List AsmRec) (a k : ℕ) (rec : AsmRec) → slice_get recs a ≡ Some rec → k < length rec.type_def → rows_before types_in recs a + k < rows_before types_in recs (length recs)
+pub below_next : (recs : List AsmRec) (a b k : ℕ) (rec : AsmRec) → slice_get recs a ≡ Some rec → k < length rec.type_def → a < b → rows_before types_in recs a + k < rows_before types_in recs b
 unfolding rows_before
-below_count [] a k rec e lt = cc
-below_count (r ∷ recs) zero k rec e lt = let same : r ≡ rec = cc in let l : k < length r.type_def = rw same lt in omega arith
-below_count (r ∷ recs) (suc a) k rec e lt = let l = below_count recs a k rec e lt in omega arith
+below_next [] a b k rec e lt le = cc
+below_next (r ∷ recs) a zero k rec e lt le = absurd (omega arith)
+below_next (r ∷ recs) zero (suc b) k rec e lt le = let same : r ≡ rec = cc in let l : k < length r.type_def = rw same lt in omega arith
+below_next (r ∷ recs) (suc a) (suc b) k rec e lt le = let l = below_next recs a b k rec e lt (omega arith) in omega arith
+
+pub is_within : (recs : List AsmRec) (a : ℕ) (rec : AsmRec) → slice_get recs a ≡ Some rec → a < length recs
+is_within [] a rec e = cc
+is_within (r ∷ recs) zero rec e = omega arith
+is_within (r ∷ recs) (suc a) rec e = let l = is_within recs a rec e in omega arith
+
+pub below_count : (recs : List AsmRec) (a k : ℕ) (rec : AsmRec) → slice_get recs a ≡ Some rec → k < length rec.type_def → rows_before types_in recs a + k < rows_before types_in recs (length recs)
+below_count recs a k rec e lt = below_next recs a (length recs) k rec e lt (is_within recs a rec e)
 
 past_by : (rec : AsmRec) (recs : List AsmRec) (i n : ℕ) → length rec.type_def ≤ n → home_from types_in (suc i) recs (n - length rec.type_def) ≡ None
     → (if nat_lt n (length rec.type_def) then Some (at_row i n) else home_from types_in (suc i) recs (n - length rec.type_def)) ≡ None

@@ -14,3 +14,4 @@ pub mod Typed
 pub mod SupersTold
 pub mod HeldLayers
 pub mod Unsubstituted
+pub mod ValuesTold

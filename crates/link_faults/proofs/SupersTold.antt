@@ -35,6 +35,10 @@ module _ (all : List AsmRec) where
   ids_listed None = refl
   ids_listed (Some at) = refl
 
+  pub id_of_base : (o : Option TypeExpr) → option_map (id_of all) (option_and_then (home_of all) o) ≡ option_and_then (target_of all) o
+  id_of_base None = refl
+  id_of_base (Some e) = id_of_definition all e
+
   -- the definition of a type that may be there
   ids_of : (o : Option TypeExpr) → ids (flat_map homes (listed o)) ≡ listed (option_and_then (target_of all) o)
   ids_of None = refl
@@ -47,7 +51,7 @@ module _ (all : List AsmRec) where
     token_told : (token : ℕ) → option_and_then (target_of all) (good_type (token_type all a rec token)) ≡ target_at all links a token
     token_told token = ap (λ k. option_and_then (target_of all) (good_type k)) (sym (told a rec there token))
 
-    base_by : (row : TypeDefRow) (b : Bool) → option_and_then (target_of all) (if b then None else good_type (token_type all a rec row.extends)) ≡ (if b then None else target_at all links a row.extends)
+    pub base_by : (row : TypeDefRow) (b : Bool) → option_and_then (target_of all) (if b then None else good_type (token_type all a rec row.extends)) ≡ (if b then None else target_at all links a row.extends)
     base_by row true = refl
     base_by row false = token_told row.extends
 
@@ -67,7 +71,7 @@ module _ (all : List AsmRec) where
 
   -- of a type
   module _ (links : List TypeLink) (told : TellTokens all links) (at : RowAt) (t : TypeAt all at) where
-    base_is : base_at all at ≡ base_in all at.asm t.rec t.row
+    pub base_is : base_at all at ≡ base_in all at.asm t.rec t.row
     base_is =
         ap (option_and_then (λ (rec : AsmRec). option_and_then (base_in all at.asm rec) (slice_get rec.type_def at.row))) t.there
         ∙ ap (option_and_then (base_in all at.asm t.rec)) t.is
