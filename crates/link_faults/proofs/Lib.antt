@@ -15,3 +15,4 @@ pub mod SupersTold
 pub mod HeldLayers
 pub mod Unsubstituted
 pub mod ValuesTold
+pub mod HeldTold

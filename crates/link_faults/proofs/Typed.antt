@@ -1,5 +1,5 @@
 -- What is so of each type, found by its id.
-use Rattle.std.proofs.Common.{◌≡◌, ℕ, zero, suc, ◌+◌, ◌<◌, List, [], ◌∷◌, length, Option, Some, None, refl, sym, ap, subst, ◌∙◌, arith}
+use Rattle.std.proofs.Common.{◌≡◌, ℕ, zero, suc, ◌+◌, ◌<◌, List, [], ◌∷◌, ◌++◌, length, length-append, Option, Some, None, refl, sym, ap, subst, ◌∙◌, arith}
 use Rattle.std.specs.Prelude.{slice_get}
 use Rattle.std.specs.Option.{option_map}
 use Rattle.world_model.specs.declared.types.TypeDefRow.{TypeDefRow}
@@ -46,3 +46,12 @@ of_type f all at t =
     (item_within t.rec.type_def at.row t.row t.is)
     ∙ get_numbered (f at.asm t.rec) t.rec.type_def 0 at.row at.row (omega arith)
     ∙ ap (option_map (f at.asm t.rec at.row)) t.is
+
+-- there is an item for each type and no other
+pub as_many : {A : Type 0} (f : ℕ → AsmRec → ℕ → TypeDefRow → A) (i : ℕ) (all : List AsmRec)
+    → length (links_from (λ a (rec : AsmRec). numbered (f a rec) 0 rec.type_def) i all) ≡ rows_before types_in all (length all)
+unfolding rows_before
+as_many f i [] = refl
+as_many f i (rec ∷ all) =
+    length-append (numbered (f i rec) 0 rec.type_def) (links_from (λ a (r : AsmRec). numbered (f a r) 0 r.type_def) (suc i) all)
+    ∙ (λ j. length_numbered (f i rec) rec.type_def 0 j + as_many f (suc i) all j)
