@@ -16,3 +16,4 @@ pub mod HeldLayers
 pub mod Unsubstituted
 pub mod ValuesTold
 pub mod HeldTold
+pub mod OnCycles

@@ -4,3 +4,4 @@ pub mod Nesting
 pub mod Targets
 pub mod Supertypes
 pub mod Values
+pub mod TypeCycles
