@@ -17,3 +17,4 @@ pub mod Unsubstituted
 pub mod ValuesTold
 pub mod HeldTold
 pub mod OnCycles
+pub mod CodeLayers

@@ -5,3 +5,4 @@ pub mod Targets
 pub mod Supertypes
 pub mod Values
 pub mod TypeCycles
+pub mod Codes

@@ -2,6 +2,7 @@
 //! in, and the first fault comes out, as `link_rules` defines it (`Faults`).
 #![tactic(auto)]
 
+mod codes;
 mod cycles;
 mod found;
 mod graph;
