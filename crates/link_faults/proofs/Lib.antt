@@ -18,3 +18,4 @@ pub mod ValuesTold
 pub mod HeldTold
 pub mod OnCycles
 pub mod CodeLayers
+pub mod Distinct
