@@ -19,3 +19,4 @@ pub mod HeldTold
 pub mod OnCycles
 pub mod CodeLayers
 pub mod Distinct
+pub mod FirstMet

@@ -6,3 +6,4 @@ pub mod Supertypes
 pub mod Values
 pub mod TypeCycles
 pub mod Codes
+pub mod Repeats

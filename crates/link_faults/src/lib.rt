@@ -10,6 +10,7 @@ mod held;
 mod names;
 mod nesting;
 mod ranks;
+mod repeats;
 mod scope;
 mod signatures;
 mod supertypes;
