@@ -20,3 +20,4 @@ pub mod OnCycles
 pub mod CodeLayers
 pub mod Distinct
 pub mod FirstMet
+pub mod Runs

@@ -7,3 +7,4 @@ pub mod Values
 pub mod TypeCycles
 pub mod Codes
 pub mod Repeats
+pub mod Owners

@@ -9,6 +9,7 @@ mod graph;
 mod held;
 mod names;
 mod nesting;
+mod owners;
 mod ranks;
 mod repeats;
 mod scope;
