@@ -21,3 +21,4 @@ pub mod CodeLayers
 pub mod Distinct
 pub mod FirstMet
 pub mod Runs
+pub mod Parts

@@ -8,3 +8,4 @@ pub mod TypeCycles
 pub mod Codes
 pub mod Repeats
 pub mod Owners
+pub mod Keys

@@ -2,13 +2,14 @@
 
 ghost use Rattle.std.specs.Prelude.{◌≡◌, ℕ, suc, ◌<◌, ◌≤◌, ◌==◌, length, IfOk, OnOk, if◌then◌else◌};
 ghost use Rattle.link_rules.specs.Faults.{first_of, is_cyclic_around, cyclic_nesting_row, cyclic_nesting};
+ghost use Rattle.link_rules.specs.Types.{encloser};
 ghost use Rattle.link_rules.specs.Cycles.{listed};
 ghost use Rattle.world_model.specs.Tokens.{index_in};
 ghost use Rattle.link_faults.specs.Graphs.{next_in};
 ghost use Rattle.link_faults.specs.Nesting.{IsAround};
 
 use crate::found::row_fault;
-use crate::graph::{is_on_cycle, list_of};
+use crate::graph::{is_on_cycle, list_of, next_in};
 use crate::ranks::is_acyclic;
 use il_base::{NoMemory, Seq};
 use link_rules::LinkError;
@@ -44,7 +45,7 @@ fn lead(
 }
 
 /// What encloses each type, by rows of NestedClass (II.22.32): of two rows on one type the first counts.
-fn enclosers(alloc: Global, rows: &[NestedClassRow]) -> Result<Vec<Seq<u32>>, NoMemory>
+fn enclosers_by(alloc: Global, rows: &[NestedClassRow]) -> Result<Vec<Seq<u32>>, NoMemory>
     ensures { IfOk result (λ graph. IsAround rows.now graph.items) }
 {
     let mut graph = Vec::new(alloc);
@@ -55,6 +56,34 @@ fn enclosers(alloc: Global, rows: &[NestedClassRow]) -> Result<Vec<Seq<u32>>, No
         }
     }
     Ok(graph)
+}
+
+/// What encloses each type of an assembly.
+pub(crate) fn enclosers(alloc: Global, rec: &AsmRec) -> Result<Vec<Seq<u32>>, NoMemory>
+    ensures { IfOk result (λ graph. IsAround rec.now.nested_class graph.items) }
+{
+    enclosers_by(alloc, rec.nested_class.as_slice())
+}
+
+/// The type that encloses this one, if one does. For a row that no token can name there is no memory.
+pub(crate) fn encloser<'a>(
+    rec: &AsmRec,
+    graph: &'a [Seq<u32>],
+    at: usize,
+) -> Result<&'a [u32], NoMemory>
+    requires { IsAround rec.now.nested_class graph.now }
+    ensures { IfOk result (λ around. around.now ≡ listed (encloser rec.now at)) }
+{
+    match u32::try_from(at) {
+        Ok(node) => {
+            if node < 0xff_ffff {
+                Ok(next_in(graph, node))
+            } else {
+                Err(NoMemory)
+            }
+        }
+        Err(_) => Err(NoMemory),
+    }
 }
 
 /// Whether the encloser of a type is on a cycle, by the types that the rows of NestedClass name.
@@ -99,7 +128,7 @@ fn cyclic_nesting_in(
 ) -> Result<Option<LinkError>, NoMemory>
     ensures { IfOk result (λ found. found ≡ first_of (cyclic_nesting_row rec.now file) 0 rec.now.nested_class) }
 {
-    let graph = enclosers(alloc, rec.nested_class.as_slice())?;
+    let graph = enclosers(alloc, rec)?;
     if is_acyclic(alloc, &graph)? {
         return Ok(None);
     }
