@@ -22,3 +22,4 @@ pub mod Distinct
 pub mod FirstMet
 pub mod Runs
 pub mod Parts
+pub mod Keyed

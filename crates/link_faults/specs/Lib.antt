@@ -9,3 +9,4 @@ pub mod Codes
 pub mod Repeats
 pub mod Owners
 pub mod Keys
+pub mod Answer

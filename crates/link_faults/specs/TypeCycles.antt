@@ -5,7 +5,7 @@ use Rattle.world_model.specs.declared.world.TypeLink.{TypeLink}
 use Rattle.world_model.specs.Worlds.{type_id}
 use Rattle.link_rules.specs.Types.{at_row}
 use Rattle.link_rules.specs.Members.{type_home}
-use Rattle.link_rules.specs.Laws.{TellTokens, TellSignatures}
+use Rattle.link_rules.specs.Laws.{TellTokens, TellSignatures, TellMethods}
 use Rattle.link_faults.specs.Supertypes.{all_supers}
 use Rattle.link_faults.specs.Values.{all_values, all_held}
 use Rattle.link_faults.specs.declared.cycles.Graphs.{Graphs}
@@ -14,6 +14,7 @@ use Rattle.link_faults.specs.declared.cycles.Graphs.{Graphs}
 pub record Tells (all : List AsmRec) (links : List TypeLink) : Type 0 where
   pub tokens : TellTokens all links
   pub signatures : TellSignatures all links
+  pub methods : TellMethods all links
 
 -- the graphs of supertypes and of value types in fields
 pub record AreGraphs (all : List AsmRec) (links : List TypeLink) (graphs : Graphs) : Type 0 where

@@ -4,6 +4,8 @@
 
 mod codes;
 mod cycles;
+mod duplicates;
+mod first;
 mod found;
 mod graph;
 mod held;
@@ -19,3 +21,9 @@ mod supertypes;
 mod targets;
 mod type_keys;
 mod value_types;
+
+pub use cycles::cyclic_types;
+pub use duplicates::duplicate_member;
+pub use first::link_fault;
+pub use names::duplicate_assembly;
+pub use nesting::cyclic_nesting;
