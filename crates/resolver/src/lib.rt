@@ -7,4 +7,7 @@ mod homes;
 mod kind;
 mod linking;
 
+#[cfg(test)]
+mod tests;
+
 pub use linking::link;
