@@ -1,12 +1,11 @@
 -- What a token names by the links of all types is what it names.
-use Rattle.std.proofs.Common.{◌≡◌, ◌<◌, ◌≤◌, ℕ, zero, suc, ◌+◌, Bool, true, false, nat_lt, List, ◌++◌, length, map, Option, Some, None, refl, sym, ap, ◌∙◌, arith, rules, append_assoc}
+use Rattle.std.proofs.Common.{◌≡◌, ◌<◌, ◌≤◌, ℕ, zero, suc, ◌+◌, Bool, true, false, nat_lt, List, ◌++◌, length, Option, Some, None, refl, sym, ap, ◌∙◌, arith, rules, append_assoc}
 use Rattle.std.specs.Prelude.{slice_get, ◌==◌, if◌then◌else◌}
-use Rattle.std.specs.List.{range_with_len}
 use Rattle.std.specs.Option.{option_map, option_and_then}
 use Rattle.std.proofs.lemmas.List.{length-append}
 use Rattle.std.proofs.lemmas.Option.{slice_get_past}
 use Rattle.world_model.specs.declared.known.Known.{Known}
-use Rattle.world_model.specs.declared.known.Known.TheVariants.{Good, Bad}
+use Rattle.world_model.specs.declared.known.Known.TheVariants.{Bad}
 use Rattle.world_model.specs.declared.known.BadKind.TheVariants.{Unresolved}
 use Rattle.world_model.specs.declared.expr.TypeExpr.{TypeExpr}
 use Rattle.world_model.specs.declared.types.TypeSpecRow.{TypeSpecRow}
@@ -15,10 +14,9 @@ use Rattle.world_model.specs.declared.world.TypeLink.{TypeLink}
 use Rattle.world_model.specs.Tokens.{table_of, row_index, index_in}
 use Rattle.world_model.specs.Worlds.{known_or, row_below, behind, rows_before, type_rows, type_row, link_place, type_link_at, named_in, names_by}
 use Rattle.link_rules.specs.Types.{at_row, ref_type, ref_at, definition_at}
-use Rattle.link_rules.specs.Signatures.{definition_expr, known_expr, named_type, names_at, spec_type, spec_type_at, token_type}
-use Rattle.link_rules.specs.Faults.{numbered}
-use Rattle.link_rules.specs.Linked.{type_link, types_of}
-use Rattle.link_rules.specs.Laws.{AreTypeLinks, TellTokens, LinksTell}
+use Rattle.link_rules.specs.Signatures.{known_expr, named_type, names_at, spec_type_at, token_type}
+use Rattle.link_rules.specs.Linked.{types_of}
+use Rattle.link_rules.specs.Laws.{AreTypeLinks, LinksTell}
 use Rattle.link_laws.specs.Parts.{ref_link, def_link, spec_link, refs_of, defs_of, specs_of}
 use Rattle.std.proofs.lemmas.Bool.{false≢true}
 use Rattle.link_laws.proofs.Lists.{get_front, get_behind, get_range, length_range, get_numbered, length_numbered}

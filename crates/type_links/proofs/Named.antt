@@ -1,16 +1,14 @@
 -- The first row of each name.
-use Rattle.std.proofs.Common.{◌≡◌, ℕ, suc, ◌+◌, ◌<◌, ◌≤◌, Bool, true, false, List, [], ◌∷◌, length, drop, get_or, Option, Some, None, refl, sym, ap, ◌∙◌, ◌&&◌, arith, drop-cons}
-use Rattle.std.specs.Prelude.{nat_eq, ◌==◌, if◌then◌else◌}
-use Rattle.std.specs.HashMap.{HashMap, get}
+use Rattle.std.proofs.Common.{◌≡◌, ℕ, suc, ◌+◌, ◌<◌, ◌≤◌, Bool, true, false, List, ◌∷◌, length, drop, get_or, Option, Some, None, refl, sym, ap, ◌∙◌, ◌&&◌, arith, drop-cons}
+use Rattle.std.specs.Prelude.{nat_eq, if◌then◌else◌}
 use Rattle.std.specs.Option.{option_or, option_eq}
 use Rattle.std.proofs.lemmas.List.{drop_all}
 use Rattle.world_model.specs.declared.types.TypeDefRow.{TypeDefRow}
 use Rattle.world_model.specs.declared.record.AsmRec.{AsmRec}
 use Rattle.world_model.specs.Core.{same_name}
 use Rattle.link_rules.specs.Types.{encloser, same_place, type_from, type_in}
-use Rattle.type_links.specs.declared.names.TypeName.{TypeName}
 use Rattle.type_links.specs.declared.names.TypeKey.{TypeKey}
-use Rattle.type_links.specs.Names.{same_type_name, same_key}
+use Rattle.type_links.specs.Names.{same_key}
 use Rattle.type_links.proofs.Outers.{or_none}
 
 pub first_step : {V : Type 0} (m : Option V) (b c : Bool) (v : V) (rest whole : Option V) → b ≡ c

@@ -2,22 +2,19 @@
 use Rattle.std.proofs.Common.{◌≡◌, ℕ, suc, ◌≤◌, Bool, true, false, List, [], ◌∷◌, length, drop, Option, Some, None, refl, sym, ap, ◌∙◌}
 use Rattle.std.specs.Prelude.{◌==◌, nat_eq, if◌then◌else◌}
 use Rattle.std.specs.HashMap.{get}
-use Rattle.std.specs.Option.{option_or, option_and_then}
+use Rattle.std.specs.Option.{option_or}
 use Rattle.std.proofs.lemmas.List.{drop_all}
 use Rattle.world_model.specs.declared.types.NestedClassRow.{NestedClassRow}
 use Rattle.world_model.specs.declared.record.AsmRec.{AsmRec}
 use Rattle.world_model.specs.Tokens.{token_of, index_in}
 use Rattle.link_rules.specs.Types.{encloser_in, encloser}
 use Rattle.type_links.specs.declared.enclosers.Enclosers.{Enclosers}
-use Rattle.type_links.specs.Nesting.{encloser_by, AreEnclosers}
+use Rattle.type_links.specs.Nesting.{AreEnclosers}
 use Rattle.type_links.specs.Forwarding.{inner}
 
 abbrev pub outer_in : ℕ → List NestedClassRow → Option (Option ℕ)
 outer_in token [] = None
 outer_in token (row ∷ rows) = if row.nested_class == token then Some (index_in 0x02 row.enclosing_class) else outer_in token rows
-
-
-
 
 pub outer_case : (b : Bool) (row : Option ℕ) (rest : Option (Option ℕ)) (found : Option ℕ) → inner rest ≡ found
     → inner (if b then Some row else rest) ≡ (if b then row else found)

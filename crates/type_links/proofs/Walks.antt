@@ -1,15 +1,15 @@
 -- The ways over forwarders, and over the references around a reference.
-use Rattle.std.proofs.Common.{◌≡◌, ℕ, zero, suc, ◌+◌, ◌-◌, ◌<◌, ◌≤◌, List, [], ◌∷◌, ◌++◌, length, map, Option, Some, None, refl, sym, ap, ◌∙◌, arith}
+use Rattle.std.proofs.Common.{◌≡◌, ℕ, suc, List, [], ◌∷◌, ◌++◌, Option, Some, None, refl, sym, ap, ◌∙◌}
 use Rattle.std.specs.Prelude.{slice_get}
 use Rattle.std.specs.Option.{option_map, option_and_then}
 use Rattle.world_model.specs.declared.types.TypeRefRow.{TypeRefRow}
 use Rattle.world_model.specs.declared.record.AsmRec.{AsmRec}
 use Rattle.world_model.specs.Tokens.{index_in}
 use Rattle.link_rules.specs.declared.row_at.RowAt.{RowAt}
-use Rattle.link_rules.specs.Types.{or_else, at_row, top_type, type_in, forwarded_to, ref_type, ref_type_by, nested_type, type_of_scope}
+use Rattle.link_rules.specs.Types.{or_else, at_row, top_type, type_in, forwarded_to, ref_type, nested_type, type_of_scope}
 use Rattle.type_links.specs.declared.names.TypeName.{TypeName}
 use Rattle.type_links.specs.Index.{type_at, forwarded_at}
-use Rattle.type_links.specs.References.{scope_type, come_down}
+use Rattle.type_links.specs.References.{come_down}
 
 -- ---- over forwarders
 

@@ -1,5 +1,5 @@
 -- What is under a key first.
-use Rattle.std.specs.Prelude.{◌≡◌, Bool, Option, Some, None, if◌then◌else◌}
+use Rattle.std.specs.Prelude.{◌≡◌, Bool, Some, None, if◌then◌else◌}
 use Rattle.std.specs.HashMap.{HashMap, get}
 use Rattle.std.specs.Option.{option_or}
 

@@ -6,10 +6,9 @@ use Rattle.std.specs.Option.{option_and_then}
 use Rattle.world_model.specs.declared.record.AsmRec.{AsmRec}
 use Rattle.link_rules.specs.Types as types
 use Rattle.type_links.specs.declared.names.TypeName.{TypeName}
-use Rattle.type_links.specs.declared.names.TypeKey.{TypeKey}
 use Rattle.type_links.specs.declared.index.AsmIndex.{AsmIndex}
 use Rattle.type_links.specs.declared.index.TypeIndex.{TypeIndex}
-use Rattle.type_links.specs.Nesting.{encloser_by, AreEnclosers}
+use Rattle.type_links.specs.Nesting.{AreEnclosers}
 use Rattle.type_links.specs.Names.{same_type_name, same_key, AreTypeRows}
 use Rattle.type_links.specs.Forwarding.{inner, AreForwarders}
 use Rattle.type_links.specs.Scopes.{assemblies_of}

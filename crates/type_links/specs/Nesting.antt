@@ -1,5 +1,5 @@
 -- The enclosers of an assembly's types, by token.
-use Rattle.std.specs.Prelude.{◌≡◌, ℕ, suc, List, [], ◌∷◌, Option, Some, None, nat_eq, ◌==◌, if◌then◌else◌}
+use Rattle.std.specs.Prelude.{◌≡◌, ℕ, suc, Option, nat_eq}
 use Rattle.std.specs.HashMap.{get}
 use Rattle.type_links.specs.Forwarding.{inner}
 use Rattle.world_model.specs.declared.record.AsmRec.{AsmRec}

@@ -1,5 +1,5 @@
 -- What references name, by the way over the references around them.
-use Rattle.std.specs.Prelude.{◌≡◌, ℕ, List, [], ◌∷◌, length, map, Option, Some, None, slice_get}
+use Rattle.std.specs.Prelude.{◌≡◌, ℕ, List, [], ◌∷◌, map, Option, slice_get}
 use Rattle.std.specs.Option.{option_and_then, option_copied}
 use Rattle.world_model.specs.declared.types.TypeRefRow.{TypeRefRow}
 use Rattle.world_model.specs.declared.record.AsmRec.{AsmRec}

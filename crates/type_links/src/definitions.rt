@@ -46,10 +46,7 @@ pub(crate) fn definition_expr(all: &[AsmRec], at: RowAt) -> Result<TypeExpr, NoM
 }
 
 /// The type that a reference names, by the definition that it leads to.
-pub(crate) fn known_expr(
-    all: &[AsmRec],
-    at: Option<RowAt>,
-) -> Result<Known<TypeExpr>, NoMemory>
+pub(crate) fn known_expr(all: &[AsmRec], at: Option<RowAt>) -> Result<Known<TypeExpr>, NoMemory>
     ensures { IfOk result (λ e. e ≡ known_expr all.now at) }
 {
     match at {

@@ -89,12 +89,7 @@ fn refer(rec: &mut AsmRec, alloc: Global, name: &[u8]) -> Result<(), NoMemory> {
     })
 }
 
-fn define(
-    rec: &mut AsmRec,
-    alloc: Global,
-    namespace: &[u8],
-    name: &[u8],
-) -> Result<(), NoMemory> {
+fn define(rec: &mut AsmRec, alloc: Global, namespace: &[u8], name: &[u8]) -> Result<(), NoMemory> {
     rec.type_def.push(TypeDefRow {
         flags: 0,
         name: text(alloc, name)?,
@@ -122,12 +117,7 @@ fn mention(
 }
 
 /// The type of this name is in the assembly of the first AssemblyRef row.
-fn forward(
-    rec: &mut AsmRec,
-    alloc: Global,
-    namespace: &[u8],
-    name: &[u8],
-) -> Result<(), NoMemory> {
+fn forward(rec: &mut AsmRec, alloc: Global, namespace: &[u8], name: &[u8]) -> Result<(), NoMemory> {
     rec.exported_type.push(ExportedTypeRow {
         flags: 0x0020_0000,
         type_def_id: 0,
@@ -171,43 +161,68 @@ fn all_named(alloc: Global, links: &[TypeLink]) -> Result<Vec<Named>, NoMemory> 
     Ok(all)
 }
 
+/// Rows that name types of other assemblies.
+fn fill_app(app: &mut AsmRec, alloc: Global) -> Result<(), NoMemory> {
+    refer(app, alloc, b"Facade")?;
+    refer(app, alloc, b"System.Runtime")?;
+    mention(app, alloc, 0x2300_0001, b"N", b"Outer")?;
+    mention(app, alloc, 0x0100_0001, b"", b"Inner")?;
+    mention(app, alloc, 0x2300_0002, b"System", b"Int32")?;
+    mention(app, alloc, 0x2300_0002, b"System", b"Nowhere")?;
+    define(app, alloc, b"", b"<Module>")
+}
+
+/// An assembly that forwards a type to another.
+fn fill_facade(rec: &mut AsmRec, alloc: Global, name: &[u8], next: &[u8]) -> Result<(), NoMemory> {
+    call(rec, alloc, name)?;
+    refer(rec, alloc, next)?;
+    forward(rec, alloc, b"N", b"Outer")
+}
+
+/// A type and one that is nested in it.
+fn fill_lib(lib: &mut AsmRec, alloc: Global) -> Result<(), NoMemory> {
+    call(lib, alloc, b"Lib")?;
+    define(lib, alloc, b"", b"<Module>")?;
+    define(lib, alloc, b"N", b"Outer")?;
+    define(lib, alloc, b"", b"Inner")?;
+    lib.nested_class.push(NestedClassRow {
+        nested_class: 0x0200_0003,
+        enclosing_class: 0x0200_0002,
+    })
+}
+
+fn fill_core(core: &mut AsmRec, alloc: Global) -> Result<(), NoMemory> {
+    define(core, alloc, b"System", b"Object")?;
+    define(core, alloc, b"System", b"Int32")
+}
+
+fn fill_forwarded(all: &mut [AsmRec; 5], alloc: Global) -> Result<(), NoMemory> {
+    fill_app(&mut all[0], alloc)?;
+    fill_facade(&mut all[1], alloc, b"Facade", b"Middle")?;
+    fill_facade(&mut all[2], alloc, b"Middle", b"Lib")?;
+    fill_lib(&mut all[3], alloc)?;
+    fill_core(&mut all[4], alloc)
+}
+
+/// What the links of these assemblies name.
+fn linked(alloc: Global, all: &[AsmRec]) -> Result<Vec<Named>, NoMemory> {
+    let links = type_links(alloc, all)?;
+    all_named(alloc, links.as_slice())
+}
+
 /// References over two forwarders to a type and to one nested in it, and to the core library.
 #[test]
 fn finds_forwarded_and_nested_types(rt: HostRuntime) -> Result<(), Fail> {
     let alloc = rt.alloc();
-    let mut app = no_rows(alloc);
-    call(&mut app, alloc, b"App")?;
-    refer(&mut app, alloc, b"Facade")?;
-    refer(&mut app, alloc, b"System.Runtime")?;
-    mention(&mut app, alloc, 0x2300_0001, b"N", b"Outer")?;
-    mention(&mut app, alloc, 0x0100_0001, b"", b"Inner")?;
-    mention(&mut app, alloc, 0x2300_0002, b"System", b"Int32")?;
-    mention(&mut app, alloc, 0x2300_0002, b"System", b"Nowhere")?;
-    define(&mut app, alloc, b"", b"<Module>")?;
-    let mut facade = no_rows(alloc);
-    call(&mut facade, alloc, b"Facade")?;
-    refer(&mut facade, alloc, b"Middle")?;
-    forward(&mut facade, alloc, b"N", b"Outer")?;
-    let mut middle = no_rows(alloc);
-    call(&mut middle, alloc, b"Middle")?;
-    refer(&mut middle, alloc, b"Lib")?;
-    forward(&mut middle, alloc, b"N", b"Outer")?;
-    let mut lib = no_rows(alloc);
-    call(&mut lib, alloc, b"Lib")?;
-    define(&mut lib, alloc, b"", b"<Module>")?;
-    define(&mut lib, alloc, b"N", b"Outer")?;
-    define(&mut lib, alloc, b"", b"Inner")?;
-    lib.nested_class.push(NestedClassRow {
-        nested_class: 0x0200_0003,
-        enclosing_class: 0x0200_0002,
-    })?;
-    let mut core = no_rows(alloc);
-    call(&mut core, alloc, b"System.Private.CoreLib")?;
-    define(&mut core, alloc, b"System", b"Object")?;
-    define(&mut core, alloc, b"System", b"Int32")?;
-    let all = [app, facade, middle, lib, core];
-    let links = type_links(alloc, &all)?;
-    let found = all_named(alloc, links.as_slice())?;
+    let mut all = [
+        no_rows(alloc),
+        no_rows(alloc),
+        no_rows(alloc),
+        no_rows(alloc),
+        no_rows(alloc),
+    ];
+    fill_forwarded(&mut all, alloc)?;
+    let found = linked(alloc, &all)?;
     let wanted = [
         Named::Def(0, 0x0100_0001, 2),
         Named::Def(0, 0x0100_0002, 3),
@@ -224,27 +239,27 @@ fn finds_forwarded_and_nested_types(rt: HostRuntime) -> Result<(), Fail> {
     Ok(())
 }
 
-/// A type that two assemblies forward to each other, and two references each in the type of the other.
+/// References to a type that is forwarded, and each in the type of the other.
+fn fill_circles(app: &mut AsmRec, alloc: Global) -> Result<(), NoMemory> {
+    refer(app, alloc, b"A")?;
+    mention(app, alloc, 0x2300_0001, b"N", b"Outer")?;
+    mention(app, alloc, 0x0100_0003, b"", b"X")?;
+    mention(app, alloc, 0x0100_0002, b"", b"Y")
+}
+
+/// With two assemblies that forward a type to each other.
+fn fill_circling(all: &mut [AsmRec; 3], alloc: Global) -> Result<(), NoMemory> {
+    fill_circles(&mut all[0], alloc)?;
+    fill_facade(&mut all[1], alloc, b"A", b"B")?;
+    fill_facade(&mut all[2], alloc, b"B", b"A")
+}
+
 #[test]
 fn ways_that_come_back_name_nothing(rt: HostRuntime) -> Result<(), Fail> {
     let alloc = rt.alloc();
-    let mut app = no_rows(alloc);
-    call(&mut app, alloc, b"App")?;
-    refer(&mut app, alloc, b"A")?;
-    mention(&mut app, alloc, 0x2300_0001, b"N", b"T")?;
-    mention(&mut app, alloc, 0x0100_0003, b"", b"X")?;
-    mention(&mut app, alloc, 0x0100_0002, b"", b"Y")?;
-    let mut a = no_rows(alloc);
-    call(&mut a, alloc, b"A")?;
-    refer(&mut a, alloc, b"B")?;
-    forward(&mut a, alloc, b"N", b"T")?;
-    let mut b = no_rows(alloc);
-    call(&mut b, alloc, b"B")?;
-    refer(&mut b, alloc, b"A")?;
-    forward(&mut b, alloc, b"N", b"T")?;
-    let all = [app, a, b];
-    let links = type_links(alloc, &all)?;
-    let found = all_named(alloc, links.as_slice())?;
+    let mut all = [no_rows(alloc), no_rows(alloc), no_rows(alloc)];
+    fill_circling(&mut all, alloc)?;
+    let found = linked(alloc, &all)?;
     let wanted = [
         Named::Unresolved(0, 0x0100_0001),
         Named::Unresolved(0, 0x0100_0002),
@@ -254,14 +269,8 @@ fn ways_that_come_back_name_nothing(rt: HostRuntime) -> Result<(), Fail> {
     Ok(())
 }
 
-/// A generic type over a primitive, a vector of what a TypeSpec token names, and a form outside the profile.
-#[test]
-fn reads_type_specs(rt: HostRuntime) -> Result<(), Fail> {
-    let alloc = rt.alloc();
-    let mut app = no_rows(alloc);
-    refer(&mut app, alloc, b"System.Runtime")?;
-    mention(&mut app, alloc, 0x2300_0001, b"System", b"Int32")?;
-    define(&mut app, alloc, b"N", b"List`1")?;
+/// A generic type over a primitive.
+fn push_instance(app: &mut AsmRec, alloc: Global) -> Result<(), NoMemory> {
     let mut args = Seq::new(alloc);
     args.push(Sig::Named {
         value: true,
@@ -273,7 +282,15 @@ fn reads_type_specs(rt: HostRuntime) -> Result<(), Fail> {
             token: 0x0200_0001,
             args,
         }),
-    })?;
+    })
+}
+
+/// An instance, what a TypeSpec token names, and a form outside the profile.
+fn fill_specs(app: &mut AsmRec, alloc: Global) -> Result<(), NoMemory> {
+    refer(app, alloc, b"System.Runtime")?;
+    mention(app, alloc, 0x2300_0001, b"System", b"Int32")?;
+    define(app, alloc, b"N", b"List`1")?;
+    push_instance(app, alloc)?;
     app.type_spec.push(TypeSpecRow {
         signature: Known::Good(Sig::Named {
             value: false,
@@ -282,12 +299,20 @@ fn reads_type_specs(rt: HostRuntime) -> Result<(), Fail> {
     })?;
     app.type_spec.push(TypeSpecRow {
         signature: Known::Bad(BadKind::Outside(3)),
-    })?;
-    let mut core = no_rows(alloc);
-    define(&mut core, alloc, b"System", b"Int32")?;
-    let all = [app, core];
-    let links = type_links(alloc, &all)?;
-    let found = all_named(alloc, links.as_slice())?;
+    })
+}
+
+fn fill_with_specs(all: &mut [AsmRec; 2], alloc: Global) -> Result<(), NoMemory> {
+    fill_specs(&mut all[0], alloc)?;
+    define(&mut all[1], alloc, b"System", b"Int32")
+}
+
+#[test]
+fn reads_type_specs(rt: HostRuntime) -> Result<(), Fail> {
+    let alloc = rt.alloc();
+    let mut all = [no_rows(alloc), no_rows(alloc)];
+    fill_with_specs(&mut all, alloc)?;
+    let found = linked(alloc, &all)?;
     let wanted = [
         Named::Prim(0, 0x0100_0001, 0x08),
         Named::Def(0, 0x0200_0001, 0),
@@ -300,39 +325,72 @@ fn reads_type_specs(rt: HostRuntime) -> Result<(), Fail> {
     Ok(())
 }
 
-fn type_name<'a>(namespace: &'a [u8], name: &'a [u8]) -> TypeName<'a> {
-    TypeName { namespace, name }
-}
-
 /// Two types of one name, and another of that name in the second of them.
-#[test]
-fn looks_types_up_by_name(rt: HostRuntime) -> Result<(), Fail> {
-    let alloc = rt.alloc();
-    let mut app = no_rows(alloc);
-    define(&mut app, alloc, b"N", b"T")?;
-    define(&mut app, alloc, b"N", b"T")?;
-    define(&mut app, alloc, b"N", b"T")?;
+fn fill_twins(app: &mut AsmRec, alloc: Global) -> Result<(), NoMemory> {
+    define(app, alloc, b"N", b"T")?;
+    define(app, alloc, b"N", b"T")?;
+    define(app, alloc, b"N", b"T")?;
+    mention(app, alloc, 0, b"N", b"T")?;
     app.nested_class.push(NestedClassRow {
         nested_class: 0x0200_0003,
         enclosing_class: 0x0200_0002,
-    })?;
-    mention(&mut app, alloc, 0, b"N", b"T")?;
-    let core = no_rows(alloc);
-    let all = [app, core];
-    let index = TypeIndex::of(alloc, &all)?;
-    let name = type_name(b"N", b"T");
-    assert_eq!(rt; index.type_in(0, None, name), Some(0));
-    assert_eq!(rt; index.type_in(0, Some(1), name), Some(2));
-    assert_eq!(rt; index.type_in(0, Some(0), name), None);
-    assert_eq!(rt; index.type_in(1, None, name), None);
-    assert_eq!(rt; index.type_in(0, None, type_name(b"", b"T")), None);
-    assert_eq!(rt; index.encloser(0, 2), Some(1));
-    assert_eq!(rt; index.encloser(0, 1), None);
-    let first = Some(RowAt { asm: 0, row: 0 });
-    assert_eq!(rt; index.top_type(0, name), first);
-    assert_eq!(rt; index.definition_at(alloc, 0, 0x0100_0001)?, first);
-    let third = Some(RowAt { asm: 0, row: 2 });
-    assert_eq!(rt; index.definition_at(alloc, 0, 0x0200_0003)?, third);
-    assert_eq!(rt; index.definition_at(alloc, 0, 0x0200_0004)?, None);
+    })
+}
+
+/// The rows of the definitions that these tokens of the first assembly name.
+fn defined(alloc: Global, all: &[AsmRec], tokens: &[u32]) -> Result<Vec<Option<RowAt>>, NoMemory> {
+    let index = TypeIndex::of(alloc, all)?;
+    let mut rows = Vec::new(alloc);
+    for token in tokens {
+        let at = index.definition_at(alloc, 0, *token)?;
+        rows.push(at)?;
+    }
+    Ok(rows)
+}
+
+fn twin<'a>() -> TypeName<'a> {
+    TypeName {
+        namespace: b"N",
+        name: b"T",
+    }
+}
+
+/// The rows of types of one name: not nested, and in the first and the second type.
+fn rows_by_name(alloc: Global, all: &[AsmRec]) -> Result<[Option<u32>; 3], NoMemory> {
+    let index = TypeIndex::of(alloc, all)?;
+    Ok([
+        index.type_in(0, None, twin()),
+        index.type_in(0, Some(0), twin()),
+        index.type_in(0, Some(1), twin()),
+    ])
+}
+
+/// The encloser of the third type, that of the second, and the row of a type that isn't nested.
+fn places(alloc: Global, all: &[AsmRec]) -> Result<[Option<u32>; 3], NoMemory> {
+    let index = TypeIndex::of(alloc, all)?;
+    Ok([
+        index.encloser(0, 2),
+        index.encloser(0, 1),
+        index.top_type(0, twin()).map(|at| at.row),
+    ])
+}
+
+#[test]
+fn looks_types_up_by_name(rt: HostRuntime) -> Result<(), Fail> {
+    let alloc = rt.alloc();
+    let mut all = [no_rows(alloc)];
+    let [app] = &mut all;
+    fill_twins(app, alloc)?;
+    let rows = rows_by_name(alloc, &all)?;
+    assert!(rt; rows == [Some(0), None, Some(2)]);
+    let places = places(alloc, &all)?;
+    assert!(rt; places == [Some(1), None, Some(0)]);
+    let found = defined(alloc, &all, &[0x0100_0001, 0x0200_0003, 0x0200_0004])?;
+    let wanted = [
+        Some(RowAt { asm: 0, row: 0 }),
+        Some(RowAt { asm: 0, row: 2 }),
+        None,
+    ];
+    assert!(rt; found.as_slice() == wanted.as_slice());
     Ok(())
 }

@@ -1,7 +1,6 @@
 use Rattle.std.proofs.Common.{◌≡◌, ◌++◌, map, drop}
 use Rattle.world_model.specs.declared.assemblies.AssemblyRefRow.{AssemblyRefRow}
 use Rattle.link_rules.specs.Types.{assembly_named}
-use Rattle.type_links.specs.Scopes.{assemblies_of}
 use Rattle.type_links.proofs.assemblies.assemblies_of.Given as goal
 
 abbrev pub invariant-loop-row : goal.invariant-loop-row

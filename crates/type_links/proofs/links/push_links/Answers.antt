@@ -8,8 +8,8 @@ pub push_specs-requires : goal.push_specs-requires
 push_specs-requires c = λ more.
     let all = c.args.index.now.all.now in
     tells_before all c.args.a c.args.rec.now c.requires.stands c.push_defs.new.links.items more
-      (c.in_ok-push_defs.ensures ∙ ap (λ (xs : List TypeLink). xs ++ defs_of all c.args.a c.args.rec.now)
-        (c.in_ok-push_refs.ensures ∙ ap (λ (xs : List TypeLink). xs ++ refs_of all c.args.a c.args.rec.now) c.requires.before))
+    (c.in_ok-push_defs.ensures ∙ ap (λ (xs : List TypeLink). xs ++ defs_of all c.args.a c.args.rec.now)
+    (c.in_ok-push_refs.ensures ∙ ap (λ (xs : List TypeLink). xs ++ refs_of all c.args.a c.args.rec.now) c.requires.before))
 
 pub returns : goal.returns
 returns c =

@@ -1,4 +1,4 @@
-use Rattle.std.proofs.Common.{◌≡◌, ◌++◌, ◌+◌, ◌∷◌, [], ap, sym, subst, ◌∙◌, List, take, arith}
+use Rattle.std.proofs.Common.{◌++◌, ◌+◌, ◌∷◌, [], ap, sym, subst, ◌∙◌, List, take, arith}
 use Rattle.std.proofs.lemmas.List.{take_all}
 use Rattle.world_model.specs.declared.world.TypeLink.{TypeLink}
 use Rattle.link_rules.specs.Faults.{numbered}
@@ -17,7 +17,7 @@ spec_type-requires c =
 pub returns : goal.returns
 returns c =
     c.loop-k.invariant ∙ ap (λ (rows : _). c.args.links.now.items ++ numbered (spec_link c.args.all.now c.args.a c.args.rec.now) 0 rows)
-      (take_all c.loop-k.k c.as_slice-row-items.result.now (omega arith) ∙ c.as_slice-row-items.ensures)
+    (take_all c.loop-k.k c.as_slice-row-items.result.now (omega arith) ∙ c.as_slice-row-items.ensures)
 
 pub loop-k-preserved : goal.loop-k-preserved
 loop-k-preserved c =

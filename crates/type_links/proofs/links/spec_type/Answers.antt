@@ -11,5 +11,5 @@ pub returns-in-Good : goal.returns-in-Good
 returns-in-Good c =
     let all = c.args.all.now in
     let named = plain_expr all c.args.links.now c.args.a c.in-Good.signature ∙ c.requires c.in-Good.signature
-      ∙ sym (ap (known_then (sig_expr (names_at all c.args.a c.args.rec.now))) c.in-Good.is) in
+    ∙ sym (ap (known_then (sig_expr (names_at all c.args.a c.args.rec.now))) c.in-Good.is) in
     subst (λ (v : Known TypeExpr). IfOk c.expr_by.result (λ e. e ≡ v)) named c.expr_by.ensures

@@ -1,6 +1,5 @@
 use Rattle.std.proofs.Common.{arith, ap, sym, ◌∙◌, ◌+◌}
 use Rattle.link_rules.specs.Types.{encloser}
-use Rattle.type_links.specs.Nesting.{encloser_by}
 use Rattle.type_links.proofs.Named.{row_step, rows_all}
 use Rattle.type_links.proofs.names.type_rows.Goals as goal
 
@@ -8,9 +7,9 @@ pub loop-row-preserved : goal.loop-row-preserved
 loop-row-preserved c = record {
   counted = c.in_ok-at.ensures ∙ ap (λ n. n + 1) c.loop-row.invariant.counted;
   rows = λ q. row_step c.args.rec.now c.as_slice-row-items.result.now c.loop-row.row-index c.row-item.result (omega arith) c.row-item.is
-    (record { around = c.get-around.result; name = record { namespace = c.as_slice.result; name = c.as_slice-in-loop-row.result } })
-    (c.get-around.ensures ∙ c.requires c.loop-row.at ∙ ap (encloser c.args.rec.now) c.loop-row.invariant.counted)
-    c.as_slice.ensures c.as_slice-in-loop-row.ensures q _ _ _ (rw (sym c.loop-row.invariant.counted) (c.in_ok-keep_first.ensures q)) (c.loop-row.invariant.rows q);
+      (record { around = c.get-around.result; name = record { namespace = c.as_slice.result; name = c.as_slice-in-loop-row.result } })
+      (c.get-around.ensures ∙ c.requires c.loop-row.at ∙ ap (encloser c.args.rec.now) c.loop-row.invariant.counted)
+      c.as_slice.ensures c.as_slice-in-loop-row.ensures q _ _ _ (rw (sym c.loop-row.invariant.counted) (c.in_ok-keep_first.ensures q)) (c.loop-row.invariant.rows q);
 }
 
 pub returns : goal.returns

@@ -10,5 +10,5 @@ loop-row-preserved c =
     let all = c.args.self.now.all.now in
     ap (come_down all (map (λ row. row.now) c.pop.new.self.items)) c.nested_type-around.ensures
     ∙ sym (ap (λ (rows : List TypeRefRow). come_down all rows c.loop-row.around) (ap (map (λ row. row.now)) c.in-Some.ensures.items ∙ map_push (λ row. row.now) c.pop.new.self.items c.in-Some.row)
-      ∙ come_push all (map (λ row. row.now) c.pop.new.self.items) c.in-Some.row.now c.loop-row.around)
+    ∙ come_push all (map (λ row. row.now) c.pop.new.self.items) c.in-Some.row.now c.loop-row.around)
     ∙ c.loop-row.invariant

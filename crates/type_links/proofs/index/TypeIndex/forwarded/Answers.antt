@@ -1,4 +1,4 @@
-use Rattle.std.proofs.Common.{sym, ◌∙◌}
+use Rattle.std.proofs.Common.{◌∙◌}
 use Rattle.type_links.proofs.Indexing.{forwarded_none, forwarded_some}
 use Rattle.type_links.proofs.index.TypeIndex.forwarded.Goals as goal
 

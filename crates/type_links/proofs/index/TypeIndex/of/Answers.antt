@@ -1,5 +1,4 @@
 use Rattle.std.proofs.Common.{arith}
-use Rattle.std.specs.List.{AllZip}
 use Rattle.type_links.specs.Index.{IsIndexOf}
 use Rattle.type_links.proofs.Indexing.{zip_more}
 use Rattle.type_links.proofs.index.TypeIndex.of.Goals as goal
