@@ -6,3 +6,7 @@ pub mod Searching
 pub mod Owning
 pub mod Linking
 pub mod Telling
+pub mod NameRows
+pub mod Places
+pub mod Zips
+pub mod Running

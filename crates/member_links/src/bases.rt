@@ -4,7 +4,7 @@ ghost use Rattle.link_rules.specs.Members.{array_type, owner_of, args_of, type_h
 ghost use Rattle.member_links.specs.Linked.{IsLinked};
 
 use crate::homes::type_home;
-use crate::linked::{Linked, Scope};
+use crate::linked::{Linked, Scope, assembly_at};
 use core_table::ARRAY;
 use il_base::{NoMemory, TypeId};
 use link_rules::RowAt;
@@ -77,7 +77,7 @@ fn base_at<'a>(linked: &Linked<'a>, at: RowAt) -> Option<&'a TypeExpr>
     requires { IsLinked linked.now }
     ensures { option_copied result ≡ base_at linked.now.all.now at }
 {
-    let rec = linked.all.get(at.asm as usize)?;
+    let rec = assembly_at(linked.all, at.asm)?;
     let row = rec.type_def.get(at.row as usize)?;
     if row.extends == 0 {
         return None;

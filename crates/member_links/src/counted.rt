@@ -24,6 +24,16 @@ pub(crate) fn count_in(rec: &AsmRec, counted: Counted) -> usize
     }
 }
 
+/// A row or a place as a number of 32 bits.
+pub(crate) fn row_of(k: usize) -> Result<u32, NoMemory>
+    ensures { IfOk result (λ row. row ≡ k) }
+{
+    match u32::try_from(k) {
+        Ok(row) => Ok(row),
+        Err(_) => Err(NoMemory),
+    }
+}
+
 /// A sum of 32 bits.
 pub(crate) fn sum(a: u32, b: usize) -> Result<u32, NoMemory>
     ensures { IfOk result (λ n. n ≡ a + b) }

@@ -2,47 +2,24 @@ ghost use Rattle.std.specs.Prelude.{◌≡◌, IfOk};
 ghost use Rattle.std.specs.Option.{option_map};
 ghost use Rattle.link_rules.specs.Members.{type_count, with_bases, search};
 ghost use Rattle.member_links.specs.Linked.{IsLinked};
-ghost use Rattle.member_links.specs.Found.{told, look_for, find_member};
+ghost use Rattle.member_links.specs.Wanted.{look_for};
+ghost use Rattle.member_links.specs.Found.{told, find_member};
 
 use crate::bases::{args_of, base_of};
 use crate::counted::{Counted, rows_before};
 use crate::linked::Linked;
-use crate::members::{field_of_type, method_of_type};
+use crate::members::{Wanted, look_for};
 use crate::own_types::open_parent;
 use il_base::NoMemory;
-use link_rules::{MethodType, RowAt};
+use link_rules::RowAt;
 use std::alloc::Global;
 use world_model::{AsmRec, TypeExpr};
-
-/// The signature of the member that a reference names, with its types.
-#[derive(Drop)]
-pub(crate) enum Wanted {
-    Method(MethodType),
-    Field(TypeExpr),
-}
 
 /// A member, and the type in which it was found.
 #[derive(Drop)]
 pub(crate) struct Found {
     pub(crate) at: RowAt,
     pub(crate) owner: TypeExpr,
-}
-
-/// The member with this name and signature that the definition of a type has.
-fn look_for(
-    alloc: Global,
-    linked: &Linked<'_>,
-    name: &[u8],
-    wanted: &Wanted,
-    ty: &TypeExpr,
-) -> Result<Option<RowAt>, NoMemory>
-    requires { IsLinked linked.now }
-    ensures { IfOk result (λ at. at ≡ look_for linked.now.all.now name.now wanted.now ty.now) }
-{
-    match wanted {
-        Wanted::Method(wanted) => method_of_type(alloc, linked, name, wanted, ty),
-        Wanted::Field(wanted) => field_of_type(alloc, linked, name, wanted, ty),
-    }
 }
 
 #[tactic(auto, unfolding(link_rules::specs::Members::type_count))]

@@ -13,11 +13,11 @@ mod linked;
 mod links;
 mod members;
 mod method_types;
+mod names;
 mod own_types;
 mod owners;
 mod params;
 mod references;
-mod runs;
 mod uses;
 
 pub use links::{field_links, method_links};

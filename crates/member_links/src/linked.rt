@@ -1,7 +1,9 @@
-ghost use Rattle.std.specs.Prelude.{◌≡◌, MatchResult};
+ghost use Rattle.std.specs.Prelude.{◌≡◌, slice_get, MatchResult};
+ghost use Rattle.std.specs.Option.{option_copied};
 ghost use Rattle.link_rules.specs.Signatures.{token_type};
 ghost use Rattle.member_links.specs.Linked.{IsScope};
 
+use crate::names::Names;
 use il_base::AsmId;
 use world_model::{AsmRec, BadKind, Known, TypeExpr, TypeLink, type_link_at};
 
@@ -10,6 +12,8 @@ use world_model::{AsmRec, BadKind, Known, TypeExpr, TypeLink, type_link_at};
 pub(crate) struct Linked<'a> {
     pub(crate) all: &'a [AsmRec],
     pub(crate) links: &'a [TypeLink],
+    /// The members of each assembly by name.
+    pub(crate) names: &'a [Names<'a>],
 }
 
 /// The assembly among them whose tokens are read.
@@ -19,6 +23,13 @@ pub(crate) struct Scope<'a> {
     /// Its place, from 0.
     pub(crate) asm: u32,
     pub(crate) rec: &'a AsmRec,
+}
+
+/// The assembly in a place, from 0.
+pub(crate) fn assembly_at(all: &[AsmRec], asm: u32) -> Option<&AsmRec>
+    ensures { option_copied result ≡ slice_get all.now asm }
+{
+    all.get(asm as usize)
 }
 
 impl<'a> Scope<'a> {

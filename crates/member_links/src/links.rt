@@ -7,9 +7,11 @@ ghost use Rattle.link_rules.specs.Laws.{AreTypeLinks};
 ghost use Rattle.member_links.specs.Linked.{IsScope};
 ghost use Rattle.member_links.specs.Definitions.{OwnMethods, OwnFields};
 
+use crate::counted::row_of;
 use crate::definitions::{Definitions, field_def_use, method_def_use};
 use crate::instances::method_spec_use;
 use crate::linked::{Linked, Scope};
+use crate::names::names_of;
 use crate::params::token_of;
 use crate::references::{field_ref_use, method_ref_use};
 use il_base::{AsmId, NoMemory};
@@ -33,16 +35,6 @@ fn field_link(asm: u32, table: u8, k: usize, to: Known<FieldUse>) -> Result<Fiel
     let token = token_of(table, k)?;
     let asm = AsmId(asm);
     Ok(FieldLink { asm, token, to })
-}
-
-/// The row as a number of 32 bits.
-fn row_of(k: usize) -> Result<u32, NoMemory>
-    ensures { IfOk result (λ row. row ≡ k) }
-{
-    match u32::try_from(k) {
-        Ok(row) => Ok(row),
-        Err(_) => Err(NoMemory),
-    }
 }
 
 /// Puts the links of the MethodDef rows at the end.
@@ -174,7 +166,12 @@ pub fn method_links(
     ensures { IfOk result (λ methods. methods.items ≡ links_from (methods_of all.now) 0 all.now) }
 {
     links_tell();
-    let linked = Linked { all, links };
+    let names = names_of(alloc, all)?;
+    let linked = Linked {
+        all,
+        links,
+        names: names.as_slice(),
+    };
     let mut methods = Vec::new(alloc);
     for (a, rec) in all.iter().enumerate() {
         let scope = Scope {
@@ -198,7 +195,12 @@ pub fn field_links(
     ensures { IfOk result (λ fields. fields.items ≡ links_from (fields_of all.now) 0 all.now) }
 {
     links_tell();
-    let linked = Linked { all, links };
+    let names = names_of(alloc, all)?;
+    let linked = Linked {
+        all,
+        links,
+        names: names.as_slice(),
+    };
     let mut fields = Vec::new(alloc);
     for (a, rec) in all.iter().enumerate() {
         let scope = Scope {

@@ -4,8 +4,9 @@ ghost use Rattle.link_rules.specs.Signatures.{names_at, method_type};
 ghost use Rattle.link_rules.specs.Members.{find_method, find_field, method_use, field_use, method_in_parent, field_in_parent, method_ref_use, field_ref_use};
 ghost use Rattle.member_links.specs.Linked.{IsLinked, IsScope};
 
-use crate::found::{Wanted, find_member};
+use crate::found::find_member;
 use crate::linked::{Linked, Scope};
+use crate::members::Wanted;
 use crate::method_types::{method_type, sig_type};
 use crate::uses::{field_use, method_use};
 use il_base::{MethodSig, NoMemory, Sig};
@@ -36,7 +37,7 @@ fn wanted_type(alloc: Global, scope: &Scope<'_>, sig: &Sig) -> Result<Known<Type
 }
 
 /// The method with this name and signature that a parent has.
-#[tactic(auto, unfolding(link_rules::specs::Members::find_method))]
+#[tactic(auto, unfolding(link_rules::specs::Members::find_method, link_rules::specs::Members::method_of_type, crate::specs::Wanted::look_for, crate::specs::Wanted::member_in))]
 fn method_found(
     alloc: Global,
     linked: &Linked<'_>,
@@ -55,7 +56,7 @@ fn method_found(
 }
 
 /// The field with this name and type that a parent has.
-#[tactic(auto, unfolding(link_rules::specs::Members::find_field))]
+#[tactic(auto, unfolding(link_rules::specs::Members::find_field, link_rules::specs::Members::field_of_type, crate::specs::Wanted::look_for, crate::specs::Wanted::member_in))]
 fn field_found(
     alloc: Global,
     linked: &Linked<'_>,

@@ -1,6 +1,6 @@
 use Rattle.std.proofs.Common.{◌≡◌, ℕ, Some, None, sym, ap, ◌∙◌}
 use Rattle.link_rules.specs.Members.{base_of}
-use Rattle.member_links.specs.Found.{look_for}
+use Rattle.member_links.specs.Wanted.{look_for}
 use Rattle.member_links.proofs.Searching.{found_from, found_here, found_next, found_last, found_none}
 use Rattle.member_links.proofs.found.search.Goals as goal
 

@@ -1,6 +1,6 @@
 use Rattle.std.proofs.Common.{◌≡◌, ◌-◌}
 use Rattle.link_rules.specs.Members.{bases_from, search}
-use Rattle.member_links.specs.Found.{look_for}
+use Rattle.member_links.specs.Wanted.{look_for}
 use Rattle.member_links.proofs.found.search.Given as goal
 
 abbrev pub invariant-loop : goal.invariant-loop
