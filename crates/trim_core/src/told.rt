@@ -1,12 +1,7 @@
 //! The record of a file, where it can be taken.
 
-ghost use Rattle.std.specs.Prelude.{◌≡◌, ◌≤◌, ◌∷◌, [], List, length, None, IfOk, IsTrue};
-ghost use Rattle.cli_format.specs.Demand.{first_fault};
-ghost use Rattle.record_format.specs.Record.{record_demands, record_at, HasRecord};
-ghost use Rattle.world_model.specs.declared.record.AsmRec.{AsmRec};
-ghost use Rattle.world_model.specs.Thin.{is_thin};
-ghost use Rattle.link_rules.specs.Linked.{link_fault_of};
-ghost use Rattle.trim_core.specs.Told.{ToldWorld, told_alone, most_bytes, offset_of, name_of};
+ghost use Rattle.std.specs.Prelude.{◌≡◌, ◌≤◌, length, IfOk};
+ghost use Rattle.trim_core.specs.Told.{RefusedBy, AloneRead, ReadAlone, StartsLinked, starts_thin, unlinked_as, ToldWorld, told_alone, most_bytes, offset_of, name_of};
 
 use crate::answers::Refusal;
 use il_base::{BadAt, NoMemory, Seq, Text};
@@ -32,43 +27,67 @@ fn offset_of(alloc: Global, file: &[u8], token: u32) -> Result<u32, NoMemory>
     }
 }
 
+/// The record of a file, alone in a list.
+fn read_alone(alloc: Global, file: &[u8]) -> Result<Seq<AsmRec>, RecordError>
+    requires { length file.now ≤ most_bytes }
+    ensures { ReadAlone file.now result }
+{
+    let mut recs = Seq::new(alloc);
+    match read_record(alloc, file) {
+        Err(error) => Err(error),
+        Ok(rec) => match recs.push(rec) {
+            Ok(()) => Ok(recs),
+            Err(NoMemory) => Err(RecordError::NoMemory),
+        },
+    }
+}
+
+/// What a demand of linking that fails is answered with, by the offset of its row.
+fn unlinked(alloc: Global, file: &[u8], input: u32, why: u8, token: u32) -> Refusal
+    requires { length file.now ≤ most_bytes }
+    ensures { RefusedBy (unlinked_as file.now input why token) result }
+{
+    match offset_of(alloc, file, token) {
+        Err(NoMemory) => Refusal::NoMemory,
+        Ok(offset) => Refusal::BadFile {
+            file: input,
+            at: BadAt { offset, why },
+        },
+    }
+}
+
+/// Whether the first record of a world is thin.
+fn starts_thin(world: &World) -> bool
+    requires { StartsLinked world.now.recs }
+    ensures { result ≡ starts_thin world.now.recs }
+{
+    match world.recs.as_slice() {
+        [] => false,
+        [rec, ..] => is_thin_linked(rec),
+    }
+}
+
 /// The world of a file's record and the core library, where it links and is thin.
 #[tactic(auto, unfolding(crate::specs::Told::told_alone))]
-fn link_told(alloc: Global, file: &[u8], rec: AsmRec) -> Result<World, Refusal>
+fn link_told(alloc: Global, file: &[u8], inputs: Seq<AsmRec>) -> Result<World, Refusal>
     requires small { length file.now ≤ most_bytes }
-    requires good { first_fault (record_demands file.now) ≡ None }
-    requires read { rec ≡ record_at file.now }
-    requires has { HasRecord file.now rec }
+    requires read { AloneRead file.now inputs }
     ensures { ToldWorld file.now result }
 {
-    let mut inputs = Seq::new(alloc);
-    match inputs.push(rec) {
-        Ok(()) => {}
-        Err(NoMemory) => return Err(Refusal::NoMemory),
-    }
     match link(alloc, inputs) {
         Err(LinkError::NoMemory) => Err(Refusal::NoMemory),
         Err(LinkError::Bad {
             file: input,
             why,
             token,
-        }) => match offset_of(alloc, file, token) {
-            Err(NoMemory) => Err(Refusal::NoMemory),
-            Ok(offset) => Err(Refusal::BadFile {
-                file: input,
-                at: BadAt { offset, why },
-            }),
-        },
-        Ok(world) => match world.recs.as_slice() {
-            [] => unreachable!(),
-            [rec, ..] => {
-                if is_thin_linked(rec) {
-                    Ok(world)
-                } else {
-                    Err(Refusal::NotYet { file: 0 })
-                }
+        }) => Err(unlinked(alloc, file, input, why, token)),
+        Ok(world) => {
+            if starts_thin(&world) {
+                Ok(world)
+            } else {
+                Err(Refusal::NotYet { file: 0 })
             }
-        },
+        }
     }
 }
 
@@ -81,11 +100,11 @@ pub(crate) fn told_world(alloc: Global, file: &[u8]) -> Result<World, Refusal>
         let found = file.len() as u64;
         return Err(Refusal::Limit { which: 2, found });
     }
-    match read_record(alloc, file) {
+    match read_alone(alloc, file) {
         Err(RecordError::Bad(at)) => Err(Refusal::BadFile { file: 0, at }),
         Err(RecordError::Rows { found }) => Err(Refusal::Limit { which: 5, found }),
         Err(RecordError::NoMemory) => Err(Refusal::NoMemory),
-        Ok(rec) => link_told(alloc, file, rec),
+        Ok(inputs) => link_told(alloc, file, inputs),
     }
 }
 
