@@ -39,11 +39,7 @@ fn added_type(alloc: Global, core: &AsmRec, name: &CoreTypeName) -> Result<TypeD
 
 /// Puts a type without members behind those of the core library for each of these names.
 #[tactic(auto, unfolding(link_rules::specs::CoreNames::core_with))]
-pub fn add_names(
-    alloc: Global,
-    core: &mut AsmRec,
-    names: &[CoreTypeName],
-) -> Result<(), NoMemory>
+pub fn add_names(alloc: Global, core: &mut AsmRec, names: &[CoreTypeName]) -> Result<(), NoMemory>
     ensures { OnOk result (core.new ≡ core_with core.old names.now) }
 {
     for name in names {

@@ -6,7 +6,6 @@ mod assemblies;
 mod homes;
 mod kind;
 mod linking;
-
 #[cfg(test)]
 mod tests;
 

@@ -21,24 +21,24 @@ module _ (file : List ℕ) (small : length file ≤ most_bytes) (inputs : List A
   told_is : told_alone file ≡ if_linked file (record_at file)
   unfolding told_alone
   told_is =
-    let t : nat_le (length file) most_bytes ≡ true = grind (arith, nat_tests) in
-    rw (t, a.good) refl
+      let t : nat_le (length file) most_bytes ≡ true = grind (arith, nat_tests) in
+      rw (t, a.good) refl
 
   fault_is : link_fault_of (record_at file ∷ []) ≡ link_fault_of inputs
   fault_is = ap link_fault_of (sym a.one)
 
   pub is_refused : (i why token : ℕ) (answer : Refusal) → link_fault_of inputs ≡ Some (unlinked.Bad i why token) → RefusedBy (unlinked_as file i why token) answer → Told (told_alone file) (Err answer)
   is_refused i why token answer h r =
-    let e : told_alone file ≡ Err (unlinked_as file i why token) = told_is ∙ ap (told_linked file (record_at file)) (fault_is ∙ h) in
-    rw e r
+      let e : told_alone file ≡ Err (unlinked_as file i why token) = told_is ∙ ap (told_linked file (record_at file)) (fault_is ∙ h) in
+      rw e r
 
   links : link_fault_of inputs ≡ None → told_alone file ≡ if_thin (record_at file)
   links h = told_is ∙ ap (told_linked file (record_at file)) (fault_is ∙ h)
 
   pub not_yet : link_fault_of inputs ≡ None → is_thin (record_at file) ≡ false → Told (told_alone file) (Err (refusal.NotYet 0))
   not_yet h f =
-    let e : told_alone file ≡ Err (refusal.NotYet 0) = links h ∙ rw f refl in
-    rw e refl
+      let e : told_alone file ≡ Err (refusal.NotYet 0) = links h ∙ rw f refl in
+      rw e refl
 
   -- the world's first record is the file's
   pub first_is : (w : World) → w ≡ world_of inputs → w.recs ≡ record_at file ∷ (core_with core_record (missing_names core_record inputs) ∷ [])

@@ -76,11 +76,13 @@ fn link_told(alloc: Global, file: &[u8], inputs: Seq<AsmRec>) -> Result<World, R
 {
     match link(alloc, inputs) {
         Err(LinkError::NoMemory) => Err(Refusal::NoMemory),
-        Err(LinkError::Bad {
-            file: input,
-            why,
-            token,
-        }) => Err(unlinked(alloc, file, input, why, token)),
+        Err(
+            LinkError::Bad {
+                file: input,
+                why,
+                token,
+            },
+        ) => Err(unlinked(alloc, file, input, why, token)),
         Ok(world) => {
             if starts_thin(&world) {
                 Ok(world)

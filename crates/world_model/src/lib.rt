@@ -29,7 +29,8 @@ pub use assemblies::{
 };
 pub use core_member::CoreMember;
 pub use core_refs::{
-    index_in, is_core_name, is_core_scope, is_system_type, is_type_token, prim_code, resolve_core_member,
+    index_in, is_core_name, is_core_scope, is_system_type, is_type_token, prim_code,
+    resolve_core_member,
 };
 pub use expr::{FieldUse, MemberSig, MethodUse, TypeExpr};
 pub use extras::{

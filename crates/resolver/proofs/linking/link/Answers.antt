@@ -18,6 +18,7 @@ returns-in-Err-link_fault c =
     (faults c.args.recs c.as_slice-2.result.now c.len-inputs.result (c.as_slice-2.ensures ∙ c.in-Ok.ensures) c.len-inputs.ensures) c.in-Err-link_fault.ensures)
 
 pub returns-in-Ok-world_with : goal.returns-in-Ok-world_with
-returns-in-Ok-world_with c =
-    (sym (faults c.args.recs c.as_slice-2.result.now c.len-inputs.result (c.as_slice-2.ensures ∙ c.in-Ok.ensures) c.len-inputs.ensures) ∙ c.in-Ok-link_fault.ensures,
-    c.in-Ok-world_with.ensures ∙ ap (λ (xs : List AsmRec). world_in xs) c.in-Ok.ensures)
+returns-in-Ok-world_with c = (
+  sym (faults c.args.recs c.as_slice-2.result.now c.len-inputs.result (c.as_slice-2.ensures ∙ c.in-Ok.ensures) c.len-inputs.ensures) ∙ c.in-Ok-link_fault.ensures,
+  c.in-Ok-world_with.ensures ∙ ap (λ (xs : List AsmRec). world_in xs) c.in-Ok.ensures,
+)
