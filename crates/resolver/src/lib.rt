@@ -6,7 +6,4 @@ mod assemblies;
 mod homes;
 mod kind;
 mod linking;
-#[cfg(test)]
-mod tests;
-
 pub use linking::link;
