@@ -6,4 +6,5 @@ mod assemblies;
 mod homes;
 mod kind;
 mod linking;
+
 pub use linking::link;
