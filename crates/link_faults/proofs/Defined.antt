@@ -37,16 +37,17 @@ module _ (all : List AsmRec) where
   same_decides : (x y : RowAt) (b : Bool) → same_row x y ≡ b → (b ≡ true → x ≡ y) × (x ≡ y → b ≡ true)
   same_decides x y b e = (
     λ h.
-      let p = and_parts (nat_eq x.asm y.asm) (nat_eq x.row y.row) (e ∙ h) in
-      λ i. at_row (eqb-true x.asm y.asm p.0 i) (eqb-true x.row y.row p.1 i),
-    λ h. sym e ∙ and_from (nat_eq x.asm y.asm) (nat_eq x.row y.row) (eq-eqb x.asm y.asm (ap (λ (r : RowAt). r.asm) h)) (eq-eqb x.row y.row (ap (λ (r : RowAt). r.row) h))
+        let p = and_parts (nat_eq x.asm y.asm) (nat_eq x.row y.row) (e ∙ h) in
+        λ i. at_row (eqb-true x.asm y.asm p.0 i) (eqb-true x.row y.row p.1 i),
+    λ h. sym e ∙ and_from (nat_eq x.asm y.asm) (nat_eq x.row y.row) (eq-eqb x.asm y.asm (ap (λ (r : RowAt). r.asm) h)) (eq-eqb x.row y.row (ap (λ (r : RowAt). r.row) h)),
   )
 
   pub same_by_id : (x y : RowAt) → IsType x → IsType y → same_row x y ≡ nat_eq (id_of all x) (id_of all y)
   same_by_id x y p q =
-      same_from_decides (same_row x y) (nat_eq (id_of all x) (id_of all y)) (same_decides x y (same_row x y) refl)
-      (λ h. let e : Some x ≡ Some y = sym p ∙ ap (home_from types_in 0 all) (eqb-true (id_of all x) (id_of all y) h) ∙ q in cc,
-      λ e. eq-eqb (id_of all x) (id_of all y) (ap (id_of all) e))
+      same_from_decides (same_row x y) (nat_eq (id_of all x) (id_of all y)) (same_decides x y (same_row x y) refl) (
+        λ h. let e : Some x ≡ Some y = sym p ∙ ap (home_from types_in 0 all) (eqb-true (id_of all x) (id_of all y) h) ∙ q in cc,
+        λ e. eq-eqb (id_of all x) (id_of all y) (ap (id_of all) e),
+      )
 
   -- ---- what a type leads to
 

@@ -179,41 +179,39 @@ method_decides m n =
     let p : Bool = same_bool m.this n.this in
     let q : Bool = nat_eq m.generic n.generic in
     let r : Bool = same_expr m.ret n.ret in
-    let s : Bool = same_exprs m.params n.params in
-    (
+    let s : Bool = same_exprs m.params n.params in (
       λ h.
-        let pqr : (p && q && r) ≡ true = first_so (p && q && r) s h in
-        let pq : (p && q) ≡ true = first_so (p && q) r pqr in
-        let this : m.this ≡ n.this = same_bools m.this n.this (first_so p q pq) in
-        let generic : m.generic ≡ n.generic = eqb-true m.generic n.generic (second_so p q pq) in
-        let ret : m.ret ≡ n.ret = (same_decides m.ret n.ret).0 (second_so (p && q) r pqr) in
-        let params : m.params ≡ n.params = (all_decide m.params n.params).0 (second_so (p && q && r) s h) in
-        λ i. record { this = this i; generic = generic i; ret = ret i; params = params i },
+          let pqr : (p && q && r) ≡ true = first_so (p && q && r) s h in
+          let pq : (p && q) ≡ true = first_so (p && q) r pqr in
+          let this : m.this ≡ n.this = same_bools m.this n.this (first_so p q pq) in
+          let generic : m.generic ≡ n.generic = eqb-true m.generic n.generic (second_so p q pq) in
+          let ret : m.ret ≡ n.ret = (same_decides m.ret n.ret).0 (second_so (p && q) r pqr) in
+          let params : m.params ≡ n.params = (all_decide m.params n.params).0 (second_so (p && q && r) s h) in
+          λ i. record { this = this i; generic = generic i; ret = ret i; params = params i },
       λ e.
-        let this : p ≡ true = ap (λ (x : MethodType). same_bool m.this x.this) (sym e) ∙ own_bool m.this in
-        let generic : q ≡ true = eq-eqb m.generic n.generic (ap (λ (x : MethodType). x.generic) e) in
-        let ret : r ≡ true = (same_decides m.ret n.ret).1 (ap (λ (x : MethodType). x.ret) e) in
-        let params : s ≡ true = (all_decide m.params n.params).1 (ap (λ (x : MethodType). x.params) e) in
-        and_from (p && q && r) s (and_from (p && q) r (and_from p q this generic) ret) params
+          let this : p ≡ true = ap (λ (x : MethodType). same_bool m.this x.this) (sym e) ∙ own_bool m.this in
+          let generic : q ≡ true = eq-eqb m.generic n.generic (ap (λ (x : MethodType). x.generic) e) in
+          let ret : r ≡ true = (same_decides m.ret n.ret).1 (ap (λ (x : MethodType). x.ret) e) in
+          let params : s ≡ true = (all_decide m.params n.params).1 (ap (λ (x : MethodType). x.params) e) in
+          and_from (p && q && r) s (and_from (p && q) r (and_from p q this generic) ret) params,
     )
 
 member_decides : {A : Type 0} (same : A → A → Bool) → ((x y : A) → Decides (same x y) (x ≡ y)) → (a b : MemberKey A) → Decides (same_member_key same a b) (a ≡ b)
 member_decides {A} same decides a b =
     let p : Bool = nat_eq a.owner b.owner in
     let q : Bool = same_name a.name b.name in
-    let r : Bool = same a.signature b.signature in
-    (
+    let r : Bool = same a.signature b.signature in (
       λ h.
-        let pq : (p && q) ≡ true = first_so (p && q) r h in
-        let owner : a.owner ≡ b.owner = eqb-true a.owner b.owner (first_so p q pq) in
-        let name : a.name ≡ b.name = (bytes_eq-Decides a.name b.name).0 (second_so p q pq) in
-        let signature : a.signature ≡ b.signature = (decides a.signature b.signature).0 (second_so (p && q) r h) in
-        λ i. record { owner = owner i; name = name i; signature = signature i },
+          let pq : (p && q) ≡ true = first_so (p && q) r h in
+          let owner : a.owner ≡ b.owner = eqb-true a.owner b.owner (first_so p q pq) in
+          let name : a.name ≡ b.name = (bytes_eq-Decides a.name b.name).0 (second_so p q pq) in
+          let signature : a.signature ≡ b.signature = (decides a.signature b.signature).0 (second_so (p && q) r h) in
+          λ i. record { owner = owner i; name = name i; signature = signature i },
       λ e.
-        let owner : p ≡ true = eq-eqb a.owner b.owner (ap (λ (x : MemberKey A). x.owner) e) in
-        let name : q ≡ true = (bytes_eq-Decides a.name b.name).1 (ap (λ (x : MemberKey A). x.name) e) in
-        let signature : r ≡ true = (decides a.signature b.signature).1 (ap (λ (x : MemberKey A). x.signature) e) in
-        and_from (p && q) r (and_from p q owner name) signature
+          let owner : p ≡ true = eq-eqb a.owner b.owner (ap (λ (x : MemberKey A). x.owner) e) in
+          let name : q ≡ true = (bytes_eq-Decides a.name b.name).1 (ap (λ (x : MemberKey A). x.name) e) in
+          let signature : r ≡ true = (decides a.signature b.signature).1 (ap (λ (x : MemberKey A). x.signature) e) in
+          and_from (p && q) r (and_from p q owner name) signature,
     )
 
 place_decides : (o p : Option ℕ) → Decides (same_place o p) (o ≡ p)
@@ -226,19 +224,18 @@ type_key_decides : (a b : TypeKey) → Decides (same_type_key a b) (a ≡ b)
 type_key_decides a b =
     let p : Bool = same_name a.name b.name in
     let q : Bool = same_name a.namespace b.namespace in
-    let r : Bool = same_place a.encloser b.encloser in
-    (
+    let r : Bool = same_place a.encloser b.encloser in (
       λ h.
-        let pq : (p && q) ≡ true = first_so (p && q) r h in
-        let name : a.name ≡ b.name = (bytes_eq-Decides a.name b.name).0 (first_so p q pq) in
-        let namespace : a.namespace ≡ b.namespace = (bytes_eq-Decides a.namespace b.namespace).0 (second_so p q pq) in
-        let encloser : a.encloser ≡ b.encloser = (place_decides a.encloser b.encloser).0 (second_so (p && q) r h) in
-        λ i. record { namespace = namespace i; name = name i; encloser = encloser i },
+          let pq : (p && q) ≡ true = first_so (p && q) r h in
+          let name : a.name ≡ b.name = (bytes_eq-Decides a.name b.name).0 (first_so p q pq) in
+          let namespace : a.namespace ≡ b.namespace = (bytes_eq-Decides a.namespace b.namespace).0 (second_so p q pq) in
+          let encloser : a.encloser ≡ b.encloser = (place_decides a.encloser b.encloser).0 (second_so (p && q) r h) in
+          λ i. record { namespace = namespace i; name = name i; encloser = encloser i },
       λ e.
-        let name : p ≡ true = (bytes_eq-Decides a.name b.name).1 (ap (λ (x : TypeKey). x.name) e) in
-        let namespace : q ≡ true = (bytes_eq-Decides a.namespace b.namespace).1 (ap (λ (x : TypeKey). x.namespace) e) in
-        let encloser : r ≡ true = (place_decides a.encloser b.encloser).1 (ap (λ (x : TypeKey). x.encloser) e) in
-        and_from (p && q) r (and_from p q name namespace) encloser
+          let name : p ≡ true = (bytes_eq-Decides a.name b.name).1 (ap (λ (x : TypeKey). x.name) e) in
+          let namespace : q ≡ true = (bytes_eq-Decides a.namespace b.namespace).1 (ap (λ (x : TypeKey). x.namespace) e) in
+          let encloser : r ≡ true = (place_decides a.encloser b.encloser).1 (ap (λ (x : TypeKey). x.encloser) e) in
+          and_from (p && q) r (and_from p q name namespace) encloser,
     )
 
 pub field_key_by_code : (a b : MemberKey TypeExpr) → same_member_key same_expr a b ≡ bytes_eq (member_code type_code a) (member_code type_code b)

@@ -69,15 +69,15 @@ module _ (all : List AsmRec) (links : List TypeLink) (a : ℕ) (rec : AsmRec) (t
     field_coded k f =
         if_coded (member_code type_code) (is_private_scope f.flags) (member_key f.name (owner_in member.Field rec k) (known_then (sig_expr (names_at all a rec)) f.signature)) _
         (member_coded type_code f.name (owner_in member.Field rec k) (known_then (sig_expr (names_at all a rec)) f.signature)
-          ∙ ap (λ (o : Option TypeExpr). code_of_member f.name (owner_in member.Field rec k) (option_map type_code o))
-          (ap (λ (x : Known TypeExpr). good x) (type_told f.signature) ∙ good_same (known_then (sig_expr (names_by all links a)) f.signature)))
+        ∙ ap (λ (o : Option TypeExpr). code_of_member f.name (owner_in member.Field rec k) (option_map type_code o))
+        (ap (λ (x : Known TypeExpr). good x) (type_told f.signature) ∙ good_same (known_then (sig_expr (names_by all links a)) f.signature)))
 
     pub field_repeated : repeated_row a 0x04 (first_repeat bytes_eq (field_codes all links a rec)) ≡ repeated_field all a rec
     unfolding repeated_field
     field_repeated =
         ap (repeated_row a 0x04)
         (ap (first_repeat bytes_eq) (sym (map_numbered (option_map (member_code type_code)) (field_key all a rec) (λ k f. code_of_field all links a (owner_in member.Field rec k) f) field_coded 0 rec.field))
-          ∙ sym (repeat_by_code (same_member_key same_expr) (member_code type_code) field_key_by_code (numbered (field_key all a rec) 0 rec.field)))
+        ∙ sym (repeat_by_code (same_member_key same_expr) (member_code type_code) field_key_by_code (numbered (field_key all a rec) 0 rec.field)))
 
   module _ (told : TellMethods all links) where
     method_told : (k : Known MethodSig) → known_then (method_type (names_at all a rec)) k ≡ known_then (method_type (names_by all links a)) k
@@ -88,11 +88,11 @@ module _ (all : List AsmRec) (links : List TypeLink) (a : ℕ) (rec : AsmRec) (t
     method_coded k m =
         if_coded (member_code method_code) (is_private_scope m.flags) (member_key m.name (owner_in member.Method rec k) (known_then (method_type (names_at all a rec)) m.signature)) _
         (member_coded method_code m.name (owner_in member.Method rec k) (known_then (method_type (names_at all a rec)) m.signature)
-          ∙ ap (λ (x : Known MethodType). code_of_member m.name (owner_in member.Method rec k) (option_map method_code (good x))) (method_told m.signature))
+        ∙ ap (λ (x : Known MethodType). code_of_member m.name (owner_in member.Method rec k) (option_map method_code (good x))) (method_told m.signature))
 
     pub method_repeated : repeated_row a 0x06 (first_repeat bytes_eq (method_codes all links a rec)) ≡ repeated_method all a rec
     unfolding repeated_method
     method_repeated =
         ap (repeated_row a 0x06)
         (ap (first_repeat bytes_eq) (sym (map_numbered (option_map (member_code method_code)) (method_key all a rec) (λ k m. code_of_method all links a (owner_in member.Method rec k) m) method_coded 0 rec.method_def))
-          ∙ sym (repeat_by_code (same_member_key same_method_type) (member_code method_code) method_key_by_code (numbered (method_key all a rec) 0 rec.method_def)))
+        ∙ sym (repeat_by_code (same_member_key same_method_type) (member_code method_code) method_key_by_code (numbered (method_key all a rec) 0 rec.method_def)))

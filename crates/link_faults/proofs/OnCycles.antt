@@ -48,7 +48,7 @@ module _ (all : List AsmRec) (links : List TypeLink) (told : Tells all links) (g
     unfolding is_cyclic_type
     cyclic_first now e b f h =
         sym (or_left (is_on_cycle same_row (supertypes all) (type_count all) (at_row file at)) (is_on_cycle same_row (field_values all) (type_count all) (at_row file at))
-          (sym (in_supers now e) ∙ sym f ∙ h))
+        (sym (in_supers now e) ∙ sym f ∙ h))
 
     pub cyclic_second : (now held : List (List ℕ)) → now ≡ graphs.supers.items → held ≡ graphs.held.items → (b c : Bool) → b ≡ is_on_cycle nat_eq (next_in now) n id.0 → b ≡ false
         → c ≡ is_on_cycle nat_eq (next_in held) n id.0 → c ≡ is_cyclic_type all (at_row file at)

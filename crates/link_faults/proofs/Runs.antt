@@ -16,5 +16,5 @@ pub passed_run : (first end at len k : ℕ) → k < len → first - 1 ≤ at →
 passed_run first end at len k lt near le far =
     same_from_decides (nat_le (first - 1) k && nat_lt k at) (nat_le first (suc k) && nat_lt (suc k) end)
     (Decides-like _ (λ p. let a = p.0 in let b = p.1 in (omega arith, omega arith)) (λ p. let a = p.0 in let b = p.1 in (omega arith, omega arith))
-      (Decides-and (nat_le (first - 1) k) (nat_lt k at) (decides_le (first - 1) k) (decides_lt k at)))
+    (Decides-and (nat_le (first - 1) k) (nat_lt k at) (decides_le (first - 1) k) (decides_lt k at)))
     (Decides-and (nat_le first (suc k)) (nat_lt (suc k) end) (decides_le first (suc k)) (decides_lt (suc k) end))

@@ -85,8 +85,8 @@ module _ (all : List AsmRec) where
     supers_told =
         ids_joined (listed (base_at all at)) (interfaces_at all at)
         ∙ (λ i.
-            (ap (λ (o : Option TypeExpr). ids (flat_map homes (listed o))) base_is ∙ base_ids links told at.asm t.rec t.there t.row) i
-            ++ (ap (λ (es : List TypeExpr). ids (flat_map homes es)) interfaces_are ∙ interface_ids links told at.asm t.rec t.there (token_of 0x02 (suc at.row)) t.rec.interface_impl) i)
+        (ap (λ (o : Option TypeExpr). ids (flat_map homes (listed o))) base_is ∙ base_ids links told at.asm t.rec t.there t.row) i
+        ++ (ap (λ (es : List TypeExpr). ids (flat_map homes es)) interfaces_are ∙ interface_ids links told at.asm t.rec t.there (token_of 0x02 (suc at.row)) t.rec.interface_impl) i)
 
   supers_each : (at : RowAt) → Each (IsType all) (supertypes all at)
   unfolding supertypes

@@ -50,7 +50,7 @@ module _ (all : List AsmRec) (j : ℕ) where
       let second : Bool = token_of 0x02 (suc x.row) == token in
       same_from_decides (is_core_row_at all token x) (nat_eq (id_of all x) (rows_before types_in all (length all - 1) + j)) (
         (λ h. let p = and_parts first second h in let e = eqb-true (suc x.asm) (length all) p.0 in let f = eqb-true (token_of 0x02 (suc x.row)) token p.1 in id_by_row x e (omega arith)),
-        (λ e. let p = row_by_id x (type_at all x t) e in and_from first second (eq-eqb (suc x.asm) (length all) p.0) (eq-eqb (token_of 0x02 (suc x.row)) token (let f = p.1 in omega arith)))
+        (λ e. let p = row_by_id x (type_at all x t) e in and_from first second (eq-eqb (suc x.asm) (length all) p.0) (eq-eqb (token_of 0x02 (suc x.row)) token (let f = p.1 in omega arith))),
       ) (Decides-eqb (id_of all x) (rows_before types_in all (length all - 1) + j))
 
   pub own_row : (token : ℕ) → token ≡ 0x02000001 + j → (x : RowAt) → is_core_row_at all token x ≡ (nat_eq (suc x.asm) (length all) && nat_eq x.row j)

@@ -53,7 +53,13 @@ impl Graphs {
 
     /// Whether the type in this row of an assembly is on a cycle.
     #[tactic(auto, unfolding(link_rules::specs::Faults::is_cyclic_type))]
-    fn is_cyclic(&self, alloc: Global, scope: &Scope<'_>, file: usize, at: usize) -> Result<bool, NoMemory>
+    fn is_cyclic(
+        &self,
+        alloc: Global,
+        scope: &Scope<'_>,
+        file: usize,
+        at: usize,
+    ) -> Result<bool, NoMemory>
         requires told { Tells scope.now.all.now scope.now.links.now }
         requires graphs { AreGraphs scope.now.all.now scope.now.links.now self.now }
         requires there { HasType scope.now.all.now file at }

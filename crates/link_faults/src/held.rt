@@ -119,7 +119,11 @@ fn held_by(
     if !is_value(scope, asm, at, row)? {
         return Ok(held);
     }
-    for field in run_of(rec.field.as_slice(), row.field_list_first, row.field_list_end) {
+    for field in run_of(
+        rec.field.as_slice(),
+        row.field_list_first,
+        row.field_list_end,
+    ) {
         add_field(alloc, scope, values, asm, field, &mut held)?;
     }
     Ok(held)

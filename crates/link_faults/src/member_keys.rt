@@ -190,7 +190,12 @@ pub(crate) fn field_codes(
 ) -> Result<Vec<Option<Seq<u32>>>, NoMemory>
     ensures { IfOk result (λ codes. codes.items ≡ field_codes scope.now.all.now scope.now.links.now asm.0 rec.now) }
 {
-    let owned = owners(alloc, Member::Field, rec.type_def.as_slice(), rec.field.len())?;
+    let owned = owners(
+        alloc,
+        Member::Field,
+        rec.type_def.as_slice(),
+        rec.field.len(),
+    )?;
     let mut codes = Vec::new(alloc);
     for (at, row) in rec.field.as_slice().iter().enumerate() {
         let code = code_of_field(alloc, scope, asm, owner_at(&owned, at), row)?;

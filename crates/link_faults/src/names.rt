@@ -45,10 +45,7 @@ fn is_taken(names: &HashSet<&[u8]>, name: &[u8]) -> bool
 
 /// The first assembly whose name is one of the core library's, or that of an earlier assembly.
 #[tactic(auto, unfolding(link_rules::specs::Faults::duplicate_assembly))]
-pub fn duplicate_assembly(
-    alloc: Global,
-    recs: &[AsmRec],
-) -> Result<Option<LinkError>, NoMemory>
+pub fn duplicate_assembly(alloc: Global, recs: &[AsmRec]) -> Result<Option<LinkError>, NoMemory>
     ensures { IfOk result (λ found. found ≡ duplicate_assembly recs.now) }
 {
     let mut names: HashSet<&[u8]> = HashSet::new(alloc);

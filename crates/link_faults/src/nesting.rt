@@ -52,7 +52,12 @@ fn enclosers_by(alloc: Global, rows: &[NestedClassRow]) -> Result<Vec<Seq<u32>>,
     for at in (0..rows.len()).rev() {
         let row = &rows[at];
         if let Some(nested) = index_in(0x02, row.nested_class) {
-            lead(alloc, &mut graph, nested, index_in(0x02, row.enclosing_class))?;
+            lead(
+                alloc,
+                &mut graph,
+                nested,
+                index_in(0x02, row.enclosing_class),
+            )?;
         }
     }
     Ok(graph)

@@ -14,7 +14,11 @@ use std::alloc::Global;
 use world_model::{AsmRec, InterfaceImplRow, TypeDefRow};
 
 /// The id of the definition of a type's base, where it has one.
-pub(crate) fn base_target(scope: &Scope<'_>, asm: AsmId, row: &TypeDefRow) -> Result<Option<u32>, NoMemory>
+pub(crate) fn base_target(
+    scope: &Scope<'_>,
+    asm: AsmId,
+    row: &TypeDefRow,
+) -> Result<Option<u32>, NoMemory>
     ensures { IfOk result (λ id. id ≡ base_target scope.now.all.now scope.now.links.now asm.0 row.now) }
 {
     if row.extends == 0 {

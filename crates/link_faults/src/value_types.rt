@@ -16,7 +16,11 @@ fn core_type(all: &[AsmRec], token: u32) -> Result<TypeId, NoMemory>
     requires { 0x02000001 ≤ token }
     ensures { IfOk result (λ id. id ≡ core_type all.now token) }
 {
-    match type_id(all, all.len().saturating_sub(1), (token - 0x0200_0001) as usize) {
+    match type_id(
+        all,
+        all.len().saturating_sub(1),
+        (token - 0x0200_0001) as usize,
+    ) {
         None => Err(NoMemory),
         Some(id) => Ok(id),
     }

@@ -6,7 +6,7 @@ pub add_type-returns-in_ok-add_count-in-Inst : goal.add_type-returns-in_ok-add_c
 add_type-returns-in_ok-add_count-in-Inst t c =
     on_ok_weaker c.add_types.result
     (λ e. rw c.in-Inst.is (inst_added c.args.code.now c.add_pair-in-Inst.new.code c.add_count.new.code c.add_types.new.code c.in-Inst.id c.len.result c.in-Inst.args c.as_slice.result.now
-      c.len.ensures c.in_ok-add_pair-in-Inst.ensures c.in_ok-add_count-in-Inst.ensures c.as_slice.ensures e))
+    c.len.ensures c.in_ok-add_pair-in-Inst.ensures c.in_ok-add_count-in-Inst.ensures c.as_slice.ensures e))
     c.add_types.ensures
 
 pub add_type-returns-in_ok-push-in-Array : goal.add_type-returns-in_ok-push-in-Array
@@ -25,5 +25,5 @@ pub add_type-returns-in_ok-push-in-Mod : goal.add_type-returns-in_ok-push-in-Mod
 add_type-returns-in_ok-push-in-Mod t c =
     on_ok_weaker c.add_type-in-Mod.result
     (λ e. rw c.in-Mod.is (mod_added c.args.code.now c.add_pair-in-Mod.new.code c.push-in-Mod.new.self c.add_type-in-Mod.new.code c.in-Mod.required c.bit.result c.in-Mod.by c.in-Mod.inner c.get-in-Mod.result.now
-      c.bit.ensures c.in_ok-add_pair-in-Mod.ensures c.in_ok-push-in-Mod.ensures.ok c.get-in-Mod.ensures e))
+    c.bit.ensures c.in_ok-add_pair-in-Mod.ensures c.in_ok-push-in-Mod.ensures.ok c.get-in-Mod.ensures e))
     c.add_type-in-Mod.ensures

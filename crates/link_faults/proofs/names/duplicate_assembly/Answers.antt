@@ -15,8 +15,8 @@ loop-file-init c = taken_first _ _ (λ name. ap (list_any (λ k. same_name name 
 pub returns-then-is_taken : goal.returns-then-is_taken
 returns-then-is_taken c =
     let is : Some (fault.Bad c.loop-file.file 14 0) ≡ duplicate_assembly c.args.recs.now =
-        taken_here (λ name. contains_by (λ k. same_name name k.now) c.loop-file.names) (λ name. contains_by (λ k. same_name name k.now) c.loop-file.names) c.args.recs.now c.loop-file.file c.index-recs-file.result _
-        (omega arith) c.index-recs-file.is (rw (← c.own_name-name.ensures) (sym c.is_taken.ensures ∙ c.if-is_taken.true)) c.loop-file.invariant in
+    taken_here (λ name. contains_by (λ k. same_name name k.now) c.loop-file.names) (λ name. contains_by (λ k. same_name name k.now) c.loop-file.names) c.args.recs.now c.loop-file.file c.index-recs-file.result _
+    (omega arith) c.index-recs-file.is (rw (← c.own_name-name.ensures) (sym c.is_taken.ensures ∙ c.if-is_taken.true)) c.loop-file.invariant in
     IfOk-weaker c.name_taken.result (λ (x : Option LinkError). x ≡ Some (fault.Bad c.loop-file.file 14 0)) (λ (x : Option LinkError). x ≡ duplicate_assembly c.args.recs.now) (λ x p. p ∙ is) c.name_taken.ensures
 
 pub loop-file-preserved : goal.loop-file-preserved

@@ -26,5 +26,5 @@ loop-at-preserved c =
       | in_default w ↦
           rw w.met-is
           (met_passed (λ code. contains_by (λ k. bytes_eq code k.now) c.loop-at.met) (λ code. contains_by (λ k. bytes_eq code k.now) c.loop-at.met) c.args.codes.now c.loop-at.at c.index-codes-at.result _
-            (omega arith) c.index-codes-at.is c.loop-at.invariant w.in_default.is)
+          (omega arith) c.index-codes-at.is c.loop-at.invariant w.in_default.is)
     ]
