@@ -1,0 +1,4 @@
+pub mod ChainLemmas
+pub mod HomeLemmas
+pub mod Joining
+pub mod TextLayers
