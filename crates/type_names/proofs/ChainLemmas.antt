@@ -1,5 +1,5 @@
 -- The names of nested types, one more at a time.
-use Rattle.std.proofs.Common.{◌≡◌, ℕ, suc, List, [], ◌∷◌, ◌++◌, codes, Option, Some, None, ◌+◌, ◌-◌, ◌<◌, refl, sym, ap, ◌∙◌, append_assoc, arith}
+use Rattle.std.proofs.Common.{◌≡◌, ℕ, suc, List, [], ◌∷◌, ◌++◌, Some, None, ◌+◌, ◌-◌, ◌<◌, sym, ap, ◌∙◌, append_assoc, arith}
 use Rattle.std.proofs.lemmas.List.{append-nil}
 use Rattle.world_model.specs.declared.record.AsmRec.{AsmRec}
 use Rattle.link_rules.specs.Types.{encloser}

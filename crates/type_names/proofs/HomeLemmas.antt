@@ -6,7 +6,7 @@ use Rattle.world_model.specs.declared.record.AsmRec.{AsmRec}
 use Rattle.world_model.specs.Worlds.{types_in}
 use Rattle.link_rules.specs.declared.row_at.RowAt.{RowAt}
 use Rattle.link_rules.specs.Types.{at_row}
-use Rattle.link_rules.specs.Members.{home_from, type_home}
+use Rattle.link_rules.specs.Members.{home_from}
 use Rattle.type_rules.specs.Texts.{row_name, name_at, definition_text}
 use Rattle.type_names.specs.Homes.{row_of, name_of_row}
 

@@ -1,5 +1,5 @@
 -- The text of a type by its outermost construct.
-use Rattle.std.proofs.Common.{◌≡◌, ℕ, ◌++◌, codes, Bool, List, map, Option, Some, refl, sym, ap, ◌∙◌, append_assoc}
+use Rattle.std.proofs.Common.{◌≡◌, ℕ, ◌++◌, codes, Bool, List, map, Some, refl, sym, ap, ◌∙◌, append_assoc}
 use Rattle.std.specs.Fmt.{decimal}
 use Rattle.il_base.specs.declared.ids.TypeId.{TypeId}
 use Rattle.world_model.specs.declared.expr.TypeExpr.{TypeExpr, fold-TypeExpr, fold-roll-TypeExpr}

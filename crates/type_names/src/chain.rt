@@ -1,27 +1,13 @@
 //! A type and its enclosers (II.22.32), from inside outwards.
 
 ghost use Rattle.std.specs.Prelude.{◌≡◌, ◌++◌, length, IfOk, OnOk};
-ghost use Rattle.link_rules.specs.Types.{encloser};
 ghost use Rattle.type_rules.specs.Texts.{full_name, row_name};
 ghost use Rattle.type_names.specs.Chains.{own_name, inner_names, chain_name};
 
+use crate::nested::Nested;
 use il_base::{NoMemory, Seq, Text};
 use std::alloc::Global;
-use world_model::{AsmRec, TypeDefRow, index_in};
-
-/// The row, from 0, of the type that encloses a type; None for a type that isn't nested.
-#[tactic(auto, unfolding(link_rules::specs::Types::encloser))]
-fn encloser(rec: &AsmRec, row: u32) -> Option<u32>
-    ensures { result ≡ encloser rec.now row }
-{
-    let token = 0x0200_0000 + u64::from(row) + 1;
-    for nesting in rec.nested_class.as_slice() {
-        if u64::from(nesting.nested_class) == token {
-            return index_in(0x02, nesting.enclosing_class);
-        }
-    }
-    None
-}
+use world_model::{AsmRec, TypeDefRow};
 
 /// A type and its enclosers, by their rows from 0.
 #[derive(Drop)]
@@ -35,13 +21,13 @@ pub(crate) struct Chain {
 impl Chain {
     /// A type and its enclosers, at most as many as the assembly has types.
     #[tactic(auto, unfolding(type_rules::specs::Texts::row_name))]
-    pub(crate) fn of(alloc: Global, rec: &AsmRec, row: u32) -> Result<Chain, NoMemory>
-        ensures { IfOk result (λ c. chain_name rec.now c ≡ row_name rec.now (length rec.now.type_def) row) }
+    pub(crate) fn of(alloc: Global, nested: &Nested, row: u32) -> Result<Chain, NoMemory>
+        ensures { IfOk result (λ c. chain_name nested.now c ≡ row_name nested.now (length nested.now.type_def) row) }
     {
         let mut at = row;
         let mut inner = Seq::new(alloc);
-        for _step in 0..rec.type_def.len() {
-            match encloser(rec, at) {
+        for _step in 0..nested.rec().type_def.len() {
+            match nested.encloser(at) {
                 None => {
                     return Ok(Chain {
                         outermost: Some(at),

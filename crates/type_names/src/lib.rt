@@ -2,10 +2,15 @@
 //! `type_rules`' `text` of it comes out; or the name of a type, and the id that `find_type` has for it.
 #![tactic(auto)]
 
+mod assemblies;
 mod chain;
-mod homes;
+mod full_name;
+mod names;
+mod nested;
+mod rows;
 #[cfg(test)]
 mod tests;
 mod texts;
 
+pub use names::TypeNames;
 pub use texts::text;

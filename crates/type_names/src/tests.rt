@@ -1,5 +1,6 @@
 use super::*;
-use il_base::{Boxed, NoMemory, Seq, TypeId};
+use attr_blobs::TypeName;
+use il_base::{AsmId, Boxed, NoMemory, Seq, TypeId};
 use std::alloc::Global;
 use std::test::Fail;
 use world_model::{AsmRec, AssemblyRow, NestedClassRow, TypeDefRow, TypeExpr};
@@ -226,6 +227,118 @@ fn text_of_a_circle(rt: HostRuntime) -> Result<(), Fail> {
     match text(alloc, &recs, &TypeExpr::Def(TypeId(0))) {
         Err(_) => assert!(rt; false),
         Ok(found) => assert!(rt; found.as_slice() == b"+B+A".as_slice()),
+    }
+    Ok(())
+}
+
+/// A name of these parts, with an assembly's name.
+fn name(alloc: Global, parts: &[&[u8]], asm: Option<&[u8]>) -> Result<TypeName, NoMemory> {
+    let mut path = Seq::new(alloc);
+    for part in parts {
+        let part = Seq::from_slice(alloc, part)?;
+        path.push(part)?;
+    }
+    match asm {
+        None => Ok(TypeName { path, asm: None }),
+        Some(asm) => {
+            let asm = Seq::from_slice(alloc, asm)?;
+            Ok(TypeName {
+                path,
+                asm: Some(asm),
+            })
+        }
+    }
+}
+
+/// The id of the type that a name is of, for an assembly of the application, the library and the core library.
+fn found(
+    alloc: Global,
+    from: u32,
+    parts: &[&[u8]],
+    asm: Option<&[u8]>,
+) -> Result<Option<u32>, NoMemory> {
+    let n = name(alloc, parts, asm)?;
+    let app = application(alloc)?;
+    let lib = library(alloc)?;
+    let core = core(alloc)?;
+    let recs = [record(alloc, app), record(alloc, lib), record(alloc, core)];
+    match TypeNames::of(alloc, &recs) {
+        Err(_) => Err(NoMemory),
+        Ok(names) => match names.find_type(AsmId(from), &n) {
+            None => Ok(None),
+            Some(id) => Ok(Some(id.0)),
+        },
+    }
+}
+
+/// A name that several assemblies have is that of the one that asks; a name that it doesn't have may be the core library's.
+#[test]
+fn finds_by_the_assembly_that_asks(rt: HostRuntime) -> Result<(), Fail> {
+    let alloc = rt.alloc();
+    assert_eq!(rt; found(alloc, 0, &[b"N.Outer"], None)?, Some(1));
+    assert_eq!(rt; found(alloc, 1, &[b"N.Outer"], None)?, Some(6));
+    assert_eq!(rt; found(alloc, 2, &[b"N.Outer"], None)?, Some(11));
+    assert_eq!(rt; found(alloc, 0, &[b"System.Int32"], None)?, Some(10));
+    assert_eq!(rt; found(alloc, 1, &[b"N.M.Only"], None)?, Some(7));
+    assert_eq!(rt; found(alloc, 0, &[b"N.M.Only"], None)?, None);
+    assert_eq!(rt; found(alloc, 0, &[b"<Module>"], None)?, None);
+    Ok(())
+}
+
+/// A name with an assembly's is looked for in that alone.
+#[test]
+fn finds_by_the_assembly_that_is_named(rt: HostRuntime) -> Result<(), Fail> {
+    let alloc = rt.alloc();
+    assert_eq!(rt; found(alloc, 0, &[b"N.Outer"], Some(b"Lib"))?, Some(6));
+    assert_eq!(rt; found(alloc, 0, &[b"System.Int32"], Some(b"Lib"))?, None);
+    assert_eq!(rt;
+        found(alloc, 1, &[b"System.Int32"], Some(b"mscorlib"))?,
+        Some(10)
+    );
+    assert_eq!(rt; found(alloc, 0, &[b"N.Outer"], Some(b"Elsewhere"))?, None);
+    Ok(())
+}
+
+/// Nested types are found in their enclosers alone.
+#[test]
+fn finds_nested_types(rt: HostRuntime) -> Result<(), Fail> {
+    let alloc = rt.alloc();
+    assert_eq!(rt; found(alloc, 0, &[b"N.Outer", b"Inner"], None)?, Some(2));
+    assert_eq!(rt;
+        found(alloc, 0, &[b"N.Outer", b"Inner", b"Deep"], None)?,
+        Some(4)
+    );
+    assert_eq!(rt; found(alloc, 0, &[b"Inner"], None)?, None);
+    assert_eq!(rt; found(alloc, 0, &[b"N.Outer", b"Deep"], None)?, None);
+    Ok(())
+}
+
+/// Of two types with one full name the first is found, wherever their namespaces end.
+#[test]
+fn finds_the_first_of_two(rt: HostRuntime) -> Result<(), Fail> {
+    let alloc = rt.alloc();
+    let n = name(alloc, &[b"A.B.C"], None)?;
+    let rows = rows(
+        alloc,
+        b"Twice",
+        &[
+            (b"A", b"B"),
+            (b"A.B", b"C"),
+            (b"A", b"B.C"),
+            (b"", b"A.B.C"),
+        ],
+        &[],
+    )?;
+    let recs = [record(alloc, rows)];
+    match TypeNames::of(alloc, &recs) {
+        Err(_) => assert!(rt; false),
+        Ok(names) => {
+            assert_eq!(rt; names.find_type(AsmId(0), &n), Some(TypeId(1)));
+            match names.text(alloc, &TypeExpr::Def(TypeId(3))) {
+                Err(_) => assert!(rt; false),
+                Ok(text) => assert!(rt; text.as_slice() == b"A.B.C".as_slice()),
+            }
+        }
     }
     Ok(())
 }

@@ -6,8 +6,8 @@ ghost use Rattle.world_model.specs.Worlds.{prim_type};
 ghost use Rattle.type_names.specs.Commas.{separator};
 ghost use Rattle.type_rules.specs.Texts.{definition_text, joined, modifier_text, text};
 
+use crate::assemblies::Assemblies;
 use crate::chain::Chain;
-use crate::homes::row_of;
 use il_base::{NoMemory, Seq, Text, TypeId};
 use std::alloc::Global;
 use world_model::{AsmRec, TypeExpr, prim_type};
@@ -18,32 +18,49 @@ use world_model::{AsmRec, TypeExpr, prim_type};
 pub fn text(alloc: Global, recs: &[AsmRec], ty: &TypeExpr) -> Result<Text, NoMemory>
     ensures { IfOk result (λ t. t ≡ text recs.now ty.now) }
 {
-    let mut out = Seq::new(alloc);
-    put_type(alloc, recs, ty, &mut out)?;
-    Ok(out)
+    match Assemblies::of(alloc, recs) {
+        Err(_) => Err(NoMemory),
+        Ok(world) => world.text(alloc, ty),
+    }
+}
+
+impl Assemblies<'_> {
+    /// The text of a type.
+    pub(crate) fn text(&self, alloc: Global, ty: &TypeExpr) -> Result<Text, NoMemory>
+        ensures { IfOk result (λ t. t ≡ text self.now ty.now) }
+    {
+        let mut out = Seq::new(alloc);
+        put_type(alloc, self, ty, &mut out)?;
+        Ok(out)
+    }
 }
 
 /// Puts the text of a type at the end.
 #[cycle(writing)]
 #[tactic(auto, using(crate::proofs::TextLayers::writing))]
-fn put_type(alloc: Global, recs: &[AsmRec], ty: &TypeExpr, out: &mut Text) -> Result<(), NoMemory>
-    ensures { OnOk result (out.new ≡ out.old ++ text recs.now ty.now) }
+fn put_type(
+    alloc: Global,
+    world: &Assemblies,
+    ty: &TypeExpr,
+    out: &mut Text,
+) -> Result<(), NoMemory>
+    ensures { OnOk result (out.new ≡ out.old ++ text world.now ty.now) }
 {
     match ty {
-        TypeExpr::Prim(code) => put_primitive(alloc, recs, *code, out),
-        TypeExpr::Def(id) => put_definition(alloc, recs, *id, out),
+        TypeExpr::Prim(code) => put_primitive(alloc, world, *code, out),
+        TypeExpr::Def(id) => put_definition(alloc, world, *id, out),
         TypeExpr::Inst(id, args) => {
-            put_definition(alloc, recs, *id, out)?;
+            put_definition(alloc, world, *id, out)?;
             out.push(b'[')?;
-            put_arguments(alloc, recs, args.as_slice(), out)?;
+            put_arguments(alloc, world, args.as_slice(), out)?;
             out.push(b']')
         }
         TypeExpr::Array(inner) => {
-            put_type(alloc, recs, inner.get(), out)?;
+            put_type(alloc, world, inner.get(), out)?;
             out.extend_from_slice(b"[]")
         }
         TypeExpr::ByRef(inner) => {
-            put_type(alloc, recs, inner.get(), out)?;
+            put_type(alloc, world, inner.get(), out)?;
             out.push(b'&')
         }
         TypeExpr::Var(n) => put_parameter(alloc, b"!", *n, out),
@@ -53,8 +70,8 @@ fn put_type(alloc: Global, recs: &[AsmRec], ty: &TypeExpr, out: &mut Text) -> Re
             by,
             inner,
         } => {
-            put_type(alloc, recs, inner.get(), out)?;
-            put_modifier(alloc, recs, *required, *by, out)
+            put_type(alloc, world, inner.get(), out)?;
+            put_modifier(alloc, world, *required, *by, out)
         }
     }
 }
@@ -63,15 +80,15 @@ fn put_type(alloc: Global, recs: &[AsmRec], ty: &TypeExpr, out: &mut Text) -> Re
 #[cycle(writing)]
 fn put_arguments(
     alloc: Global,
-    recs: &[AsmRec],
+    world: &Assemblies,
     args: &[TypeExpr],
     out: &mut Text,
 ) -> Result<(), NoMemory>
-    ensures { OnOk result (out.new ≡ out.old ++ joined (map (text recs.now) args.now)) }
+    ensures { OnOk result (out.new ≡ out.old ++ joined (map (text world.now) args.now)) }
 {
     for (i, arg) in args.iter().enumerate() {
         put_separator(i, out)?;
-        put_type(alloc, recs, arg, out)?;
+        put_type(alloc, world, arg, out)?;
     }
     Ok(())
 }
@@ -91,29 +108,34 @@ fn put_separator(i: usize, out: &mut Text) -> Result<(), NoMemory>
 #[tactic(auto, using(crate::proofs::HomeLemmas::name_is))]
 fn put_definition(
     alloc: Global,
-    recs: &[AsmRec],
+    world: &Assemblies,
     id: TypeId,
     out: &mut Text,
 ) -> Result<(), NoMemory>
-    ensures { OnOk result (out.new ≡ out.old ++ definition_text recs.now (Some id)) }
+    ensures { OnOk result (out.new ≡ out.old ++ definition_text world.now (Some id)) }
 {
-    match row_of(recs, id) {
+    match world.row_of(id) {
         None => Ok(()),
-        Some((rec, row)) => {
-            let chain = Chain::of(alloc, rec, row)?;
-            chain.put(rec, out)
+        Some((nested, row)) => {
+            let chain = Chain::of(alloc, nested, row)?;
+            chain.put(nested.rec(), out)
         }
     }
 }
 
 /// Puts the name of the core library's type that a primitive is at the end.
 #[tactic(auto, unfolding(type_rules::specs::Texts::definition_text))]
-fn put_primitive(alloc: Global, recs: &[AsmRec], code: u8, out: &mut Text) -> Result<(), NoMemory>
-    ensures { OnOk result (out.new ≡ out.old ++ definition_text recs.now (prim_type recs.now code)) }
+fn put_primitive(
+    alloc: Global,
+    world: &Assemblies,
+    code: u8,
+    out: &mut Text,
+) -> Result<(), NoMemory>
+    ensures { OnOk result (out.new ≡ out.old ++ definition_text world.now (prim_type world.now code)) }
 {
-    match prim_type(recs, code)? {
+    match prim_type(world.recs(), code)? {
         None => Ok(()),
-        Some(id) => put_definition(alloc, recs, id, out),
+        Some(id) => put_definition(alloc, world, id, out),
     }
 }
 
@@ -129,15 +151,15 @@ fn put_parameter(alloc: Global, sign: &[u8], n: u32, out: &mut Text) -> Result<(
 /// Puts a modifier (II.7.1) at the end.
 fn put_modifier(
     alloc: Global,
-    recs: &[AsmRec],
+    world: &Assemblies,
     required: bool,
     by: TypeId,
     out: &mut Text,
 ) -> Result<(), NoMemory>
-    ensures { OnOk result (out.new ≡ out.old ++ (modifier_text required ++ definition_text recs.now (Some by) ++ codes ")")) }
+    ensures { OnOk result (out.new ≡ out.old ++ (modifier_text required ++ definition_text world.now (Some by) ++ codes ")")) }
 {
     let opening: &[u8] = if required { b" modreq(" } else { b" modopt(" };
     out.extend_from_slice(opening)?;
-    put_definition(alloc, recs, by, out)?;
+    put_definition(alloc, world, by, out)?;
     out.push(b')')
 }

@@ -4,4 +4,4 @@ use Rattle.type_names.specs.Chains.{inner_names}
 use Rattle.type_names.proofs.chain.Chain.of.Given as goal
 
 abbrev pub invariant-loop-step : goal.invariant-loop-step
-invariant-loop-step l = row_name l.rec (l._step-end - l._step) l.at ++ inner_names l.rec l.inner ≡ row_name l.rec (length l.rec.type_def) l.row
+invariant-loop-step l = row_name l.nested (l._step-end - l._step) l.at ++ inner_names l.nested l.inner ≡ row_name l.nested (length l.nested.type_def) l.row
