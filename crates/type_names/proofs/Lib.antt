@@ -1,0 +1,7 @@
+pub mod ChainLemmas
+pub mod Comparing
+pub mod HomeLemmas
+pub mod Joining
+pub mod Keeping
+pub mod TextLayers
+pub mod Within
