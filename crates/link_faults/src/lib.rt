@@ -15,14 +15,10 @@ mod nesting;
 mod owners;
 mod ranks;
 mod repeats;
-#[cfg(test)]
-mod samples;
 mod scope;
 mod signatures;
 mod supertypes;
 mod targets;
-#[cfg(test)]
-mod tests;
 mod type_keys;
 mod value_types;
 
