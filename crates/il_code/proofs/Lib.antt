@@ -2,6 +2,11 @@ pub mod CodeLoop
 pub mod RuleLoops
 pub mod ClauseLoop
 pub mod Written
-pub mod Places
-pub mod SetIn
+pub mod Looks
+pub mod Numbers
+pub mod Runs
+pub mod Within
+pub mod Order
 pub mod Pairs
+pub mod Clauses
+pub mod Misfits

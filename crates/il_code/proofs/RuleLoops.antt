@@ -1,44 +1,81 @@
 -- Looking at handler clauses one after another, as a loop does.
-use Rattle.std.proofs.Common.{◌≡◌, ℕ, ◌+◌, ◌<◌, ◌≤◌, Bool, true, false, cond, ◌&&◌, ◌==◌, List, [], ◌∷◌, length, get_or, drop, Option, Some, None, refl, sym, ap, ◌∙◌, arith}
+use Rattle.std.proofs.Common.{◌≡◌, ℕ, ◌+◌, ◌<◌, ◌≤◌, Bool, true, false, not, cond, ◌&&◌, ◌==◌, List, [], ◌∷◌, length, get_or, drop, Option, Some, None, refl, sym, ap, subst, ◌∙◌, arith}
+use Rattle.std.specs.List.{slice_get}
 use Rattle.std.proofs.lemmas.Bool.{eqb-true}
 use Rattle.std.proofs.lemmas.List.{at_drop_more, at_drop_all}
+use Rattle.std.proofs.lemmas.Option.{slice_get-get_or}
 use Rattle.il_base.specs.declared.body.Handler.{Handler}
-use Rattle.body_grammar.specs.HandlerRules.{fits_beside, fits_beside_all, meets_rules, offender_from, offender}
+use Rattle.body_grammar.specs.HandlerRules.{try_of, handler_of, are_disjoint, is_same, fits_beside_all, is_range, is_clause, meets_rules, offender_from, offender}
+use Rattle.il_code.specs.Nesting.{StandsAlone, IsFirstMisfit}
 
-beside_more : (i : ℕ) (h : Handler) (j : ℕ) (all : List Handler) (d : Handler) → j < length all
-    → fits_beside_all i h j (drop j all) ≡ (fits_beside i h j (get_or all j d) && fits_beside_all i h (j + 1) (drop (j + 1) all))
-unfolding fits_beside_all
-beside_more i h j all d lt = at_drop_more (fits_beside_all i h j) all j d lt
+-- ---- one clause
 
-pub beside_fails : (i : ℕ) (h : Handler) (j : ℕ) (all : List Handler) (d : Handler) (total : Bool) → j < length all
-    → fits_beside i h j (get_or all j d) ≡ false → fits_beside_all i h j (drop j all) ≡ total → false ≡ total
-beside_fails i h j all d total lt fails e =
-    ap (λ (b : Bool). b && fits_beside_all i h (j + 1) (drop (j + 1) all)) (sym fails) ∙ sym (beside_more i h j all d lt) ∙ e
+and_false : (s t : Bool) → t ≡ false → (s && t) ≡ false
+and_false true t h = h
+and_false false t h = refl
 
-pub beside_goes_on : (i : ℕ) (h : Handler) (j : ℕ) (all : List Handler) (d : Handler) (total : Bool) → j < length all
-    → fits_beside i h j (get_or all j d) ≡ true → fits_beside_all i h j (drop j all) ≡ total → fits_beside_all i h (j + 1) (drop (j + 1) all) ≡ total
-beside_goes_on i h j all d total lt holds e =
-    ap (λ (b : Bool). b && fits_beside_all i h (j + 1) (drop (j + 1) all)) (sym holds) ∙ sym (beside_more i h j all d lt) ∙ e
+last_two : (a b d e : Bool) → (a && b && d && e) ≡ true → (d && e) ≡ true
+last_two true true d e h = h
+last_two true false d e h = absurd cc
+last_two false b d e h = absurd cc
 
-pub beside_none : (i : ℕ) (h : Handler) (j : ℕ) (all : List Handler) → length all ≤ j → fits_beside_all i h j (drop j all) ≡ true
-unfolding fits_beside_all
-beside_none i h j all le = at_drop_all (fits_beside_all i h j) all j le
+stands_alone : (start : ℕ → Bool) (size : ℕ) (h : Handler) → is_clause start size h ≡ true → StandsAlone h
+unfolding is_clause
+stands_alone start size h e =
+    last_two (is_range start size (try_of h)) (is_range start size (handler_of h)) (are_disjoint (try_of h) (handler_of h)) (not (is_same (try_of h) (handler_of h))) e
+
+breaks_alone : (start : ℕ → Bool) (size : ℕ) (all : List Handler) (i : ℕ) (h : Handler) → is_clause start size h ≡ false → meets_rules start size all i h ≡ false
+unfolding meets_rules
+breaks_alone start size all i h e = rw e refl
+
+breaks_pair : (start : ℕ → Bool) (size : ℕ) (all : List Handler) (i : ℕ) (h : Handler) → (is_clause start size h ≡ true → fits_beside_all i h 0 all ≡ false) → meets_rules start size all i h ≡ false
+unfolding meets_rules
+breaks_pair start size all i h e =
+    let G : Bool → Type 0 = λ t. is_clause start size h ≡ t → (is_clause start size h && fits_beside_all i h 0 all) ≡ false in
+    (elim (is_clause start size h) as G [ true ↦ λ k. and_false _ _ (e k) | false ↦ λ k. rw k refl ]) refl
+
+keeps : (start : ℕ → Bool) (size : ℕ) (all : List Handler) (i : ℕ) (h : Handler) → is_clause start size h ≡ true → fits_beside_all i h 0 all ≡ true → meets_rules start size all i h ≡ true
+unfolding meets_rules
+keeps start size all i h e f = rw (e, f) refl
+
+-- ---- all clauses
+
+abbrev pub no_handler : Handler
+no_handler = record { kind = 0; try_at = 0; try_len = 0; at = 0; len = 0; token = 0 }
 
 offends_more : (start : ℕ → Bool) (size : ℕ) (all : List Handler) (i : ℕ) (d : Handler) → i < length all
     → offender_from start size all i (drop i all) ≡ cond (meets_rules start size all i (get_or all i d)) (offender_from start size all (i + 1) (drop (i + 1) all)) (Some i)
 unfolding offender_from
 offends_more start size all i d lt = at_drop_more (offender_from start size all i) all i d lt
 
-pub offends : (start : ℕ → Bool) (size : ℕ) (all : List Handler) (i : ℕ) (d : Handler) (total : Option ℕ) → i < length all
+offends : (start : ℕ → Bool) (size : ℕ) (all : List Handler) (i : ℕ) (d : Handler) (total : Option ℕ) → i < length all
     → meets_rules start size all i (get_or all i d) ≡ false → offender_from start size all i (drop i all) ≡ total → Some i ≡ total
 offends start size all i d total lt fails e =
     ap (λ (b : Bool). cond b (offender_from start size all (i + 1) (drop (i + 1) all)) (Some i)) (sym fails) ∙ sym (offends_more start size all i d lt) ∙ e
 
-pub offends_not : (start : ℕ → Bool) (size : ℕ) (all : List Handler) (i : ℕ) (d : Handler) (total : Option ℕ) → i < length all
+offends_not : (start : ℕ → Bool) (size : ℕ) (all : List Handler) (i : ℕ) (d : Handler) (total : Option ℕ) → i < length all
     → meets_rules start size all i (get_or all i d) ≡ true → offender_from start size all i (drop i all) ≡ total
     → offender_from start size all (i + 1) (drop (i + 1) all) ≡ total
 offends_not start size all i d total lt holds e =
     ap (λ (b : Bool). cond b (offender_from start size all (i + 1) (drop (i + 1) all)) (Some i)) (sym holds) ∙ sym (offends_more start size all i d lt) ∙ e
+
+-- by the first clause that breaks the rules on pairs
+module _ (start : ℕ → Bool) (size : ℕ) (all : List Handler) (i misfit : ℕ) (first : IsFirstMisfit all misfit) (lt : i < length all) (total : Option ℕ) (rest : offender_from start size all i (drop i all) ≡ total) where
+  here : slice_get all i ≡ Some (get_or all i no_handler)
+  here = slice_get-get_or all i no_handler lt
+
+  pub offends_alone : is_clause start size (get_or all i no_handler) ≡ false → Some i ≡ total
+  offends_alone e = offends start size all i no_handler total lt (breaks_alone start size all i (get_or all i no_handler) e) rest
+
+  pub offends_pair : i ≡ misfit → Some i ≡ total
+  offends_pair e =
+      offends start size all i no_handler total lt
+      (breaks_pair start size all i (get_or all i no_handler) (λ k. subst (λ (n : ℕ). fits_beside_all n (get_or all i no_handler) 0 all ≡ false) (sym e) (first.at (get_or all i no_handler) (ap (slice_get all) (sym e) ∙ here) (stands_alone start size (get_or all i no_handler) k)))) rest
+
+  pub keeps_both : i ≤ misfit → (i ≡ misfit → ⊥) → is_clause start size (get_or all i no_handler) ≡ true → offender_from start size all (i + 1) (drop (i + 1) all) ≡ total
+  keeps_both le n e =
+      offends_not start size all i no_handler total lt
+      (keeps start size all i (get_or all i no_handler) e (first.before i (get_or all i no_handler) (omega (arith, n)) here (stands_alone start size (get_or all i no_handler) e))) rest
 
 pub offends_none : (start : ℕ → Bool) (size : ℕ) (all : List Handler) (i : ℕ) → length all ≤ i → offender_from start size all i (drop i all) ≡ None
 unfolding offender_from

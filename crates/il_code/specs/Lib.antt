@@ -1,2 +1,4 @@
+pub mod Around
+pub mod Blocks
 pub mod Gives
 pub mod Nesting

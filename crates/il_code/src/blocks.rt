@@ -1,10 +1,12 @@
-ghost use Rattle.std.specs.Prelude.{◌≡◌, IfOk};
-ghost use Rattle.il_code.specs.Nesting.{try_block, handler_block, blocks_from, has_bytes, follows, own_clause};
+ghost use Rattle.std.specs.Prelude.{◌≡◌, ◌<◌, map, IfOk};
+ghost use Rattle.std.specs.List.Sorted.{IsPermutation};
+ghost use Rattle.il_code.specs.Blocks.{try_block, handler_block, blocks_from, most, turned_range, turned, IsBounded, AreBounded, AreOrdered};
 
 use crate::rules::{handler_of, try_of};
 use body_grammar::Range;
 use il_base::{Handler, NoMemory};
 use std::alloc::Global;
+use std::cmp::Reverse;
 
 /// The try block or the handler of a clause (II.19).
 #[derive(Clone, Copy)]
@@ -21,7 +23,9 @@ pub struct Block {
 }
 
 fn try_block(i: usize, h: Handler) -> Block
-    ensures { result ≡ try_block i h }
+    requires { i < most }
+    ensures is { result ≡ try_block i h }
+    ensures bounded { IsBounded result }
 {
     Block {
         range: try_of(h),
@@ -33,7 +37,9 @@ fn try_block(i: usize, h: Handler) -> Block
 }
 
 fn handler_block(i: usize, h: Handler) -> Block
-    ensures { result ≡ handler_block i h }
+    requires { i < most }
+    ensures is { result ≡ handler_block i h }
+    ensures bounded { IsBounded result }
 {
     Block {
         range: handler_of(h),
@@ -46,7 +52,8 @@ fn handler_block(i: usize, h: Handler) -> Block
 
 /// The blocks of the clauses of a body.
 pub fn blocks_of(alloc: Global, all: &[Handler]) -> Result<Vec<Block>, NoMemory>
-    ensures { IfOk result (λ v. v.items ≡ blocks_from 0 all.now) }
+    ensures items { IfOk result (λ v. v.items ≡ blocks_from 0 all.now) }
+    ensures bounded { IfOk result (λ v. AreBounded v.items) }
 {
     let mut blocks = Vec::new(alloc);
     for (i, h) in all.iter().enumerate() {
@@ -56,23 +63,40 @@ pub fn blocks_of(alloc: Global, all: &[Handler]) -> Result<Vec<Block>, NoMemory>
     Ok(blocks)
 }
 
-pub fn has_bytes(b: Block) -> bool
-    ensures { result ≡ has_bytes b }
+/// A range of code that is read from its end to its front.
+fn turned_range(r: Range) -> Range
+    ensures { result ≡ turned_range r }
 {
-    b.range.from < b.range.to
+    Range {
+        from: u64::MAX - r.to,
+        to: u64::MAX - r.from,
+    }
 }
 
-/// Whether a block has its place behind another in the order of blocks: by their first bytes, and of those with the
-/// same first byte the longer one first.
-pub fn follows(b: Block, a: Block) -> bool
-    ensures { result ≡ follows b a }
+fn turned(b: Block) -> Block
+    ensures { result ≡ turned b }
 {
-    a.range.from < b.range.from || a.range.from == b.range.from && b.range.to <= a.range.to
+    Block {
+        range: turned_range(b.range),
+        handler: turned_range(b.handler),
+        ..b
+    }
 }
 
-/// The clause of a try block, and for a handler more than any.
-pub fn own_clause(b: Block) -> usize
-    ensures { result ≡ own_clause b }
+/// The blocks of code that is read from its end to its front.
+pub fn all_turned(alloc: Global, blocks: &[Block]) -> Result<Vec<Block>, NoMemory>
+    ensures { IfOk result (λ v. v.items ≡ map turned blocks.now) }
 {
-    if b.is_try { b.clause } else { usize::MAX }
+    let turned = blocks.iter().map(|b| turned(*b)).collect(alloc)?;
+    Ok(turned)
+}
+
+/// Blocks in order: by their first bytes, and of those with the same first byte the longer one first. Of those with one
+/// range, the ones that may not share it come first.
+pub fn sorted(mut blocks: Vec<Block>) -> Vec<Block>
+    ensures moved { IsPermutation blocks.items result.items }
+    ensures ordered { AreOrdered result.items }
+{
+    blocks.sort_unstable_by_key(|b| (b.range.from, Reverse(b.range.to), b.shares));
+    blocks
 }

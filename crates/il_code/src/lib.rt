@@ -2,6 +2,7 @@
 //! The results are those of the grammar of bodies, `body_grammar`'s `specs/Bodies`.
 #![tactic(auto)]
 
+mod around;
 mod blocks;
 mod error;
 mod header;
@@ -11,6 +12,7 @@ mod opcodes;
 mod reading;
 mod rules;
 mod section;
+mod tops;
 mod writing;
 
 pub use error::{BodyError, ReadBody};

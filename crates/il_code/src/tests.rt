@@ -117,10 +117,10 @@ fn clause(kind: u8, places: [u8; 4]) -> Handler {
     }
 }
 
-/// Whether clauses keep the rules on pairs, and the first that doesn't keep the rules in 20 bytes of `nop`.
-fn judged(rt: &HostRuntime, all: &[Handler]) -> Result<(bool, Option<usize>), NoMemory> {
+/// Code of so many `nop`s.
+fn nops(rt: &HostRuntime, count: u32) -> Result<Vec<Instr>, NoMemory> {
     let mut code: Vec<Instr> = Vec::new(rt.alloc());
-    for at in 0..20u32 {
+    for at in 0..count {
         code.push(Instr {
             at,
             form: Form::Nop,
@@ -128,9 +128,13 @@ fn judged(rt: &HostRuntime, all: &[Handler]) -> Result<(bool, Option<usize>), No
             operand: Operand::None,
         })?;
     }
-    let fit = nesting::fit_together(rt.alloc(), all)?;
-    let first = rules::offender(rt.alloc(), &code, 20, all)?;
-    Ok((fit, first))
+    Ok(code)
+}
+
+/// The first clause that doesn't keep the rules in 20 bytes of `nop`.
+fn judged(rt: &HostRuntime, all: &[Handler]) -> Result<Option<usize>, NoMemory> {
+    let code = nops(rt, 20)?;
+    rules::offender(rt.alloc(), &code, 20, all)
 }
 
 #[test]
@@ -144,18 +148,33 @@ fn nested_clauses(rt: HostRuntime) -> Result<(), Fail> {
         clause(0, [8, 9, 10, 11]),
         clause(4, [14, 15, 16, 20]),
     ];
-    assert_eq!(rt; judged(&rt, &good)?, (true, None));
-    // an empty block is looked at pair by pair
-    let empty = [clause(2, [1, 1, 2, 3])];
-    assert_eq!(rt; judged(&rt, &empty)?, (false, None));
+    assert_eq!(rt; judged(&rt, &good)?, None);
+    Ok(())
+}
+
+#[test]
+fn empty_blocks(rt: HostRuntime) -> Result<(), Fail> {
+    let cases: [([Handler; 2], Option<usize>); 4] = [
+        ([clause(2, [1, 1, 2, 3]), clause(2, [4, 5, 5, 5])], None),
+        ([clause(2, [1, 1, 2, 3]), clause(2, [0, 4, 4, 5])], None),
+        // at the end of a try block is in it
+        ([clause(2, [2, 2, 4, 5]), clause(2, [0, 2, 2, 3])], Some(0)),
+        // two are the same
+        ([clause(0, [1, 1, 2, 3]), clause(2, [1, 1, 3, 4])], Some(0)),
+    ];
+    for (all, first) in cases {
+        assert_eq!(rt; judged(&rt, &all)?, first);
+    }
     Ok(())
 }
 
 #[test]
 fn broken_rules(rt: HostRuntime) -> Result<(), Fail> {
-    let cases: [([Handler; 2], usize); 6] = [
+    let cases: [([Handler; 2], usize); 7] = [
         // try blocks cross
         ([clause(0, [0, 3, 3, 4]), clause(0, [2, 5, 5, 6])], 0),
+        // one crosses a range that isn't in the code
+        ([clause(0, [0, 3, 3, 4]), clause(0, [2, 30, 30, 31])], 0),
         // a finally clause shares the try block of a catch clause
         ([clause(0, [0, 1, 1, 2]), clause(2, [0, 1, 2, 3])], 0),
         // two handlers are the same
@@ -168,7 +187,36 @@ fn broken_rules(rt: HostRuntime) -> Result<(), Fail> {
         ([clause(0, [0, 1, 2, 6]), clause(0, [3, 4, 7, 8])], 1),
     ];
     for (all, first) in cases {
-        assert_eq!(rt; judged(&rt, &all)?, (false, Some(first)));
+        assert_eq!(rt; judged(&rt, &all)?, Some(first));
     }
+    Ok(())
+}
+
+/// So many clauses of four bytes each, one behind another, of which the last two cross.
+fn crossing_at_the_end(rt: &HostRuntime, count: u32) -> Result<Vec<Handler>, NoMemory>
+    requires { count < 2 ^ 20 }
+{
+    let mut all: Vec<Handler> = Vec::new(rt.alloc());
+    for i in 0..count {
+        all.push(Handler {
+            kind: 0,
+            try_at: 4 * i,
+            try_len: if i + 2 == count { 5 } else { 2 },
+            at: if i + 2 == count { 4 * i + 7 } else { 4 * i + 2 },
+            len: 1,
+            token: 0,
+        })?;
+    }
+    Ok(all)
+}
+
+#[test]
+fn many_clauses(rt: HostRuntime) -> Result<(), Fail> {
+    let all = crossing_at_the_end(&rt, 100_000)?;
+    let code = nops(&rt, 400_000)?;
+    assert_eq!(rt;
+        rules::offender(rt.alloc(), &code, 400_000, &all)?,
+        Some(99_998)
+    );
     Ok(())
 }

@@ -1,8 +1,9 @@
-use Rattle.std.proofs.Common.{◌≡◌, drop, get_or, false}
+use Rattle.std.proofs.Common.{◌≡◌, ◌≤◌, drop, get_or, false}
 use Rattle.body_grammar.specs.HandlerRules as nesting
 use Rattle.il_code.proofs.rules.first_offender.Given as goal
 
 abbrev pub invariant-loop-i : goal.invariant-loop-i
-invariant-loop-i l =
-    nesting.offender_from (λ k. get_or l.starts k false) l.size l.all l.i (drop l.i l.all)
-    ≡ nesting.offender (λ k. get_or l.starts k false) l.size l.all
+invariant-loop-i l = record {
+  rest : nesting.offender_from (λ k. get_or l.starts k false) l.size l.all l.i (drop l.i l.all) ≡ nesting.offender (λ k. get_or l.starts k false) l.size l.all;
+  before : l.i ≤ l.misfit;
+}
