@@ -1,5 +1,5 @@
 -- Two clauses, by the pairs of their blocks.
-use Rattle.std.proofs.Common.{◌≡◌, ◌⊎◌, inl, inr, ℕ, ◌<◌, ◌≤◌, nat_le, nat_lt, Bool, true, false, not, ◌&&◌, ◌||◌, ◌==◌, refl, sym, arith}
+use Rattle.std.proofs.Common.{◌≡◌, ◌⊎◌, inl, inr, ℕ, ◌<◌, ◌≤◌, nat_le, Bool, true, false, not, ◌&&◌, ◌||◌, ◌==◌, refl, sym, arith}
 use Rattle.std.proofs.lemmas.Bool.{cases_eq, le-leb, lt-ltb, eq-eqb, eqb-true, leb-true, ltb-true}
 use Rattle.il_base.specs.declared.body.Handler.{Handler}
 use Rattle.body_grammar.specs.declared.body.Range.{Range}

@@ -1,5 +1,5 @@
 -- The first clause that breaks the rules on pairs, from the first ones that walks over the blocks find.
-use Rattle.std.proofs.Common.{◌≡◌, ◌⊎◌, inl, inr, ℕ, zero, suc, ◌+◌, ◌-◌, ◌<◌, ◌≤◌, min, Bool, true, false, ◌&&◌, List, [], ◌∷◌, ◌++◌, length, length-append, append_assoc, map, get_or, drop, Option, Some, None, refl, sym, ap, ap₂, subst, ◌∙◌, arith}
+use Rattle.std.proofs.Common.{◌≡◌, ◌⊎◌, inl, inr, ℕ, zero, suc, ◌+◌, ◌<◌, ◌≤◌, min, Bool, true, false, List, [], ◌∷◌, ◌++◌, length, length-append, append_assoc, map, get_or, drop, Option, Some, None, refl, sym, ap, ap₂, subst, ◌∙◌, arith}
 use Rattle.std.specs.List.{slice_get, Contains}
 use Rattle.std.specs.List.Sorted.{IsPermutation}
 use Rattle.std.specs.Option.{option_map}
@@ -10,11 +10,11 @@ use Rattle.std.proofs.lemmas.Option.{slice_get_within, slice_get-get_or, slice_g
 use Rattle.il_base.specs.declared.body.Handler.{Handler}
 use Rattle.body_grammar.specs.HandlerRules.{fits_beside, fits_beside_all}
 use Rattle.il_code.specs.declared.blocks.Block.{Block}
-use Rattle.il_code.specs.Blocks.{most, try_block, handler_block, blocks_from, turned, IsBounded, AreBounded, AreOrdered, IsSame, Before, StandsBy, FailsBy, MayShare, IsIn}
+use Rattle.il_code.specs.Blocks.{most, try_block, handler_block, blocks_from, turned, IsBounded, AreBounded, AreOrdered, IsSame, FailsBy, MayShare, IsIn}
 use Rattle.il_code.specs.Nesting.{IsFirstAlike, IsFirstWithin, IsFirstMisfit, StandsAlone}
-use Rattle.il_code.proofs.Looks.{both_true, some_is, there, one_look}
+use Rattle.il_code.proofs.Looks.{both_true, some_is, one_look}
 use Rattle.il_code.proofs.Runs.{lesser}
-use Rattle.il_code.proofs.Pairs.{Pair, IsBeside, pair_of, turned_pair, turned_same, never_fails}
+use Rattle.il_code.proofs.Pairs.{Pair, IsBeside, pair_of, turned_pair, never_fails}
 use Rattle.il_code.proofs.Clauses.{IsOf, of_two, of_one, beside_true, and_both}
 
 -- ---- places in lists

@@ -1,5 +1,5 @@
 -- The order of blocks, from what a sort says of neighbours.
-use Rattle.std.proofs.Common.{◌≡◌, ◌⊎◌, inl, inr, ℕ, zero, suc, ◌+◌, ◌-◌, ◌<◌, ◌≤◌, Bool, true, false, List, length, get_or, Some, refl, sym, ap, subst, ◌∙◌, arith}
+use Rattle.std.proofs.Common.{◌≡◌, inl, inr, ℕ, zero, suc, ◌+◌, ◌-◌, ◌<◌, ◌≤◌, Bool, true, false, List, length, get_or, Some, refl, sym, ap, subst, ◌∙◌, arith}
 use Rattle.std.specs.List.{slice_get}
 use Rattle.std.specs.Ordering.{nat_cmp, bool_cmp, ordering_then, is_lt, MatchOrdering}
 use Rattle.std.specs.Cmp.{ranks}
@@ -8,7 +8,7 @@ use Rattle.std.specs.declared.cmp.Ordering.TheVariants.{Less, Equal, Greater}
 use Rattle.std.proofs.lemmas.Option.{get_or_from_slice_get, slice_get_within}
 use Rattle.il_code.specs.declared.blocks.Block.{Block}
 use Rattle.il_code.specs.Blocks.{IsSame, Before, AreOrdered}
-use Rattle.il_code.proofs.Looks.{there, one_look}
+use Rattle.il_code.proofs.Looks.{there}
 use Rattle.il_code.proofs.Runs.{between, same_trans, same_back}
 
 abbrev pub Follows : Block → Block → Type 0

@@ -1,7 +1,7 @@
 -- Two blocks that keep the rules beside each other.
-use Rattle.std.proofs.Common.{◌≡◌, ◌⊎◌, inl, inr, ℕ, ◌-◌, ◌<◌, ◌≤◌, true, refl, arith}
+use Rattle.std.proofs.Common.{◌≡◌, ◌⊎◌, inl, inr, ◌<◌, ◌≤◌, true, arith}
 use Rattle.il_code.specs.declared.blocks.Block.{Block}
-use Rattle.il_code.specs.Blocks.{most, turned, IsBounded, Ends, Holds, HoldsHandler, IsSame, Before, StandsIn, StandsBy, FailsBy}
+use Rattle.il_code.specs.Blocks.{turned, IsBounded, Ends, Holds, HoldsHandler, IsSame, Before, StandsIn, StandsBy, FailsBy}
 
 pub record Pair (a b : Block) : Type 0 where
   pub nests : (Ends a b ⊎ Ends b a) ⊎ (Holds a b ⊎ Holds b a)

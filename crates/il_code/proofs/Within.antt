@@ -1,5 +1,5 @@
 -- A block that keeps the rules within what is around it keeps them beside each block before it.
-use Rattle.std.proofs.Common.{◌≡◌, ◌⊎◌, inl, inr, ℕ, ◌+◌, ◌-◌, ◌<◌, ◌≤◌, nat_le, nat_lt, min, Bool, true, false, not, ◌||◌, ◌&&◌, List, Some, refl, sym, ap, subst, ◌∙◌, arith, if◌then◌else◌}
+use Rattle.std.proofs.Common.{◌≡◌, ◌⊎◌, inl, inr, ℕ, ◌+◌, ◌-◌, ◌<◌, ◌≤◌, nat_le, nat_lt, min, Bool, true, false, not, ◌||◌, ◌&&◌, List, Some, refl, sym, subst, arith, if◌then◌else◌}
 use Rattle.std.specs.List.{slice_get}
 use Rattle.std.proofs.lemmas.Bool.{cases_eq, cases_lt, leb-true, ltb-true, leb-false, ltb-false}
 use Rattle.std.proofs.lemmas.Option.{slice_get_within}
@@ -7,7 +7,7 @@ use Rattle.il_code.specs.declared.around.Around.{Around}
 use Rattle.il_code.specs.declared.around.Begun.{Begun}
 use Rattle.il_code.specs.declared.blocks.Block.{Block}
 use Rattle.il_code.specs.Around.{by_start, by_end, by_clause, pairs_of, IsAround, HasBegun, stands_in, misfit}
-use Rattle.il_code.specs.Blocks.{most, Ends, Holds, HoldsHandler, IsSame, Before, StandsIn, StandsBy, FailsBy, AreOrdered, AreBounded, IsIn, IsRun}
+use Rattle.il_code.specs.Blocks.{most, IsSame, StandsIn, StandsBy, FailsBy, AreOrdered, AreBounded, IsIn, IsRun}
 use Rattle.il_code.specs.Nesting.{IsFirstWithin}
 use Rattle.il_code.proofs.Looks.{both_true, there, one_look}
 use Rattle.il_code.proofs.Numbers.{numbers_later}

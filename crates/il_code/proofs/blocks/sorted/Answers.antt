@@ -1,4 +1,4 @@
-use Rattle.std.proofs.Common.{rules, ◌≡◌}
+use Rattle.std.proofs.Common.{rules}
 use Rattle.std.proofs.lemmas.List.Sorted.{answers_always}
 use Rattle.il_code.specs.declared.blocks.Block.{Block}
 use Rattle.il_code.proofs.Order.{are_ordered}

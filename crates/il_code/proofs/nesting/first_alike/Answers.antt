@@ -1,6 +1,5 @@
-use Rattle.std.proofs.Common.{◌≡◌, ℕ, ◌+◌, ◌<◌, false, length, sym, ap, ◌∙◌, subst, min, arith}
+use Rattle.std.proofs.Common.{◌+◌, sym, ap, ◌∙◌, subst, min, arith}
 use Rattle.std.proofs.lemmas.Option.{slice_get-get_or}
-use Rattle.il_code.specs.declared.blocks.Block.{Block}
 use Rattle.il_code.specs.Nesting.{IsFirstAlike}
 use Rattle.il_code.proofs.Looks.{no_block}
 use Rattle.il_code.proofs.Runs.{alike_more}

@@ -1,7 +1,7 @@
-use Rattle.std.proofs.Common.{◌≡◌, ◌≤◌, ◌<◌, ℕ, List, length, map, min, ap, ap₂, sym, subst, ◌∙◌, arith}
+use Rattle.std.proofs.Common.{◌≡◌, ℕ, List, length, map, min, ap, sym, subst, ◌∙◌, arith}
 use Rattle.std.specs.List.Sorted.{IsPermutation}
 use Rattle.il_code.specs.declared.blocks.Block.{Block}
-use Rattle.il_code.specs.Blocks.{turned, blocks_from, most, AreBounded}
+use Rattle.il_code.specs.Blocks.{turned, AreBounded}
 use Rattle.il_code.specs.Nesting.{IsFirstAlike, IsFirstWithin, IsFirstMisfit}
 use Rattle.il_code.proofs.Misfits.{first_misfit, bounded_moved, bounded_turned}
 use Rattle.il_code.proofs.nesting.first_misfit.Goals as goal

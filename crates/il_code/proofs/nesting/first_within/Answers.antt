@@ -1,6 +1,5 @@
-use Rattle.std.proofs.Common.{◌≡◌, ℕ, ◌+◌, ◌<◌, length, get_or, sym, ap, ◌∙◌, subst, min, arith}
+use Rattle.std.proofs.Common.{◌+◌, get_or, sym, ap, ◌∙◌, subst, min, arith}
 use Rattle.std.proofs.lemmas.Option.{slice_get-get_or}
-use Rattle.il_code.specs.declared.blocks.Block.{Block}
 use Rattle.il_code.specs.Around.{HasBegun}
 use Rattle.il_code.specs.Nesting.{IsFirstWithin}
 use Rattle.il_code.proofs.Looks.{no_block}

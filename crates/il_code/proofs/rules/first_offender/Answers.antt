@@ -1,4 +1,4 @@
-use Rattle.std.proofs.Common.{◌≡◌, ◌≤◌, ◌+◌, Option, Some, sym, ◌∙◌, true, false, get_or, arith}
+use Rattle.std.proofs.Common.{sym, ◌∙◌, false, get_or, arith}
 use Rattle.body_grammar.specs.HandlerRules.{offender}
 use Rattle.il_code.proofs.RuleLoops.{offends_alone, offends_pair, keeps_both, offends_none}
 use Rattle.il_code.proofs.rules.first_offender.Goals as goal

@@ -1,4 +1,4 @@
-use Rattle.std.proofs.Common.{ℕ, ◌+◌, ◌≡◌, drop, take}
+use Rattle.std.proofs.Common.{ℕ, ◌+◌}
 use Rattle.il_code.specs.Around.{HasBegun}
 use Rattle.il_code.proofs.around.Begun.add_all.Given as goal
 

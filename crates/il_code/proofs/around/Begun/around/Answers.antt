@@ -1,6 +1,5 @@
-use Rattle.std.proofs.Common.{ℕ, ◌-◌, ◌≤◌, ◌≡◌, List, subst, sym, arith}
-use Rattle.il_code.specs.declared.blocks.Block.{Block}
-use Rattle.il_code.specs.Around.{HasBegun, IsAround, AreNumbers, IsGreatest, by_start, by_end, by_clause, pairs_of}
+use Rattle.std.proofs.Common.{ℕ, ◌-◌, ◌≤◌, ◌≡◌, subst, arith}
+use Rattle.il_code.specs.Around.{IsGreatest, by_start, by_end, by_clause, pairs_of}
 use Rattle.il_code.specs.Blocks.{most}
 use Rattle.il_code.proofs.Numbers.{numbers_left, greatest_of}
 use Rattle.il_code.proofs.around.Begun.around.Goals as goal

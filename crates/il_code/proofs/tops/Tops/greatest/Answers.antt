@@ -1,5 +1,4 @@
-use Rattle.std.proofs.Common.{◌≡◌, ℕ, ◌<◌, sym, ◌∙◌, Option, IfNone}
-use Rattle.std.specs.List.{Contains}
+use Rattle.std.proofs.Common.{◌≡◌, sym, ◌∙◌, IfNone}
 use Rattle.std.specs.BinaryHeap.{heap_items}
 use Rattle.il_code.proofs.Numbers.{top_is, rest_kept, rest_was, the_same}
 use Rattle.il_code.proofs.tops.Tops.greatest.Goals as goal
