@@ -15,7 +15,10 @@ import threading
 from concurrent.futures import ThreadPoolExecutor
 
 PLACE = r"\S*:[0-9a-f]{8}:[0-9a-f]{8}"
-WHY = "NotPe NoCli NotIlOnly Native Truncated BadRva BadRoot BadStream BadHeap UnknownTable RowOutOfRange ListOrder SortOrder"
+WHY = (
+    "NotPe NoCli NotIlOnly Native Truncated BadRva BadRoot BadStream BadHeap UnknownTable RowOutOfRange ListOrder SortOrder "
+    "DuplicateAssembly CyclicTypes CyclicNesting DuplicateMember"
+)
 ANSWERS = {
     0: r"(ended -?\d+|done)",
     3: r"bad file a\.exe \d+ (%s)" % "|".join(WHY.split()),

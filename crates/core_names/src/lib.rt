@@ -2,4 +2,9 @@
 //! with a type without members for each name that it lacks. `link_rules/specs/CoreNames` defines it.
 #![tactic(auto)]
 
+mod missing;
 mod modifiers;
+mod with_names;
+
+pub use missing::missing_names;
+pub use with_names::add_names;

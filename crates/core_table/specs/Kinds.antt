@@ -1,5 +1,8 @@
 -- The members of the core library by their MethodDef rows in the core record.
 use Rattle.std.specs.Prelude.{ℕ, ◌+◌, ◌-◌, ◌==◌, nat_lt, List, [], ◌∷◌, length, slice_get, Option, Some, None, if◌then◌else◌}
+use Rattle.il_base.specs.declared.ids.MethodId.{MethodId}
+use Rattle.world_model.specs.declared.record.AsmRec.{AsmRec}
+use Rattle.world_model.specs.declared.world.World.{World}
 use Rattle.world_model.specs.Tokens.{index_in}
 use Rattle.core_table.specs.declared.kinds.CoreKind.{CoreKind}
 use Rattle.core_table.specs.declared.kinds.OwnedMethod.{OwnedMethod}
@@ -16,6 +19,17 @@ kind_at (Some at) = if nat_lt at METHOD_COUNT then Some (record { 0 = at + 1 }) 
 -- the method that a token names
 unfoldable pub kind_of : ℕ → Option CoreKind
 kind_of token = kind_at (index_in 0x06 token)
+
+-- the place of a method of a world among those of its last assembly, the core library
+unfoldable pub core_row : List AsmRec → ℕ → Option ℕ
+core_row [] n = None
+core_row (rec ∷ []) n = Some n
+core_row (rec ∷ next ∷ recs) n =
+    if nat_lt n (length rec.method_def) then None else core_row (next ∷ recs) (n - length rec.method_def)
+
+-- the member that a method of a world is; None for a method of an input
+unfoldable pub core_kind : World → MethodId → Option CoreKind
+core_kind w m = kind_at (core_row w.recs m.0)
 
 abbrev pub owned : CoreName → Option CoreMethod → Option OwnedMethod
 owned name None = None

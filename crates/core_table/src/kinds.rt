@@ -1,12 +1,13 @@
 //! The members of the core library by their rows.
 
 ghost use Rattle.std.specs.Prelude.{◌≡◌, slice_get};
-ghost use Rattle.core_table.specs.Kinds.{kind_of, owned, member_in, member_of};
+ghost use Rattle.core_table.specs.Kinds.{kind_of, core_row, core_kind, owned, member_in, member_of};
 
 use crate::names::CoreName;
 use crate::shape::{CoreMethod, CoreType};
 use crate::types::{METHOD_COUNT, TYPES};
-use world_model::index_in;
+use il_base::MethodId;
+use world_model::{AsmRec, World, index_in};
 
 /// A method of the core library, by its MethodDef row in the core record, from 1.
 #[derive(Clone, Copy, Debug, PartialEq, Eq)]
@@ -28,6 +29,41 @@ pub fn kind_of(token: u32) -> Option<CoreKind>
         None => None,
         Some(at) => {
             if at < METHOD_COUNT {
+                Some(CoreKind(at as u16 + 1))
+            } else {
+                None
+            }
+        }
+    }
+}
+
+/// The place of a method among those of the last assembly.
+fn core_row(recs: &[AsmRec], method: usize) -> Option<usize>
+    ensures { result ≡ core_row recs.now method }
+{
+    let mut left = method;
+    for (i, rec) in recs.iter().enumerate() {
+        if i + 1 == recs.len() {
+            return Some(left);
+        }
+        let count = rec.method_def.len();
+        if left < count {
+            return None;
+        }
+        left -= count;
+    }
+    None
+}
+
+/// The member of the core library that a method of a world is; None for a method of an input.
+#[tactic(auto, unfolding(crate::specs::Kinds::core_kind))]
+pub fn core_kind(w: &World, m: MethodId) -> Option<CoreKind>
+    ensures { result ≡ core_kind w.now m }
+{
+    match core_row(w.recs.as_slice(), m.0 as usize) {
+        None => None,
+        Some(at) => {
+            if at < METHOD_COUNT as usize {
                 Some(CoreKind(at as u16 + 1))
             } else {
                 None

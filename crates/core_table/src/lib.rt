@@ -18,7 +18,7 @@ mod tokens;
 mod type_rows;
 mod types;
 
-pub use kinds::{CoreKind, OwnedMethod, kind_of};
+pub use kinds::{CoreKind, OwnedMethod, core_kind, kind_of};
 pub use names::CoreName;
 pub use record::core;
 pub use shape::{CoreField, CoreMembers, CoreMethod, CoreParams, CoreSig, CoreType};

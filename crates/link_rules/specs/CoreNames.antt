@@ -23,6 +23,7 @@ use Rattle.world_model.specs.declared.record.AsmRec.{AsmRec}
 use Rattle.world_model.specs.Tokens.{index_in}
 use Rattle.world_model.specs.Core.{same_name, is_core_scope}
 use Rattle.core_table.specs.declared.tokens.TheConstants.{OBJECT, STATIC_TYPE}
+use Rattle.link_rules.specs.declared.core_type_name.CoreTypeName.{CoreTypeName}
 use Rattle.link_rules.specs.Types.{type_in}
 use Rattle.link_rules.specs.Cycles.{add_all, listed}
 
@@ -69,10 +70,6 @@ all_modifiers rec =
     ++ flat_map (λ (r : MethodSpecRow). in_good modifiers_of r.instantiation) rec.method_spec
 
 -- ---- names that the core library lacks
-
-pub record CoreTypeName : Type 0 where
-  pub namespace : List ℕ
-  pub name : List ℕ
 
 abbrev pub same_core_name : CoreTypeName → CoreTypeName → Bool
 same_core_name x y = same_name x.name y.name && same_name x.namespace y.namespace

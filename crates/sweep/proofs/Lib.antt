@@ -6,6 +6,8 @@ pub mod TextLemmas
 pub mod PlaceLemmas
 pub mod ItemLemmas
 pub mod Placing
+pub mod Listing
+pub mod Meeting
 pub mod Loading
 pub mod Referring
 pub mod Moving

@@ -14,7 +14,7 @@ nat_eq_sym x y = by_case (cases_eq x y)
     by_case (inl e) = eq-eqb x y e ∙ sym (eq-eqb y x (sym e))
     by_case (inr ne) = ne_eqb x y ne ∙ sym (ne_eqb y x (λ e. ne (sym e)))
 
-bytes_eq_sym : (xs ys : List ℕ) → bytes_eq xs ys ≡ bytes_eq ys xs
+pub bytes_eq_sym : (xs ys : List ℕ) → bytes_eq xs ys ≡ bytes_eq ys xs
 bytes_eq_sym [] [] = refl
 bytes_eq_sym [] (y ∷ ys) = refl
 bytes_eq_sym (x ∷ xs) [] = refl
@@ -61,7 +61,7 @@ list_any_push (x ∷ xs) y q = by_case (bytes_eq q x) (list_any_push xs y q)
     by_case true h = refl
     by_case false h = h
 
-same_bytes : (xs ys : List ℕ) → bytes_eq xs ys ≡ true → xs ≡ ys
+pub same_bytes : (xs ys : List ℕ) → bytes_eq xs ys ≡ true → xs ≡ ys
 same_bytes [] [] e = refl
 same_bytes [] (y ∷ ys) e = cc
 same_bytes (x ∷ xs) [] e = cc

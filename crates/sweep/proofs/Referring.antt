@@ -14,6 +14,7 @@ use Rattle.restriction.specs.Numbering.{met_all, first_met}
 use Rattle.restriction.specs.References.{one_or_none, same_member, member_called, base_names, owner_names, core_type_of, console_name, same_assembly, scope_of_type, same_locals, locals_in, kept_methods, members_met, types_met, assemblies_met, locals_met}
 use Rattle.sweep.specs.Gathering.{gather, gather_all}
 use Rattle.sweep.specs.Types.{names_met}
+use Rattle.sweep.specs.Locals.{locals_of}
 use Rattle.sweep.specs.References.{members_of, types_of, assemblies_of}
 use Rattle.sweep.proofs.Gathers.{gather_is, gather_all_is, met_all_append}
 use Rattle.sweep.proofs.Loading.{codes_are}
@@ -35,7 +36,7 @@ pub assemblies_are : (rec : AsmRec) (names : List (List ℕ)) → gather same_as
 assemblies_are rec names = gather_is same_assembly (scope_of_type rec) [] names
 
 pub locals_are : (rec : AsmRec) (methods : List MethodDefRow)
-    → gather same_locals (λ m. locals_in rec m.body) [] methods ≡ first_met same_locals (flat_map (λ m. one_or_none (locals_in rec m.body)) methods)
+    → gather same_locals (λ m. locals_in rec m.body) [] methods ≡ locals_of rec methods
 locals_are rec methods = gather_is same_locals (λ (m : MethodDefRow). locals_in rec m.body) [] methods
 
 -- of the kept methods
@@ -52,6 +53,6 @@ pub assemblies_met_are : (rec : AsmRec) (flags : List Bool) → assemblies_met r
 unfolding assemblies_met types_met members_met
 assemblies_met_are rec flags = refl
 
-pub locals_met_are : (rec : AsmRec) (flags : List Bool) → locals_met rec flags ≡ first_met same_locals (flat_map (λ m. one_or_none (locals_in rec m.body)) (kept_methods rec flags))
+pub locals_met_are : (rec : AsmRec) (flags : List Bool) → locals_met rec flags ≡ locals_of rec (kept_methods rec flags)
 unfolding locals_met
 locals_met_are rec flags = refl

@@ -1,10 +1,16 @@
 -- What items make of a list of things that are written once: each item may add one.
-use Rattle.std.specs.Prelude.{ℕ, suc, Bool, List, [], ◌∷◌, Option, Some, None, if◌then◌else◌}
+use Rattle.std.specs.Prelude.{ℕ, suc, Bool, true, List, [], ◌∷◌, Option, Some, None, if◌then◌else◌}
+use Rattle.std.specs.List.{list_any}
 use Rattle.restriction.specs.Numbering.{met}
 
 abbrev pub met_option : {A : Type 0} → (A → A → Bool) → List A → Option A → List A
 met_option same xs None = xs
 met_option same xs (Some x) = met same xs x
+
+-- whether meeting it adds nothing
+abbrev pub is_met : {A : Type 0} → (A → A → Bool) → List A → Option A → Bool
+is_met same xs None = true
+is_met same xs (Some x) = list_any (same x) xs
 
 -- with what each of the items gives
 unfoldable pub gather : {A B : Type 0} → (A → A → Bool) → (B → Option A) → List A → List B → List A

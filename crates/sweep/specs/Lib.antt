@@ -2,6 +2,7 @@ pub mod Kept
 pub mod Callees
 pub mod Gathering
 pub mod Types
+pub mod Locals
 pub mod Texts
 pub mod References
 pub mod Numbers

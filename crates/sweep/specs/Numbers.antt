@@ -4,10 +4,11 @@ use Rattle.il_base.specs.declared.body.Form.{Form}
 use Rattle.il_base.specs.declared.body.Form.TheVariants as form
 use Rattle.world_model.specs.declared.assemblies.AssemblyRefRow.{AssemblyRefRow}
 use Rattle.world_model.specs.declared.record.AsmRec.{AsmRec}
-use Rattle.restriction.specs.References.{kept_methods, members_met, types_met, assemblies_met, locals_met, same_assembly}
+use Rattle.restriction.specs.References.{kept_methods, members_met, types_met, assemblies_met, same_assembly}
 use Rattle.restriction.specs.Numbering.{row_of}
 use Rattle.restriction.specs.Moved.{token_32, moved_callee, moved_text}
 use Rattle.sweep.specs.Kept.{AreRanks}
+use Rattle.sweep.specs.Locals.{AreLocals}
 use Rattle.sweep.specs.Texts.{AreTexts}
 use Rattle.sweep.specs.declared.numbers.Numbers.{Numbers}
 
@@ -19,7 +20,7 @@ pub record AreNumbers (rec : AsmRec) (flags : List Bool) (n : Numbers) : Type 0 
   pub members : n.references.members.items ≡ members_met rec flags
   pub types : map (λ name. name.now) n.references.types.items ≡ types_met rec flags
   pub assemblies : map (λ row. row.now) n.references.assemblies.items ≡ assemblies_met rec flags
-  pub locals : map (λ types. types.now) n.locals.items ≡ locals_met rec flags
+  pub locals : AreLocals rec (kept_methods rec flags) n.locals
   pub texts : AreTexts rec (kept_methods rec flags) n.texts
 
 -- the token of a scope among these

@@ -1,7 +1,8 @@
 -- The texts that are met, by token and by place.
-use Rattle.std.specs.Prelude.{◌≡◌, ℕ, ◌+◌, ◌%◌, List, map, Option, None, is_some, unwrap_or, nat_eq, bytes_eq}
+use Rattle.std.specs.Prelude.{◌≡◌, ℕ, ◌+◌, ◌%◌, true, List, map, Option, None, is_some, unwrap_or, nat_eq, bytes_eq}
 use Rattle.std.specs.List.{list_any, flat_map}
 use Rattle.std.specs.HashMap.{get, get_by}
+use Rattle.std.specs.HashSet.{contains}
 use Rattle.std.specs.Option.{option_copied, option_map}
 use Rattle.il_base.specs.declared.body.Form.{Form}
 use Rattle.il_base.specs.declared.body.Form.TheVariants as form
@@ -17,7 +18,9 @@ use Rattle.restriction.specs.Numbering.{first_met}
 use Rattle.restriction.specs.References.{good_text, one_or_none, text_loaded}
 use Rattle.sweep.specs.declared.texts.Loads.{Loads}
 use Rattle.sweep.specs.declared.texts.Places.{Places}
+use Rattle.sweep.specs.declared.texts.Met.{Met}
 use Rattle.sweep.specs.declared.texts.Texts.{Texts}
+use Rattle.sweep.specs.Gathering.{is_met}
 
 -- the token of a text among some texts, by its place
 abbrev pub text_number : List (List ℕ) → List ℕ → ℕ
@@ -41,6 +44,11 @@ token_in places units = get_by (λ text. bytes_eq units text.now) places.tokens
 pub record ArePlaces (places : Places) : Type 0 where
   pub met : (units : List ℕ) → is_some (token_in places units) ≡ list_any (bytes_eq units) (texts_in places)
   pub number : (units : List ℕ) → unwrap_or (token_in places units) places.end ≡ text_number (texts_in places) units
+
+-- the text of a token in the set is among them
+pub record AreTextsMet (loads : Loads) (met : Met) : Type 0 where
+  pub places : ArePlaces met.places
+  pub again : (token : ℕ) → contains nat_eq met.tokens token ≡ true → is_met bytes_eq (texts_in met.places) (units_at loads token) ≡ true
 
 -- the text that an operand loads
 abbrev pub loaded_by : Loads → Form → Operand → Option (List ℕ)

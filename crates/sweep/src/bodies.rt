@@ -4,7 +4,7 @@ ghost use Rattle.sweep.specs.Numbers.{AreNumbers};
 
 use crate::copies::copy_operand;
 use crate::numbers::Numbers;
-use crate::tokens::{moved_locals, moved_token};
+use crate::tokens::moved_token;
 use il_base::{Body, Form, Instr, NoMemory, Operand, Seq};
 use std::alloc::Global;
 use world_model::{AsmRec, Known};
@@ -68,7 +68,7 @@ fn moved_code(
 }
 
 /// A body with its tokens moved.
-#[tactic(auto, unfolding(restriction::specs::Moved::moved_body))]
+#[tactic(auto, using(crate::proofs::Moving::locals_are), unfolding(restriction::specs::Moved::moved_body))]
 fn moved_body(
     alloc: Global,
     rec: &AsmRec,
@@ -84,7 +84,7 @@ fn moved_body(
         tiny: body.tiny,
         init: body.init,
         max_stack: body.max_stack,
-        locals: moved_locals(rec, numbers, body.locals),
+        locals: numbers.locals.moved(body.locals),
         code,
         fat_handlers: body.fat_handlers,
         handlers,

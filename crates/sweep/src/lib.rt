@@ -8,6 +8,7 @@ mod callees;
 mod copies;
 mod kept;
 mod lengths;
+mod listed;
 mod locals;
 mod members;
 mod methods;

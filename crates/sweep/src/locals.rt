@@ -1,19 +1,19 @@
 ghost use Rattle.std.specs.Prelude.{◌≡◌, [], map, OnOk, IfOk};
-ghost use Rattle.std.specs.List.{list_any};
 ghost use Rattle.std.specs.Option.{option_copied};
-ghost use Rattle.std.specs.Cmp.Lexicographic.{pointwise};
-ghost use Rattle.world_model.specs.Thin.{same_type};
-ghost use Rattle.restriction.specs.Numbering.{met};
 ghost use Rattle.restriction.specs.References.{same_locals, locals_by, locals_in};
-ghost use Rattle.sweep.specs.Gathering.{gather, place_from};
+ghost use Rattle.sweep.specs.Gathering.{met_option, gather};
+ghost use Rattle.sweep.specs.Locals.{types_in, ArePlaced, AreLocalsMet, new_token, AreLocals, moved_in};
 
+use crate::kept::token_at;
+use crate::listed::Listed;
 use il_base::{NoMemory, Sig};
 use std::alloc::Global;
-use world_model::{AsmRec, Known, MethodDefRow, index_in};
+use std::collections::HashSet;
+use world_model::{AsmRec, Known, MethodDefRow, StandAloneSigRow, index_in};
 
 /// The types of locals that a StandAloneSig token names (II.23.2.6).
 #[tactic(auto, unfolding(restriction::specs::References::locals_by))]
-pub(crate) fn locals_by(rec: &AsmRec, token: u32) -> Option<&[Sig]>
+fn locals_by(rec: &AsmRec, token: u32) -> Option<&[Sig]>
     ensures { option_copied result ≡ locals_by rec.now token }
 {
     let Some(at) = index_in(0x11, token) else {
@@ -28,95 +28,149 @@ pub(crate) fn locals_by(rec: &AsmRec, token: u32) -> Option<&[Sig]>
     }
 }
 
-/// The types of a method's locals.
-fn locals_in<'a>(rec: &'a AsmRec, row: &MethodDefRow) -> Option<&'a [Sig]>
-    ensures { option_copied result ≡ locals_in rec.now row.now.body }
-{
-    match &row.body {
-        None => None,
-        Some(Known::Good(body)) => locals_by(rec, body.locals),
-        Some(Known::Bad(_)) => None,
-    }
+/// The types of locals that are met, and tokens whose types are found among them.
+#[derive(Drop)]
+pub(crate) struct Met<'a> {
+    listed: Listed<'a>,
+    tokens: HashSet<u32>,
 }
 
-fn same_type(a: &Sig, b: &Sig) -> bool
-    ensures { result ≡ same_type a.now b.now }
+/// Puts the types that a token names at the end. They are looked at once for a token, if they are all primitive.
+fn meet_token<'a>(
+    alloc: Global,
+    rec: &'a AsmRec,
+    token: u32,
+    met: &mut Met<'a>,
+) -> Result<(), NoMemory>
+    requires { AreLocalsMet rec.now met.old }
+    ensures types { OnOk result (types_in met.new.listed ≡ met_option same_locals (types_in met.old.listed) (locals_by rec.now token)) }
+    ensures again { OnOk result (AreLocalsMet rec.now met.new) }
 {
-    match (a, b) {
-        (Sig::Prim(k), Sig::Prim(n)) => *k == *n,
-        _ => false,
+    if met.tokens.contains(&token) {
+        return Ok(());
     }
-}
-
-fn same_locals(a: &[Sig], b: &[Sig]) -> bool
-    ensures { result ≡ same_locals a.now b.now }
-{
-    let mut ours = a;
-    let mut theirs = b;
-    while let [ty, ours_behind @ ..] = ours {
-        match theirs {
-            [] => return false,
-            [other, theirs_behind @ ..] => {
-                if !same_type(ty, other) {
-                    return false;
-                }
-                ours = ours_behind;
-                theirs = theirs_behind;
-            }
-        }
-    }
-    theirs.is_empty()
-}
-
-fn has_locals(locals: &[&[Sig]], types: &[Sig]) -> bool
-    ensures { result ≡ list_any (same_locals types.now) (map (λ other. other.now) locals.now) }
-{
-    for other in locals {
-        if same_locals(types, other) {
-            return true;
-        }
-    }
-    false
-}
-
-/// Puts types of locals at the end, where they aren't in the list.
-#[tactic(auto, unfolding(restriction::specs::Numbering::met))]
-fn meet_locals<'a>(locals: &mut Vec<&'a [Sig]>, types: &'a [Sig]) -> Result<(), NoMemory>
-    ensures { OnOk result (map (λ other. other.now) locals.new.items ≡ met same_locals (map (λ other. other.now) locals.old.items) types.now) }
-{
-    if !has_locals(locals, types) {
-        locals.push(types)?;
+    let Some(types) = locals_by(rec, token) else {
+        return Ok(());
+    };
+    let found = met.listed.meet(alloc, types)?;
+    if found {
+        met.tokens.insert(token)?;
     }
     Ok(())
 }
 
+/// Puts the types of a method's locals at the end.
+fn meet_method<'a>(
+    alloc: Global,
+    rec: &'a AsmRec,
+    row: &MethodDefRow,
+    met: &mut Met<'a>,
+) -> Result<(), NoMemory>
+    requires { AreLocalsMet rec.now met.old }
+    ensures types { OnOk result (types_in met.new.listed ≡ met_option same_locals (types_in met.old.listed) (locals_in rec.now row.now.body)) }
+    ensures again { OnOk result (AreLocalsMet rec.now met.new) }
+{
+    match &row.body {
+        None => Ok(()),
+        Some(Known::Good(body)) => meet_token(alloc, rec, body.locals, met),
+        Some(Known::Bad(_)) => Ok(()),
+    }
+}
+
 /// The types of locals that methods have, in the order in which they are met.
 #[tactic(auto, unfolding(crate::specs::Gathering::gather))]
-pub(crate) fn locals_met<'a>(
+fn locals_met<'a>(
     alloc: Global,
     rec: &'a AsmRec,
     kept: &[&MethodDefRow],
-) -> Result<Vec<&'a [Sig]>, NoMemory>
-    ensures { IfOk result (λ locals. map (λ types. types.now) locals.items
+) -> Result<Listed<'a>, NoMemory>
+    ensures types { IfOk result (λ listed. types_in listed
         ≡ gather same_locals (λ m. locals_in rec.now m.body) [] (map (λ row. row.now) kept.now)) }
+    ensures places { IfOk result ArePlaced }
 {
-    let mut locals: Vec<&'a [Sig]> = Vec::new(alloc);
+    let mut met = Met {
+        listed: Listed::new(alloc),
+        tokens: HashSet::new(alloc),
+    };
     for row in kept {
-        if let Some(types) = locals_in(rec, row) {
-            meet_locals(&mut locals, types)?;
-        }
+        meet_method(alloc, rec, row, &mut met)?;
     }
-    Ok(locals)
+    let Met { listed, .. } = met;
+    Ok(listed)
 }
 
-/// The place of types of locals among those that are met, counted from 0; behind them all where they aren't there.
-pub(crate) fn locals_place(locals: &[&[Sig]], types: &[Sig]) -> usize
-    ensures { result ≡ place_from (same_locals types.now) 0 (map (λ other. other.now) locals.now) }
+/// The new token of a row of StandAloneSig; none of one without types.
+fn new_token(
+    alloc: Global,
+    listed: &Listed<'_>,
+    row: &StandAloneSigRow,
+) -> Result<Option<u32>, NoMemory>
+    requires { ArePlaced listed.now }
+    ensures { IfOk result (λ token. token ≡ new_token (types_in listed.now) row.now) }
 {
-    for (place, other) in locals.iter().enumerate() {
-        if same_locals(types, other) {
-            return place;
+    match &row.signature {
+        Known::Good(types) => {
+            let place = listed.place(alloc, types.as_slice())?;
+            Ok(Some(token_at(0x11, place)))
+        }
+        Known::Bad(_) => Ok(None),
+    }
+}
+
+fn new_tokens(
+    alloc: Global,
+    listed: &Listed<'_>,
+    rows: &[StandAloneSigRow],
+) -> Result<Vec<Option<u32>>, NoMemory>
+    requires { ArePlaced listed.now }
+    ensures { IfOk result (λ tokens. tokens.items ≡ map (new_token (types_in listed.now)) rows.now) }
+{
+    let mut tokens = Vec::new(alloc);
+    for row in rows {
+        let token = new_token(alloc, listed, row)?;
+        tokens.push(token)?;
+    }
+    Ok(tokens)
+}
+
+/// The types of locals in the record that is left, and what their tokens become.
+#[derive(Drop)]
+pub(crate) struct Locals<'a> {
+    /// In the order of the new rows.
+    pub(crate) types: Vec<&'a [Sig]>,
+    /// The new token of each row of StandAloneSig.
+    tokens: Vec<Option<u32>>,
+}
+
+impl<'a> Locals<'a> {
+    /// The types that these methods have.
+    pub(crate) fn of(
+        alloc: Global,
+        rec: &'a AsmRec,
+        kept: &[&MethodDefRow],
+    ) -> Result<Locals<'a>, NoMemory>
+        ensures { IfOk result (AreLocals rec.now (map (λ row. row.now) kept.now)) }
+    {
+        let listed = locals_met(alloc, rec, kept)?;
+        let tokens = new_tokens(alloc, &listed, rec.stand_alone_sig.as_slice())?;
+        let Listed { types, .. } = listed;
+        Ok(Locals { types, tokens })
+    }
+
+    /// The new token of a token of locals, 0 for none; one without types stays.
+    pub(crate) fn moved(&self, token: u32) -> u32
+        ensures { result ≡ moved_in self.now token }
+    {
+        if token == 0 {
+            return 0;
+        }
+        let Some(row) = index_in(0x11, token) else {
+            return token;
+        };
+        match self.tokens.get(row as usize) {
+            Some(Some(moved)) => *moved,
+            Some(None) => token,
+            None => token,
         }
     }
-    locals.len()
 }

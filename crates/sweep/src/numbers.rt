@@ -2,10 +2,10 @@ ghost use Rattle.std.specs.Prelude.{◌≡◌, IfOk};
 ghost use Rattle.sweep.specs.Numbers.{AreNumbers};
 
 use crate::kept::{Ranks, kept_methods};
-use crate::locals::locals_met;
+use crate::locals::Locals;
 use crate::references::References;
 use crate::texts::Texts;
-use il_base::{NoMemory, Sig};
+use il_base::NoMemory;
 use std::alloc::Global;
 use world_model::{AsmRec, MethodDefRow};
 
@@ -17,7 +17,7 @@ pub(crate) struct Numbers<'a> {
     pub(crate) kept: Vec<&'a MethodDefRow>,
     pub(crate) ranks: Ranks,
     pub(crate) references: References<'a>,
-    pub(crate) locals: Vec<&'a [Sig]>,
+    pub(crate) locals: Locals<'a>,
     pub(crate) texts: Texts,
 }
 
@@ -33,7 +33,7 @@ impl<'a> Numbers<'a> {
         let rows = kept.as_slice();
         let ranks = Ranks::of(alloc, flags)?;
         let references = References::of(alloc, rec, rows)?;
-        let locals = locals_met(alloc, rec, rows)?;
+        let locals = Locals::of(alloc, rec, rows)?;
         let texts = Texts::of(alloc, rec, rows)?;
         Ok(Numbers {
             flags,

@@ -56,13 +56,14 @@ pub(crate) struct ReferenceRows {
 }
 
 impl ReferenceRows {
+    #[tactic(auto, unfolding(restriction::specs::References::locals_met))]
     fn of(alloc: Global, rec: &AsmRec, numbers: &Numbers<'_>) -> Result<ReferenceRows, NoMemory>
         requires { AreNumbers rec.now numbers.now.flags.now numbers.now }
         ensures { IfOk result (λ rows. rows ≡ reference_rows rec.now numbers.now.flags.now) }
     {
         let types = new_type_refs(alloc, rec, numbers)?;
         let members = new_member_refs(alloc, rec, numbers)?;
-        let locals = new_locals(alloc, numbers.locals.as_slice())?;
+        let locals = new_locals(alloc, numbers.locals.types.as_slice())?;
         let assemblies = new_assembly_refs(alloc, numbers.references.assemblies.as_slice())?;
         Ok(ReferenceRows {
             types,

@@ -6,13 +6,13 @@ ghost use Rattle.file_layout.specs.Heaps.{user_item};
 ghost use Rattle.trim_rules.specs.Marked as marked;
 ghost use Rattle.restriction.specs.Numbering.{met};
 ghost use Rattle.restriction.specs.References.{good_text};
-ghost use Rattle.sweep.specs.Gathering.{gather, gather_all};
-ghost use Rattle.sweep.specs.Texts.{text_number, units_at, AreUnitsOf, texts_in, ArePlaces, loaded_by, numbered, AreTexts};
+ghost use Rattle.sweep.specs.Gathering.{met_option, gather, gather_all};
+ghost use Rattle.sweep.specs.Texts.{text_number, units_at, AreUnitsOf, texts_in, ArePlaces, AreTextsMet, loaded_by, numbered, AreTexts};
 
 use crate::members::code_in;
 use il_base::{Form, Instr, NoMemory, Operand, Seq};
 use std::alloc::Global;
-use std::collections::HashMap;
+use std::collections::{HashMap, HashSet};
 use world_model::{AsmRec, MethodDefRow, UserText};
 
 /// The texts of a record by the tokens under which `ldstr` loads them, each searched for once.
@@ -108,34 +108,53 @@ impl<'a> Places<'a> {
     }
 }
 
-/// The text that an instruction loads.
-fn text_loaded<'a>(loads: &Loads<'a>, instr: &Instr) -> Option<&'a [u16]>
-    ensures { option_copied result ≡ loaded_by loads.now instr.now.form instr.now.operand }
+/// The texts that are met, and tokens whose texts are found among them.
+#[derive(Drop)]
+pub(crate) struct Met<'a> {
+    places: Places<'a>,
+    tokens: HashSet<u32>,
+}
+
+/// Puts the text that a token loads at the end. It is read once for a token.
+fn meet_token<'a>(loads: &Loads<'a>, token: u32, met: &mut Met<'a>) -> Result<(), NoMemory>
+    requires { AreTextsMet loads.now met.old }
+    ensures texts { OnOk result (texts_in met.new.places ≡ met_option bytes_eq (texts_in met.old.places) (units_at loads.now token)) }
+    ensures again { OnOk result (AreTextsMet loads.now met.new) }
+{
+    if met.tokens.contains(&token) {
+        return Ok(());
+    }
+    if let Some(units) = loads.get(token) {
+        met.places.meet(units)?;
+        met.tokens.insert(token)?;
+    }
+    Ok(())
+}
+
+/// Puts the text that an instruction loads at the end.
+fn meet_text<'a>(loads: &Loads<'a>, instr: &Instr, met: &mut Met<'a>) -> Result<(), NoMemory>
+    requires { AreTextsMet loads.now met.old }
+    ensures texts { OnOk result (texts_in met.new.places ≡ met_option bytes_eq (texts_in met.old.places) (loaded_by loads.now instr.now.form instr.now.operand)) }
+    ensures again { OnOk result (AreTextsMet loads.now met.new) }
 {
     match instr.form {
         Form::LdStr => match &instr.operand {
-            Operand::Token(token) => loads.get(*token),
-            _ => None,
+            Operand::Token(token) => meet_token(loads, *token, met),
+            _ => Ok(()),
         },
-        _ => None,
+        _ => Ok(()),
     }
 }
 
 /// Puts the texts that some code loads at the end.
 #[tactic(auto, unfolding(crate::specs::Gathering::gather))]
-fn meet_texts<'a>(
-    loads: &Loads<'a>,
-    code: &[Instr],
-    places: &mut Places<'a>,
-) -> Result<(), NoMemory>
-    requires { ArePlaces places.old }
-    ensures texts { OnOk result (texts_in places.new ≡ gather bytes_eq (λ i. loaded_by loads.now i.form i.operand) (texts_in places.old) code.now) }
-    ensures places { OnOk result (ArePlaces places.new) }
+fn meet_texts<'a>(loads: &Loads<'a>, code: &[Instr], met: &mut Met<'a>) -> Result<(), NoMemory>
+    requires { AreTextsMet loads.now met.old }
+    ensures texts { OnOk result (texts_in met.new.places ≡ gather bytes_eq (λ i. loaded_by loads.now i.form i.operand) (texts_in met.old.places) code.now) }
+    ensures again { OnOk result (AreTextsMet loads.now met.new) }
 {
     for instr in code {
-        if let Some(units) = text_loaded(loads, instr) {
-            places.meet(units)?;
-        }
+        meet_text(loads, instr, met)?;
     }
     Ok(())
 }
@@ -151,10 +170,14 @@ fn texts_met<'a>(
         ≡ gather_all bytes_eq (λ i. loaded_by loads.now i.form i.operand) [] (map (λ row. marked.code_in row.now.body) kept.now)) }
     ensures places { IfOk result ArePlaces }
 {
-    let mut places: Places<'a> = Places::new(alloc);
+    let mut met = Met {
+        places: Places::new(alloc),
+        tokens: HashSet::new(alloc),
+    };
     for row in kept {
-        meet_texts(loads, code_in(row), &mut places)?;
+        meet_texts(loads, code_in(row), &mut met)?;
     }
+    let Met { places, .. } = met;
     Ok(places)
 }
 

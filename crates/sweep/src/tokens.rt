@@ -2,19 +2,18 @@ ghost use Rattle.std.specs.Prelude.{◌≡◌, map};
 ghost use Rattle.std.specs.Option.{option_copied};
 ghost use Rattle.world_model.specs.Core.{same_name};
 ghost use Rattle.restriction.specs.Numbering.{row_of};
-ghost use Rattle.restriction.specs.References.{same_member, same_locals};
+ghost use Rattle.restriction.specs.References.{same_member};
 ghost use Rattle.restriction.specs.Moved as moved;
 ghost use Rattle.sweep.specs.Numbers.{AreNumbers, scope_token_in, token_moved};
 
 use crate::assemblies::assembly_place;
 use crate::callees::{Callee, callee_of};
 use crate::kept::token_at;
-use crate::locals::{locals_by, locals_place};
 use crate::members::member_place;
 use crate::numbers::Numbers;
 use crate::references::References;
 use crate::types::{core_type_of, type_place};
-use il_base::{Form, Sig};
+use il_base::Form;
 use world_model::{AsmRec, AssemblyRefRow, CoreMember};
 
 /// The MemberRef token of a member of the core library.
@@ -42,13 +41,6 @@ pub(crate) fn scope_token(references: &References<'_>, scope: Option<&AssemblyRe
         Some(row) => token_at(0x23, assembly_place(assemblies, row)),
         None => 0,
     }
-}
-
-/// The StandAloneSig token of types of locals.
-fn locals_token(locals: &[&[Sig]], types: &[Sig]) -> u32
-    ensures { result ≡ moved.token_32 0x11 (row_of same_locals (map (λ other. other.now) locals.now) types.now) }
-{
-    token_at(0x11, locals_place(locals, types))
 }
 
 /// What the token of a base becomes.
@@ -83,19 +75,5 @@ pub(crate) fn moved_token(rec: &AsmRec, numbers: &Numbers<'_>, form: Form, token
         Form::Call => moved_callee(rec, numbers, token),
         Form::LdStr => numbers.texts.moved(token),
         _ => token,
-    }
-}
-
-/// What the token of a body's locals becomes, 0 for none.
-pub(crate) fn moved_locals(rec: &AsmRec, numbers: &Numbers<'_>, token: u32) -> u32
-    requires { AreNumbers rec.now numbers.now.flags.now numbers.now }
-    ensures { result ≡ moved.moved_locals rec.now numbers.now.flags.now token }
-{
-    if token == 0 {
-        return 0;
-    }
-    match locals_by(rec, token) {
-        Some(types) => locals_token(numbers.locals.as_slice(), types),
-        None => token,
     }
 }

@@ -8,4 +8,4 @@ mod opcodes;
 mod other_tables;
 mod thin;
 
-pub use thin::is_thin;
+pub use thin::{is_thin, is_thin_linked};

@@ -1,12 +1,15 @@
-ghost use Rattle.std.specs.Prelude.{◌≡◌, ◌+◌, ◌==◌, is_some, Some};
+ghost use Rattle.std.specs.Prelude.{◌≡◌, ◌∷◌, [], ◌+◌, ◌==◌, is_some, Some, None};
 ghost use Rattle.std.specs.List.{list_all, list_any};
 ghost use Rattle.world_model.specs.Thin.{is_thin_type_ref, is_module_type, is_only_class, are_two_types, is_own_name, is_entry_method, is_entry_at, all_differ, is_thin_method, is_thin};
 ghost use Rattle.world_model.specs.Core.{is_core_name, core_member};
 ghost use Rattle.world_model.specs.Tokens.{index_in};
+ghost use Rattle.link_rules.specs.Linked.{link_fault_of};
+ghost use Rattle.thin_links.specs.Linking.{is_thin_apart};
 
 use crate::elements::{I4, VOID, is_prim};
 use crate::methods::{all_differ, are_thin_methods};
 use crate::other_tables::has_no_other_rows;
+use thin_links::laws::methods_differ;
 use world_model::{
     AsmRec, AssemblyRefRow, AssemblyRow, Known, MemberRefRow, MethodDefRow, TypeDefRow, TypeRefRow,
     index_in, is_core_name, is_system_type, is_type_token, resolve_core_member,
@@ -122,4 +125,29 @@ pub fn is_thin(rec: &AsmRec) -> bool
         && are_thin_methods(rec, rec.method_def.as_slice())
         && all_differ(rec.method_def.as_slice())
         && is_entry(rec)
+}
+
+/// Whether a record is a thin one, but that two methods may have the same name and signature.
+#[tactic(auto, unfolding(thin_links::specs::Linking::is_thin_apart))]
+fn is_thin_apart(rec: &AsmRec) -> bool
+    ensures { result ≡ is_thin_apart rec.now }
+{
+    has_no_other_rows(rec)
+        && is_own_name(rec.assembly.as_slice())
+        && are_two_types(rec, rec.type_def.as_slice())
+        && are_core_assemblies(rec.assembly_ref.as_slice())
+        && are_thin_type_refs(rec, rec.type_ref.as_slice())
+        && are_core_members(rec, rec.member_ref.as_slice())
+        && are_thin_methods(rec, rec.method_def.as_slice())
+        && is_entry(rec)
+}
+
+/// Whether a record that links with the core library is a thin one. Linking found that no two methods are the same, so they
+/// aren't compared again.
+pub fn is_thin_linked(rec: &AsmRec) -> bool
+    requires { link_fault_of (rec.now ∷ []) ≡ None }
+    ensures { result ≡ is_thin rec.now }
+{
+    methods_differ();
+    is_thin_apart(rec)
 }

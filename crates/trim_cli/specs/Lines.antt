@@ -38,7 +38,11 @@ why_text why =
     else if why == 10 then codes "UnknownTable"
     else if why == 11 then codes "RowOutOfRange"
     else if why == 12 then codes "ListOrder"
-    else codes "SortOrder"
+    else if why == 13 then codes "SortOrder"
+    else if why == 14 then codes "DuplicateAssembly"
+    else if why == 15 then codes "CyclicTypes"
+    else if why == 16 then codes "CyclicNesting"
+    else codes "DuplicateMember"
 
 -- NAME OFFSET WHY
 abbrev pub bad_text : List ℕ → BadAt → List ℕ

@@ -97,7 +97,11 @@ fn why_text(why: u8) -> &'static [u8]
         10 => b"UnknownTable",
         11 => b"RowOutOfRange",
         12 => b"ListOrder",
-        _ => b"SortOrder",
+        13 => b"SortOrder",
+        14 => b"DuplicateAssembly",
+        15 => b"CyclicTypes",
+        16 => b"CyclicNesting",
+        _ => b"DuplicateMember",
     }
 }
 

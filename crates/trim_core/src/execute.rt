@@ -6,7 +6,7 @@ ghost use Rattle.trim_core.specs.Told.{told_alone, told_of};
 use crate::answers::{EndKind, Ending, ExecFault, Refusal};
 use crate::collect::Collected;
 use crate::run::run_record;
-use crate::told::told_alone;
+use crate::told::told_world;
 use il_base::{Seq, Text};
 use il_outside::Sink;
 use std::alloc::Global;
@@ -15,9 +15,12 @@ use std::alloc::Global;
 fn exec_file<O: Sink>(alloc: Global, file: &[u8], n: u64, out: &mut O) -> Result<EndKind, ExecFault>
     ensures { ExecsTo (told_alone file.now) n (O.state out.old) (O.state out.new) result }
 {
-    match told_alone(alloc, file) {
+    match told_world(alloc, file) {
         Err(refusal) => Err(ExecFault::Refused(refusal)),
-        Ok(rec) => run_record(alloc, &rec, n, out),
+        Ok(world) => match world.recs.as_slice() {
+            [] => unreachable!(),
+            [rec, ..] => run_record(alloc, rec, n, out),
+        },
     }
 }
 

@@ -1,36 +1,91 @@
 //! The record of a file, where it can be taken.
 
-ghost use Rattle.std.specs.Prelude.{◌≡◌, ◌≤◌, length, IfOk, IsTrue};
-ghost use Rattle.cli_format.specs.Demand.{first_fault};
-ghost use Rattle.record_format.specs.Record.{record_demands, HasRecord};
-ghost use Rattle.world_model.specs.Thin.{is_thin};
-ghost use Rattle.trim_core.specs.Told.{Told, told_alone, told_by, if_thin, most_bytes, name_of};
+ghost use Rattle.std.specs.Prelude.{◌≡◌, ◌≤◌, length, IfOk};
+ghost use Rattle.trim_core.specs.Told.{RefusedBy, AloneRead, ReadAlone, StartsLinked, starts_thin, unlinked_as, ToldWorld, told_alone, most_bytes, offset_of, name_of};
 
 use crate::answers::Refusal;
-use il_base::{NoMemory, Seq, Text};
+use il_base::{BadAt, NoMemory, Seq, Text};
+use link_rules::LinkError;
+use resolver::link;
 use std::alloc::Global;
-use thin_check::is_thin;
-use world_model::AsmRec;
-use world_reader::{RecordError, read_record};
+use thin_check::is_thin_linked;
+use world_model::{AsmRec, World};
+use world_reader::{RecordError, read_record, row_place};
 
 /// The most bytes that a file may have.
 const MOST_BYTES: usize = 67_108_864;
 
-/// The record of a file of at most that many bytes.
-#[tactic(auto, unfolding(cli_format::specs::Metadata::Refused))]
-fn read_told(alloc: Global, file: &[u8]) -> Result<AsmRec, Refusal>
+/// The offset of a row in a file, 0 where no row is named.
+fn offset_of(alloc: Global, file: &[u8], token: u32) -> Result<u32, NoMemory>
     requires { length file.now ≤ most_bytes }
-    ensures told { Told (told_by file.now (first_fault (record_demands file.now))) result }
-    ensures record { IfOk result (λ rec. HasRecord file.now rec) }
-    ensures thin { IfOk result (λ rec. IsTrue (is_thin rec)) }
+    ensures { IfOk result (λ at. at ≡ offset_of file.now token) }
 {
+    match row_place(alloc, file, token) {
+        Err(NoMemory) => Err(NoMemory),
+        Ok(None) => Ok(0),
+        Ok(Some(at)) => Ok(at),
+    }
+}
+
+/// The record of a file, alone in a list.
+fn read_alone(alloc: Global, file: &[u8]) -> Result<Seq<AsmRec>, RecordError>
+    requires { length file.now ≤ most_bytes }
+    ensures { ReadAlone file.now result }
+{
+    let mut recs = Seq::new(alloc);
     match read_record(alloc, file) {
-        Err(RecordError::Bad(at)) => Err(Refusal::BadFile { file: 0, at }),
-        Err(RecordError::Rows { found }) => Err(Refusal::Limit { which: 5, found }),
-        Err(RecordError::NoMemory) => Err(Refusal::NoMemory),
-        Ok(rec) => {
-            if is_thin(&rec) {
-                Ok(rec)
+        Err(error) => Err(error),
+        Ok(rec) => match recs.push(rec) {
+            Ok(()) => Ok(recs),
+            Err(NoMemory) => Err(RecordError::NoMemory),
+        },
+    }
+}
+
+/// What a demand of linking that fails is answered with, by the offset of its row.
+fn unlinked(alloc: Global, file: &[u8], input: u32, why: u8, token: u32) -> Refusal
+    requires { length file.now ≤ most_bytes }
+    ensures { RefusedBy (unlinked_as file.now input why token) result }
+{
+    match offset_of(alloc, file, token) {
+        Err(NoMemory) => Refusal::NoMemory,
+        Ok(offset) => Refusal::BadFile {
+            file: input,
+            at: BadAt { offset, why },
+        },
+    }
+}
+
+/// Whether the first record of a world is thin.
+fn starts_thin(world: &World) -> bool
+    requires { StartsLinked world.now.recs }
+    ensures { result ≡ starts_thin world.now.recs }
+{
+    match world.recs.as_slice() {
+        [] => false,
+        [rec, ..] => is_thin_linked(rec),
+    }
+}
+
+/// The world of a file's record and the core library, where it links and is thin.
+#[tactic(auto, unfolding(crate::specs::Told::told_alone))]
+fn link_told(alloc: Global, file: &[u8], inputs: Seq<AsmRec>) -> Result<World, Refusal>
+    requires small { length file.now ≤ most_bytes }
+    requires read { AloneRead file.now inputs }
+    ensures { ToldWorld file.now result }
+{
+    match link(alloc, inputs) {
+        Err(LinkError::NoMemory) => Err(Refusal::NoMemory),
+        Err(
+            LinkError::Bad {
+                file: input,
+                why,
+                token,
+            },
+        ) => Err(unlinked(alloc, file, input, why, token)),
+        Ok(world) => {
+            if starts_thin(&world) {
+                Ok(world)
             } else {
                 Err(Refusal::NotYet { file: 0 })
             }
@@ -38,30 +93,36 @@ fn read_told(alloc: Global, file: &[u8]) -> Result<AsmRec, Refusal>
     }
 }
 
-/// The record of the only file, where it can be taken.
-#[tactic(auto, unfolding(crate::specs::Told::told_alone))]
-pub(crate) fn told_alone(alloc: Global, file: &[u8]) -> Result<AsmRec, Refusal>
-    ensures told { Told (told_alone file.now) result }
-    ensures record { IfOk result (λ rec. HasRecord file.now rec) }
-    ensures thin { IfOk result (λ rec. IsTrue (is_thin rec)) }
+/// The world of the only file, where it can be taken. Its record is the first of the world.
+#[tactic(auto, unfolding(crate::specs::Told::told_alone, cli_format::specs::Metadata::Refused))]
+pub(crate) fn told_world(alloc: Global, file: &[u8]) -> Result<World, Refusal>
+    ensures { ToldWorld file.now result }
 {
     if file.len() > MOST_BYTES {
         let found = file.len() as u64;
         return Err(Refusal::Limit { which: 2, found });
     }
-    read_told(alloc, file)
+    match read_alone(alloc, file) {
+        Err(RecordError::Bad(at)) => Err(Refusal::BadFile { file: 0, at }),
+        Err(RecordError::Rows { found }) => Err(Refusal::Limit { which: 5, found }),
+        Err(RecordError::NoMemory) => Err(Refusal::NoMemory),
+        Ok(inputs) => link_told(alloc, file, inputs),
+    }
 }
 
 /// The name of the assembly that a file is, None where its record can't be taken.
 pub fn assembly_name(alloc: Global, file: &[u8]) -> Result<Option<Text>, NoMemory>
     ensures { IfOk result (λ name. name ≡ name_of (told_alone file.now)) }
 {
-    match told_alone(alloc, file) {
+    match told_world(alloc, file) {
         Err(Refusal::NoMemory) => Err(NoMemory),
         Err(_) => Ok(None),
-        Ok(rec) => match rec.assembly.as_slice() {
-            [] => Ok(None),
-            [row, ..] => Ok(Some(Seq::from_slice(alloc, row.name.as_slice())?)),
+        Ok(world) => match world.recs.as_slice() {
+            [] => unreachable!(),
+            [rec, ..] => match rec.assembly.as_slice() {
+                [] => Ok(None),
+                [row, ..] => Ok(Some(Seq::from_slice(alloc, row.name.as_slice())?)),
+            },
         },
     }
 }

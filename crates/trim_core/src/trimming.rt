@@ -1,9 +1,10 @@
 //! `trim`: leaves out what the entry point doesn't lead to.
 
-ghost use Rattle.std.specs.Prelude.{◌≡◌, None, IsTrue};
+ghost use Rattle.std.specs.Prelude.{◌≡◌, [], ◌∷◌, None, IsTrue};
 ghost use Rattle.blob_grammar.specs.Laws.{AreBytes};
 ghost use Rattle.record_format.specs.Record.{HasRecord};
 ghost use Rattle.world_model.specs.Thin.{is_thin};
+ghost use Rattle.link_rules.specs.Linked.{link_fault_of};
 ghost use Rattle.trim_core.specs.Told.{told_alone, told_of};
 ghost use Rattle.trim_core.specs.Trim.{Trims, TrimsRecord};
 ghost use Rattle.trim_core.specs.Exec.{place_in};
@@ -11,7 +12,7 @@ ghost use Rattle.trim_rules.specs.Marked.{IsMarking};
 ghost use Rattle.trim_rules.specs.BadOperands.{first_bad};
 
 use crate::answers::{Refusal, Trimmed};
-use crate::told::told_alone;
+use crate::told::told_world;
 use assembly_writer::{WriteError, write};
 use il_base::{Bits, Place, Seq, Text};
 use marking::{first_bad, mark_methods};
@@ -37,6 +38,7 @@ fn place_of(operand: BadOperand) -> Place
 fn written(alloc: Global, file: &[u8], rec: &AsmRec, marked: &Bits) -> Result<Trimmed, Refusal>
     requires record { HasRecord file.now rec.now }
     requires thin { IsTrue (is_thin rec.now) }
+    requires linked { link_fault_of (rec.now ∷ []) ≡ None }
     requires marking { IsMarking rec.now marked.now.flags }
     requires good { first_bad rec.now marked.now.flags ≡ None }
     ensures { TrimsRecord rec.now result }
@@ -62,6 +64,7 @@ fn written(alloc: Global, file: &[u8], rec: &AsmRec, marked: &Bits) -> Result<Tr
 fn trim_record(alloc: Global, file: &[u8], rec: &AsmRec) -> Result<Trimmed, Refusal>
     requires record { HasRecord file.now rec.now }
     requires thin { IsTrue (is_thin rec.now) }
+    requires linked { link_fault_of (rec.now ∷ []) ≡ None }
     ensures { TrimsRecord rec.now result }
 {
     let marked = match mark_methods(alloc, rec) {
@@ -81,9 +84,12 @@ fn trim_record(alloc: Global, file: &[u8], rec: &AsmRec) -> Result<Trimmed, Refu
 fn trim_file(alloc: Global, file: &[u8]) -> Result<Trimmed, Refusal>
     ensures { Trims (told_alone file.now) result }
 {
-    match told_alone(alloc, file) {
+    match told_world(alloc, file) {
         Err(refusal) => Err(refusal),
-        Ok(rec) => trim_record(alloc, file, &rec),
+        Ok(world) => match world.recs.as_slice() {
+            [] => unreachable!(),
+            [rec, ..] => trim_record(alloc, file, rec),
+        },
     }
 }
 

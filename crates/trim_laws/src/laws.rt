@@ -1,7 +1,8 @@
-ghost use Rattle.std.specs.Prelude.{◌≡◌, ◌≤◌, ℕ, List, Bool, length, None, IsTrue};
+ghost use Rattle.std.specs.Prelude.{◌≡◌, ◌≤◌, ℕ, List, [], ◌∷◌, Bool, length, None, IsTrue};
 ghost use Rattle.blob_grammar.specs.Laws.{AreBytes};
 ghost use Rattle.world_model.specs.declared.record.AsmRec.{AsmRec};
 ghost use Rattle.world_model.specs.Thin.{is_thin};
+ghost use Rattle.link_rules.specs.Linked.{link_fault_of};
 ghost use Rattle.record_format.specs.Record.{HasRecord};
 ghost use Rattle.trim_rules.specs.Marked.{IsMarking};
 ghost use Rattle.trim_rules.specs.BadOperands.{first_bad};
@@ -12,6 +13,7 @@ ghost use Rattle.trim_laws.specs.Headline.{Headline};
 
 use agreement::laws::{calls_have_form, runs_alike, settles};
 use blob_grammar::laws::values;
+use thin_links::laws::stays_linked;
 use written_record::laws::{fits, restricted_record};
 
 /// What is left of a thin file's record has a spelling in all its parts.
@@ -23,11 +25,11 @@ pub fn can_write()
     values();
 }
 
-/// Where a thin file's record has a marking without a bad operand, and what is left takes at most 268435456 bytes, and its
+/// Where a thin file's record links and has a marking without a bad operand, and what is left takes at most 268435456 bytes, and its
 /// `#US` at most 16777216 (a token of a text has 24 bits for its place, III.4.16), the file that is written loads as what is
-/// left, runs as the whole, and has nothing to leave out a second time.
+/// left, links, runs as the whole, and has nothing to leave out a second time.
 pub fn headline()
-    ensures { (bs : List ℕ) (rec : AsmRec) (flags : List Bool) → AreBytes bs → HasRecord bs rec → IsTrue (is_thin rec) → IsMarking rec flags
+    ensures { (bs : List ℕ) (rec : AsmRec) (flags : List Bool) → AreBytes bs → HasRecord bs rec → IsTrue (is_thin rec) → link_fault_of (rec ∷ []) ≡ None → IsMarking rec flags
         → first_bad rec flags ≡ None → laid_length (restricted rec flags) ≤ 268435456 → length (streams_of (restricted rec flags)).users ≤ 16777216
         → Headline rec flags }
 {
@@ -36,4 +38,5 @@ pub fn headline()
     restricted_record();
     runs_alike();
     settles();
+    stays_linked();
 }

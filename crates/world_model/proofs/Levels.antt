@@ -1,7 +1,7 @@
 -- Whether a type has more than a number of levels, by its outermost construct.
-use Rattle.std.proofs.Common.{◌≡◌, ℕ, zero, suc, ◌-◌, ◌<◌, Bool, true, false, List, map, nat_lt, refl, sym, ap, subst, ◌∙◌, arith}
+use Rattle.std.proofs.Common.{◌≡◌, ℕ, suc, ◌-◌, ◌<◌, Bool, true, false, List, map, nat_lt, refl, sym, ap, ◌∙◌, arith}
 use Rattle.il_base.specs.declared.ids.TypeId.{TypeId}
-use Rattle.world_model.specs.declared.expr.TypeExpr.{TypeExpr, fold-TypeExpr, fold-roll-TypeExpr, out-TypeExpr, roll-TypeExpr, roll-out-TypeExpr}
+use Rattle.world_model.specs.declared.expr.TypeExpr.{TypeExpr, fold-roll-TypeExpr, out-TypeExpr, roll-out-TypeExpr}
 use Rattle.world_model.specs.declared.expr.TypeExpr.TheFolds.{map-TypeExpr}
 use Rattle.world_model.specs.declared.expr.TypeExpr.TheOpen.{TypeExpr-F}
 use Rattle.world_model.specs.declared.expr.TypeExpr.TheVariants as expr

@@ -1,6 +1,6 @@
 -- Links by their places among those of their assembly.
-use Rattle.std.proofs.Common.{◌≡◌, ℕ, zero, suc, ◌+◌, List, [], ◌∷◌, drop, take, sum_by, slice_get, Option, Some, None, refl, ap, ◌∙◌, zero-add, arith}
-use Rattle.std.specs.Option.{option_map, option_and_then}
+use Rattle.std.proofs.Common.{◌≡◌, ℕ, zero, suc, ◌+◌, List, [], ◌∷◌, drop, take, sum_by, slice_get, Option, Some, None, refl, zero-add, arith}
+use Rattle.std.specs.Option.{option_and_then}
 use Rattle.world_model.specs.declared.links.LinkKind.{LinkKind}
 use Rattle.world_model.specs.declared.record.AsmRec.{AsmRec}
 use Rattle.world_model.specs.Worlds.{rows_before, behind, link_place}

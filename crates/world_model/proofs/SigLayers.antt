@@ -1,7 +1,7 @@
 -- The type that a signature names, with arguments put in, by the signature's outermost construct.
-use Rattle.std.proofs.Common.{◌≡◌, ℕ, Bool, List, [], ◌∷◌, ◌++◌, map, refl, sym, ap, ◌∙◌, append_assoc}
+use Rattle.std.proofs.Common.{◌≡◌, ℕ, Bool, List, [], ◌∷◌, map, refl, sym, ap, ◌∙◌}
 use Rattle.il_base.specs.declared.ids.TypeId.{TypeId}
-use Rattle.il_base.specs.declared.sig.Sig.{Sig, roll-Sig, fold-Sig, fold-roll-Sig}
+use Rattle.il_base.specs.declared.sig.Sig.{Sig, roll-Sig, fold-roll-Sig}
 use Rattle.il_base.specs.declared.sig.Sig.TheFolds.{map-Sig}
 use Rattle.il_base.specs.declared.sig.Sig.TheOpen.{Sig-F}
 use Rattle.il_base.specs.declared.sig.Sig.TheVariants as sig
@@ -12,7 +12,7 @@ use Rattle.world_model.specs.declared.expr.TypeExpr.TheVariants as expr
 use Rattle.world_model.specs.declared.record.AsmRec.{AsmRec}
 use Rattle.world_model.specs.declared.world.TypeLink.{TypeLink}
 use Rattle.world_model.specs.Exprs.{arg_or, subst}
-use Rattle.world_model.specs.Worlds.{known_map, known_then, all_known, type_link_at, named_in, definition_named, instance_of, modified, sig_layer, sig_expr, names_by, expr_by}
+use Rattle.world_model.specs.Worlds.{known_map, all_known, type_link_at, named_in, definition_named, instance_of, modified, sig_layer, sig_expr, names_by, expr_by}
 use Rattle.world_model.proofs.ExprLayers.{subst_prim, subst_inst, subst_array, subst_by_ref, subst_var, subst_mvar, subst_mod}
 
 -- what is put into each part is put into the whole

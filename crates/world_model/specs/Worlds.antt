@@ -1,5 +1,5 @@
 -- Look-ups in a world: the ids of rows, what tokens name, the type that a signature names.
-use Rattle.std.specs.Prelude.{ℕ, zero, suc, ◌+◌, ◌-◌, List, [], ◌∷◌, length, codes, Option, Some, None, slice_get, position, find, nat_lt, ◌==◌, ◌&&◌, Bool, false, if◌then◌else◌}
+use Rattle.std.specs.Prelude.{ℕ, zero, suc, ◌+◌, ◌-◌, List, [], ◌∷◌, length, codes, Option, Some, None, slice_get, position, find, nat_lt, ◌==◌, Bool, if◌then◌else◌}
 use Rattle.std.specs.Option.{option_map, option_and_then}
 use Rattle.il_base.specs.declared.ids.TypeId.{TypeId}
 use Rattle.il_base.specs.declared.sig.Sig.{Sig, fold-Sig}

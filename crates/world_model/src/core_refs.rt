@@ -34,7 +34,8 @@ pub fn is_core_name(name: &[u8]) -> bool
         || name == b"netstandard".as_slice()
 }
 
-fn is_core_scope(rec: &AsmRec, token: u32) -> bool
+/// Whether a scope token names a reference to the core library.
+pub fn is_core_scope(rec: &AsmRec, token: u32) -> bool
     ensures { result ≡ is_core_scope rec.now token }
 {
     let Some(at) = index_in(0x23, token) else {

@@ -1,5 +1,6 @@
 //! The data of a world: assemblies as records of their tables, and what references name once they are resolved.
-//! `specs/` defines, for thin files, which bytes a record is of and what its references name.
+//! `specs/` defines what tokens and signatures name in a world, type expressions' substitution, levels and equality, and
+//! thin records with what their references name.
 #![tactic(auto)]
 
 mod assemblies;
@@ -28,7 +29,8 @@ pub use assemblies::{
 };
 pub use core_member::CoreMember;
 pub use core_refs::{
-    index_in, is_core_name, is_system_type, is_type_token, prim_code, resolve_core_member,
+    index_in, is_core_name, is_core_scope, is_system_type, is_type_token, prim_code,
+    resolve_core_member,
 };
 pub use expr::{FieldUse, MemberSig, MethodUse, TypeExpr};
 pub use extras::{
@@ -37,6 +39,7 @@ pub use extras::{
 };
 pub use known::{BadKind, Known};
 pub use laws::{same_expr_is_equality, type_specs_are_not_asked};
+pub use links::{LinkKind, link_at};
 pub use lookup::type_link_at;
 pub use members::{
     EventMapRow, EventRow, FieldRow, MemberRefRow, MethodDefRow, MethodImplRow, MethodSemanticsRow,
@@ -51,3 +54,6 @@ pub use types::{
     ModuleRow, NestedClassRow, TypeDefRow, TypeRefRow, TypeSpecRow,
 };
 pub use world::{FieldLink, Home, MethodLink, TypeLink, World};
+
+#[cfg(test)]
+mod tests;

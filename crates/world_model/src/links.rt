@@ -10,9 +10,9 @@ use crate::core_refs::index_in;
 use crate::record::AsmRec;
 use il_base::AsmId;
 
-/// What a link is of.
+/// The kinds of links.
 #[derive(Clone, Copy, Debug, PartialEq, Eq)]
-pub(crate) enum LinkKind {
+pub enum LinkKind {
     /// A TypeRef, TypeDef or TypeSpec row.
     Type,
     /// A MethodDef, MemberRef or MethodSpec row.
@@ -143,8 +143,9 @@ fn among<'a, T>(kind: LinkKind, rec: &AsmRec, own: &'a [T], token: u32) -> Optio
     }
 }
 
-/// The link of a token of an assembly among all links of its kind; None where there is no such row.
-pub(crate) fn link_at<'a, T>(
+/// The link of a token of an assembly among all links of its kind, which are those of these assemblies in order, and of
+/// each assembly those of its rows. None where there is no such row, no such assembly or no link in its place.
+pub fn link_at<'a, T>(
     kind: LinkKind,
     recs: &[AsmRec],
     links: &'a [T],

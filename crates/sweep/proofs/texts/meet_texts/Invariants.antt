@@ -1,13 +1,13 @@
 use Rattle.std.proofs.Common.{◌≡◌, drop}
 use Rattle.std.specs.Prelude.{bytes_eq}
 use Rattle.sweep.specs.Gathering.{gather}
-use Rattle.sweep.specs.Texts.{texts_in, ArePlaces, loaded_by}
+use Rattle.sweep.specs.Texts.{texts_in, AreTextsMet, loaded_by}
 use Rattle.sweep.proofs.texts.meet_texts.Given as goal
 
 abbrev pub invariant-loop-instr : goal.invariant-loop-instr
 invariant-loop-instr l = record {
   texts :
-      gather bytes_eq (λ i. loaded_by l.loads i.form i.operand) (texts_in l.places) (drop l.instr-index l.code)
-      ≡ gather bytes_eq (λ i. loaded_by l.loads i.form i.operand) (texts_in l.initial.places) l.code;
-  places : ArePlaces l.places;
+      gather bytes_eq (λ i. loaded_by l.loads i.form i.operand) (texts_in l.met.places) (drop l.instr-index l.code)
+      ≡ gather bytes_eq (λ i. loaded_by l.loads i.form i.operand) (texts_in l.initial.met.places) l.code;
+  again : AreTextsMet l.loads l.met;
 }

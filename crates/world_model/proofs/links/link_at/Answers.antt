@@ -1,7 +1,5 @@
-use Rattle.std.proofs.Common.{◌≡◌, ◌<◌, ◌≤◌, length, take, drop, sum_by, slice_get, sym, ap, refl, ◌∙◌, arith}
-use Rattle.std.specs.Option.{option_and_then}
+use Rattle.std.proofs.Common.{◌<◌, ◌≤◌, length, sym, refl, ◌∙◌, arith}
 use Rattle.std.proofs.lemmas.Option.{slice_get_past, slice_get_read}
-use Rattle.world_model.specs.Kinds.{rows_in, row_in}
 use Rattle.world_model.proofs.Linked.{no_assembly, in_assembly}
 use Rattle.world_model.proofs.links.link_at.Goals as goal
 

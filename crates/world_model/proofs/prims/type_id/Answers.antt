@@ -1,4 +1,4 @@
-use Rattle.std.proofs.Common.{◌≡◌, ℕ, ◌+◌, List, min, take, sum_by, ap, ◌∙◌, arith}
+use Rattle.std.proofs.Common.{◌≡◌, ℕ, ◌+◌, min, take, sum_by, ap, ◌∙◌, arith}
 use Rattle.world_model.specs.Worlds.{rows_before, types_in}
 use Rattle.world_model.proofs.Counting.{before_cut}
 use Rattle.world_model.proofs.prims.type_id.Goals as goal

@@ -1,11 +1,9 @@
 use Rattle.std.proofs.Common.{refl, sym, ap, subst, ◌∙◌, List, map}
-use Rattle.std.specs.List.{flat_map}
 use Rattle.world_model.specs.declared.members.MethodDefRow.{MethodDefRow}
-use Rattle.restriction.specs.Numbering.{first_met}
-use Rattle.restriction.specs.References.{one_or_none, same_locals, locals_in}
 use Rattle.sweep.specs.Texts.{AreTexts}
+use Rattle.sweep.specs.Locals.{AreLocals}
 use Rattle.sweep.specs.References.{members_of, types_of, assemblies_of}
-use Rattle.sweep.proofs.Referring.{members_met_are, types_met_are, assemblies_met_are, locals_met_are, locals_are}
+use Rattle.sweep.proofs.Referring.{members_met_are, types_met_are, assemblies_met_are}
 use Rattle.sweep.proofs.numbers.Numbers.of.Goals as goal
 
 pub returns : goal.returns
@@ -21,9 +19,6 @@ returns c =
       members = r.members ∙ ap (members_of rec) rows ∙ sym (members_met_are rec flags);
       types = r.types ∙ ap (types_of rec) rows ∙ sym (types_met_are rec flags);
       assemblies = r.assemblies ∙ ap (assemblies_of rec) rows ∙ sym (assemblies_met_are rec flags);
-      locals =
-          c.in_ok-locals.ensures ∙ locals_are rec (map (λ row. row.now) c.as_slice-rows.result.now)
-          ∙ ap (λ (methods : List MethodDefRow). first_met same_locals (flat_map (λ (m : MethodDefRow). one_or_none (locals_in rec m.body)) methods)) rows
-          ∙ sym (locals_met_are rec flags);
+      locals = subst (λ (methods : List MethodDefRow). AreLocals rec methods c.in_ok-locals.locals) rows c.in_ok-locals.ensures;
       texts = subst (λ (methods : List MethodDefRow). AreTexts rec methods c.in_ok-texts.texts) rows c.in_ok-texts.ensures;
     }

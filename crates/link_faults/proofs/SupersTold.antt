@@ -1,0 +1,101 @@
+-- The graph of supertypes is that of the tables.
+use Rattle.std.proofs.Common.{◌≡◌, ℕ, zero, suc, Bool, true, false, List, [], ◌∷◌, ◌++◌, map, Option, Some, None, refl, sym, ap, ◌∙◌}
+use Rattle.std.specs.Prelude.{if◌then◌else◌, ◌==◌, slice_get, unwrap_or}
+use Rattle.std.specs.List.{flat_map}
+use Rattle.std.specs.Option.{option_map, option_and_then}
+use Rattle.std.proofs.lemmas.List.{append-nil, map-append}
+use Rattle.std.proofs.lemmas.Grind.{flat_map-append}
+use Rattle.world_model.specs.declared.expr.TypeExpr.{TypeExpr}
+use Rattle.world_model.specs.declared.types.TypeDefRow.{TypeDefRow}
+use Rattle.world_model.specs.declared.types.InterfaceImplRow.{InterfaceImplRow}
+use Rattle.world_model.specs.declared.record.AsmRec.{AsmRec}
+use Rattle.world_model.specs.declared.world.TypeLink.{TypeLink}
+use Rattle.world_model.specs.Tokens.{token_of}
+use Rattle.link_rules.specs.declared.row_at.RowAt.{RowAt}
+use Rattle.link_rules.specs.Signatures.{token_type}
+use Rattle.link_rules.specs.Members.{good_type, base_in, base_at}
+use Rattle.link_rules.specs.Cycles.{listed, home_of, is_row_of, interface_of, interfaces_in, interfaces_at, supertypes}
+use Rattle.link_rules.specs.Laws.{TellTokens}
+use Rattle.link_faults.specs.Graphs.{next_in}
+use Rattle.link_faults.specs.Targets.{id_of, linked, target_of, target_at}
+use Rattle.link_faults.specs.Supertypes.{base_target, interfaces_by, supers_of, all_supers}
+use Rattle.link_faults.proofs.Each.{Each, each_flat}
+use Rattle.link_faults.proofs.Renamed.{Leads}
+use Rattle.link_faults.proofs.Defined.{IsType, id_of_definition, definition_each}
+use Rattle.link_faults.proofs.Typed.{TypeAt, type_at, of_type}
+
+module _ (all : List AsmRec) where
+  abbrev homes : TypeExpr → List RowAt
+  homes e = listed (home_of all e)
+
+  abbrev ids : List RowAt → List ℕ
+  ids = map (id_of all)
+
+  ids_listed : (o : Option RowAt) → ids (listed o) ≡ listed (option_map (id_of all) o)
+  ids_listed None = refl
+  ids_listed (Some at) = refl
+
+  pub id_of_base : (o : Option TypeExpr) → option_map (id_of all) (option_and_then (home_of all) o) ≡ option_and_then (target_of all) o
+  id_of_base None = refl
+  id_of_base (Some e) = id_of_definition all e
+
+  -- the definition of a type that may be there
+  ids_of : (o : Option TypeExpr) → ids (flat_map homes (listed o)) ≡ listed (option_and_then (target_of all) o)
+  ids_of None = refl
+  ids_of (Some e) = ap ids (append-nil (homes e)) ∙ ids_listed (home_of all e) ∙ ap (λ (o : Option ℕ). listed o) (id_of_definition all e)
+
+  ids_joined : (xs ys : List TypeExpr) → ids (flat_map homes (xs ++ ys)) ≡ ids (flat_map homes xs) ++ ids (flat_map homes ys)
+  ids_joined xs ys = ap ids (flat_map-append homes xs ys) ∙ map-append (id_of all) (flat_map homes xs) (flat_map homes ys)
+
+  module _ (links : List TypeLink) (told : TellTokens all links) (a : ℕ) (rec : AsmRec) (there : slice_get all a ≡ Some rec) where
+    token_told : (token : ℕ) → option_and_then (target_of all) (good_type (token_type all a rec token)) ≡ target_at all links a token
+    token_told token = ap (λ k. option_and_then (target_of all) (good_type k)) (sym (told a rec there token))
+
+    pub base_by : (row : TypeDefRow) (b : Bool) → option_and_then (target_of all) (if b then None else good_type (token_type all a rec row.extends)) ≡ (if b then None else target_at all links a row.extends)
+    base_by row true = refl
+    base_by row false = token_told row.extends
+
+    base_ids : (row : TypeDefRow) → ids (flat_map homes (listed (base_in all a rec row))) ≡ listed (base_target all links a row)
+    base_ids row = ids_of (base_in all a rec row) ∙ ap (λ (o : Option ℕ). listed o) (base_by row (row.extends == 0))
+
+    interface_by : (row : InterfaceImplRow) (b : Bool)
+        → ids (flat_map homes (if b then listed (good_type (token_type all a rec row.interface)) else [])) ≡ (if b then listed (target_at all links a row.interface) else [])
+    interface_by row true = ids_of (good_type (token_type all a rec row.interface)) ∙ ap (λ (o : Option ℕ). listed o) (token_told row.interface)
+    interface_by row false = refl
+
+    interface_ids : (token : ℕ) (rows : List InterfaceImplRow) → ids (flat_map homes (flat_map (interface_of all a rec token) rows)) ≡ flat_map (interfaces_by all links a token) rows
+    interface_ids token [] = refl
+    interface_ids token (row ∷ rows) =
+        ids_joined (interface_of all a rec token row) (flat_map (interface_of all a rec token) rows)
+        ∙ (λ i. interface_by row (is_row_of token row) i ++ interface_ids token rows i)
+
+  -- of a type
+  module _ (links : List TypeLink) (told : TellTokens all links) (at : RowAt) (t : TypeAt all at) where
+    pub base_is : base_at all at ≡ base_in all at.asm t.rec t.row
+    base_is =
+        ap (option_and_then (λ (rec : AsmRec). option_and_then (base_in all at.asm rec) (slice_get rec.type_def at.row))) t.there
+        ∙ ap (option_and_then (base_in all at.asm t.rec)) t.is
+
+    interfaces_are : interfaces_at all at ≡ flat_map (interface_of all at.asm t.rec (token_of 0x02 (suc at.row))) t.rec.interface_impl
+    unfolding interfaces_at
+    interfaces_are = ap (λ (o : Option AsmRec). flat_map (interfaces_in all at) (listed o)) t.there ∙ append-nil (interfaces_in all at t.rec)
+
+    pub supers_told : ids (supertypes all at) ≡ supers_of all links at.asm t.rec.interface_impl at.row t.row
+    unfolding supertypes
+    supers_told =
+        ids_joined (listed (base_at all at)) (interfaces_at all at)
+        ∙ (λ i.
+        (ap (λ (o : Option TypeExpr). ids (flat_map homes (listed o))) base_is ∙ base_ids links told at.asm t.rec t.there t.row) i
+        ++ (ap (λ (es : List TypeExpr). ids (flat_map homes es)) interfaces_are ∙ interface_ids links told at.asm t.rec t.there (token_of 0x02 (suc at.row)) t.rec.interface_impl) i)
+
+  supers_each : (at : RowAt) → Each (IsType all) (supertypes all at)
+  unfolding supertypes
+  supers_each at = each_flat (IsType all) homes (listed (base_at all at) ++ interfaces_at all at) (definition_each all)
+
+  pub supers_lead : (links : List TypeLink) → TellTokens all links → (at : RowAt) → IsType all at → Leads (supertypes all) (IsType all) (id_of all) (next_in (all_supers all links)) at
+  supers_lead links told at is =
+      let t = type_at all at is in
+      record {
+        stays = supers_each at;
+        numbered = ap (λ (o : Option (List ℕ)). unwrap_or o []) (of_type (λ a (rec : AsmRec). supers_of all links a rec.interface_impl) all at t) ∙ sym (supers_told links told at t);
+      }

@@ -1,0 +1,8 @@
+use Rattle.std.proofs.Common.{◌≡◌, drop, take}
+use Rattle.world_model.specs.declared.record.AsmRec.{AsmRec}
+use Rattle.link_rules.specs.Faults.{first_of, cyclic_type, cyclic_types}
+use Rattle.link_faults.proofs.cycles.Graphs.first_cyclic.Given as goal
+
+abbrev pub invariant-loop-file : goal.invariant-loop-file
+invariant-loop-file l =
+    first_of (λ i (rec : AsmRec). first_of (cyclic_type l.scope.all.now i) 0 rec.type_def) l.file (drop l.file l.recs) ≡ cyclic_types l.scope.all.now l.recs

@@ -1,0 +1,10 @@
+use Rattle.std.proofs.Common.{◌≡◌, ◌++◌, drop}
+use Rattle.link_rules.specs.Faults.{numbered}
+use Rattle.link_faults.specs.declared.owners.Member.TheVariants as member
+use Rattle.link_faults.specs.Keys.{owner_in, code_of_field}
+use Rattle.link_faults.proofs.member_keys.field_codes.Given as goal
+
+abbrev pub invariant-loop-at : goal.invariant-loop-at
+invariant-loop-at l =
+    l.codes.items ++ numbered (λ k row. code_of_field l.scope.all.now l.scope.links.now l.asm.0 (owner_in member.Field l.rec k) row) l.at (drop l.at l.row-items)
+    ≡ numbered (λ k row. code_of_field l.scope.all.now l.scope.links.now l.asm.0 (owner_in member.Field l.rec k) row) 0 l.row-items

@@ -1,0 +1,7 @@
+use Rattle.std.proofs.Common.{◌≡◌, drop}
+use Rattle.world_model.specs.declared.record.AsmRec.{AsmRec}
+use Rattle.link_rules.specs.Faults.{first_of, cyclic_nesting_row, cyclic_nesting}
+use Rattle.link_faults.proofs.nesting.cyclic_nesting.Given as goal
+
+abbrev pub invariant-loop-file : goal.invariant-loop-file
+invariant-loop-file l = first_of (λ i (rec : AsmRec). first_of (cyclic_nesting_row rec i) 0 rec.nested_class) l.file (drop l.file l.recs) ≡ cyclic_nesting l.recs

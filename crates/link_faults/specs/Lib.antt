@@ -1,0 +1,12 @@
+pub mod Graphs
+pub mod Names
+pub mod Nesting
+pub mod Targets
+pub mod Supertypes
+pub mod Values
+pub mod TypeCycles
+pub mod Codes
+pub mod Repeats
+pub mod Owners
+pub mod Keys
+pub mod Answer

@@ -1,0 +1,13 @@
+-- Names of assemblies that are taken, with a test for those that were met.
+use Rattle.std.specs.Prelude.{ℕ, suc, List, [], ◌∷◌, Bool, true, ◌||◌, Option, Some, None, if◌then◌else◌}
+use Rattle.world_model.specs.declared.record.AsmRec.{AsmRec}
+use Rattle.world_model.specs.Core.{same_name, is_core_name}
+use Rattle.link_rules.specs.declared.link_error.LinkError.{LinkError}
+use Rattle.link_rules.specs.declared.link_error.LinkError.TheVariants as fault
+use Rattle.link_rules.specs.Faults.{own_name}
+
+abbrev pub taken_by : (List ℕ → Bool) → ℕ → List AsmRec → Option LinkError
+taken_by met i [] = None
+taken_by met i (rec ∷ recs) =
+    if is_core_name (own_name rec) || met (own_name rec) then Some (fault.Bad i 14 0)
+    else taken_by (λ name. if same_name (own_name rec) name then true else met name) (suc i) recs

@@ -1,0 +1,30 @@
+-- The graphs over the types of a world, and the types that they speak of.
+use Rattle.std.specs.Prelude.{◌≡◌, ℕ, List, Some, slice_get}
+use Rattle.world_model.specs.declared.record.AsmRec.{AsmRec}
+use Rattle.world_model.specs.declared.world.TypeLink.{TypeLink}
+use Rattle.world_model.specs.Worlds.{type_id}
+use Rattle.link_rules.specs.Types.{at_row}
+use Rattle.link_rules.specs.Members.{type_home}
+use Rattle.link_rules.specs.Laws.{TellTokens, TellSignatures, TellMethods}
+use Rattle.link_faults.specs.Supertypes.{all_supers}
+use Rattle.link_faults.specs.Values.{all_values, all_held}
+use Rattle.link_faults.specs.declared.cycles.Graphs.{Graphs}
+
+-- what links tell
+pub record Tells (all : List AsmRec) (links : List TypeLink) : Type 0 where
+  pub tokens : TellTokens all links
+  pub signatures : TellSignatures all links
+  pub methods : TellMethods all links
+
+-- the graphs of supertypes and of value types in fields
+pub record AreGraphs (all : List AsmRec) (links : List TypeLink) (graphs : Graphs) : Type 0 where
+  pub supers : graphs.supers.items ≡ all_supers all links
+  pub held : graphs.held.items ≡ all_held all links (all_values all links)
+
+-- there is a type in this row of this assembly
+abbrev pub HasType : List AsmRec → ℕ → ℕ → Type 0
+HasType all a k = type_home all (type_id all a k) ≡ Some (at_row a k)
+
+-- an assembly of a world
+abbrev pub HasAssembly : List AsmRec → ℕ → AsmRec → Type 0
+HasAssembly all a rec = slice_get all a ≡ Some rec

@@ -1,0 +1,141 @@
+//! Types on a cycle: over bases and interfaces, or over the value types in instance fields.
+
+ghost use Rattle.std.specs.Prelude.{◌≡◌, ◌≤◌, length, take, IfOk};
+ghost use Rattle.std.specs.Bool.{OnTrue};
+ghost use Rattle.link_rules.specs.Types.{at_row};
+ghost use Rattle.link_rules.specs.Faults.{first_of, is_cyclic_type, cyclic_type, cyclic_types};
+ghost use Rattle.link_rules.specs.Laws.{AreTypeLinks};
+ghost use Rattle.link_faults.specs.Graphs.{IsAcyclic};
+ghost use Rattle.link_faults.specs.TypeCycles.{Tells, AreGraphs, HasType, HasAssembly};
+
+use crate::found::row_fault;
+use crate::graph::is_on_cycle;
+use crate::held::all_held;
+use crate::ranks::is_acyclic;
+use crate::scope::Scope;
+use crate::supertypes::all_supers;
+use crate::value_types::all_values;
+use il_base::{NoMemory, Seq};
+use link_laws::laws::links_tell;
+use link_rules::LinkError;
+use std::alloc::Global;
+use world_model::{AsmRec, TypeLink, type_id};
+
+/// What each type leads to, in the order of ids.
+#[derive(Drop)]
+struct Graphs {
+    /// Its base and its interfaces.
+    supers: Vec<Seq<u32>>,
+    /// The value types in the instance fields of a value type.
+    held: Vec<Seq<u32>>,
+}
+
+impl Graphs {
+    fn of(alloc: Global, scope: &Scope<'_>) -> Result<Graphs, NoMemory>
+        ensures { IfOk result (λ graphs. AreGraphs scope.now.all.now scope.now.links.now graphs) }
+    {
+        let supers = all_supers(alloc, scope)?;
+        let values = all_values(alloc, scope)?;
+        let held = all_held(alloc, scope, &values)?;
+        Ok(Graphs { supers, held })
+    }
+
+    /// Whether no type is on a cycle: true only where none is.
+    fn are_acyclic(&self, alloc: Global) -> Result<bool, NoMemory>
+        ensures supers { IfOk result (λ yes. OnTrue yes (IsAcyclic self.now.supers.items)) }
+        ensures held { IfOk result (λ yes. OnTrue yes (IsAcyclic self.now.held.items)) }
+    {
+        if !is_acyclic(alloc, &self.supers)? {
+            return Ok(false);
+        }
+        is_acyclic(alloc, &self.held)
+    }
+
+    /// Whether the type in this row of an assembly is on a cycle.
+    #[tactic(auto, unfolding(link_rules::specs::Faults::is_cyclic_type))]
+    fn is_cyclic(
+        &self,
+        alloc: Global,
+        scope: &Scope<'_>,
+        file: usize,
+        at: usize,
+    ) -> Result<bool, NoMemory>
+        requires told { Tells scope.now.all.now scope.now.links.now }
+        requires graphs { AreGraphs scope.now.all.now scope.now.links.now self.now }
+        requires there { HasType scope.now.all.now file at }
+        ensures { IfOk result (λ yes. yes ≡ is_cyclic_type scope.now.all.now (at_row file at)) }
+    {
+        let Some(id) = type_id(scope.all, file, at) else {
+            return Err(NoMemory);
+        };
+        if is_on_cycle(alloc, &self.supers, scope.types, id.0)? {
+            return Ok(true);
+        }
+        is_on_cycle(alloc, &self.held, scope.types, id.0)
+    }
+
+    /// The first type of an assembly that is on a cycle, looked for one by one.
+    fn first_cyclic_in(
+        &self,
+        alloc: Global,
+        scope: &Scope<'_>,
+        file: usize,
+        rec: &AsmRec,
+    ) -> Result<Option<LinkError>, NoMemory>
+        requires told { Tells scope.now.all.now scope.now.links.now }
+        requires graphs { AreGraphs scope.now.all.now scope.now.links.now self.now }
+        requires there { HasAssembly scope.now.all.now file rec.now }
+        ensures { IfOk result (λ found. found ≡ first_of (cyclic_type scope.now.all.now file) 0 rec.now.type_def) }
+    {
+        for (at, _row) in rec.type_def.as_slice().iter().enumerate() {
+            if self.is_cyclic(alloc, scope, file, at)? {
+                return Ok(Some(row_fault(file, 15, 0x02, at)?));
+            }
+        }
+        Ok(None)
+    }
+
+    /// The first type of these assemblies that is on a cycle, looked for one by one.
+    #[tactic(auto, unfolding(link_rules::specs::Faults::cyclic_types))]
+    fn first_cyclic(
+        &self,
+        alloc: Global,
+        scope: &Scope<'_>,
+        inputs: usize,
+    ) -> Result<Option<LinkError>, NoMemory>
+        requires told { Tells scope.now.all.now scope.now.links.now }
+        requires graphs { AreGraphs scope.now.all.now scope.now.links.now self.now }
+        requires inputs { inputs ≤ length scope.now.all.now }
+        ensures { IfOk result (λ found. found ≡ cyclic_types scope.now.all.now (take inputs scope.now.all.now)) }
+    {
+        let recs = &scope.all[..inputs];
+        for (file, rec) in recs.iter().enumerate() {
+            let found = self.first_cyclic_in(alloc, scope, file, rec)?;
+            if found.is_some() {
+                return Ok(found);
+            }
+        }
+        Ok(None)
+    }
+}
+
+/// The first type among those of the first assemblies, `inputs` of them, that is on a cycle of bases and interfaces or of
+/// value types in instance fields (II.10.3, II.22.37). `links` are the links of the type tokens of all assemblies.
+pub fn cyclic_types(
+    alloc: Global,
+    all: &[AsmRec],
+    inputs: usize,
+    links: &[TypeLink],
+) -> Result<Option<LinkError>, NoMemory>
+    requires told { AreTypeLinks all.now links.now }
+    requires inputs { inputs ≤ length all.now }
+    ensures { IfOk result (λ found. found ≡ cyclic_types all.now (take inputs all.now)) }
+{
+    links_tell();
+    let scope = Scope::of(all, links)?;
+    let graphs = Graphs::of(alloc, &scope)?;
+    if graphs.are_acyclic(alloc)? {
+        return Ok(None);
+    }
+    graphs.first_cyclic(alloc, &scope, inputs)
+}

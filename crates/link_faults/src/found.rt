@@ -1,0 +1,25 @@
+//! Faults of rows.
+
+ghost use Rattle.std.specs.Prelude.{◌≡◌, suc, IfOk};
+ghost use Rattle.world_model.specs.Tokens.{token_of};
+ghost use Rattle.link_rules.specs.declared.link_error.LinkError.TheVariants as fault;
+
+use il_base::NoMemory;
+use link_rules::LinkError;
+
+/// The fault of a row of this table; rows and files count from 0. Where its token has more than 32 bits, there is no
+/// memory for such a row.
+pub(crate) fn row_fault(file: usize, why: u8, table: u8, row: usize) -> Result<LinkError, NoMemory>
+    ensures { IfOk result (λ found. found ≡ fault.Bad file why (token_of table (suc row))) }
+{
+    let Ok(file) = u32::try_from(file) else {
+        return Err(NoMemory);
+    };
+    let Ok(row) = u32::try_from(row) else {
+        return Err(NoMemory);
+    };
+    let Ok(token) = u32::try_from(u64::from(table) * 0x100_0000 + u64::from(row) + 1) else {
+        return Err(NoMemory);
+    };
+    Ok(LinkError::Bad { file, why, token })
+}

@@ -1,0 +1,29 @@
+//! Which demand of linking several assemblies fails first: the records of all assemblies and what their type tokens name go
+//! in, and the first fault comes out, as `link_rules` defines it (`Faults`).
+#![tactic(auto)]
+
+mod codes;
+mod cycles;
+mod duplicates;
+mod first;
+mod found;
+mod graph;
+mod held;
+mod member_keys;
+mod names;
+mod nesting;
+mod owners;
+mod ranks;
+mod repeats;
+mod scope;
+mod signatures;
+mod supertypes;
+mod targets;
+mod type_keys;
+mod value_types;
+
+pub use cycles::cyclic_types;
+pub use duplicates::duplicate_member;
+pub use first::link_fault;
+pub use names::duplicate_assembly;
+pub use nesting::cyclic_nesting;

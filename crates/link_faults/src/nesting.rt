@@ -1,0 +1,155 @@
+//! Cycles of enclosing types.
+
+ghost use Rattle.std.specs.Prelude.{◌≡◌, ℕ, suc, ◌<◌, ◌≤◌, ◌==◌, length, IfOk, OnOk, if◌then◌else◌};
+ghost use Rattle.link_rules.specs.Faults.{first_of, is_cyclic_around, cyclic_nesting_row, cyclic_nesting};
+ghost use Rattle.link_rules.specs.Types.{encloser};
+ghost use Rattle.link_rules.specs.Cycles.{listed};
+ghost use Rattle.world_model.specs.Tokens.{index_in};
+ghost use Rattle.link_faults.specs.Graphs.{next_in};
+ghost use Rattle.link_faults.specs.Nesting.{IsAround};
+
+use crate::found::row_fault;
+use crate::graph::{is_on_cycle, list_of, next_in};
+use crate::ranks::is_acyclic;
+use il_base::{NoMemory, Seq};
+use link_rules::LinkError;
+use std::alloc::Global;
+use world_model::{AsmRec, NestedClassRow, index_in};
+
+/// Adds nodes that lead to nothing, until there are this many.
+#[tactic(auto, using(crate::proofs::Nexts::next_push))]
+fn grow(alloc: Global, graph: &mut Vec<Seq<u32>>, nodes: usize) -> Result<(), NoMemory>
+    ensures same { OnOk result ((node : ℕ) → next_in graph.new.items node ≡ next_in graph.old.items node) }
+    ensures enough { OnOk result (nodes ≤ length graph.new.items) }
+{
+    for _count in graph.len()..nodes {
+        graph.push(Seq::new(alloc))?;
+    }
+    Ok(())
+}
+
+/// Lets a node lead to this one, or to nothing, and to no other.
+#[tactic(auto, using(crate::proofs::Nexts::next_set))]
+fn lead(
+    alloc: Global,
+    graph: &mut Vec<Seq<u32>>,
+    node: u32,
+    to: Option<u32>,
+) -> Result<(), NoMemory>
+    ensures { OnOk result ((other : ℕ) → next_in graph.new.items other ≡ (if node == other then listed to else next_in graph.old.items other)) }
+{
+    let led = list_of(alloc, to)?;
+    grow(alloc, graph, node as usize + 1)?;
+    graph[node as usize] = led;
+    Ok(())
+}
+
+/// What encloses each type, by rows of NestedClass (II.22.32): of two rows on one type the first counts.
+fn enclosers_by(alloc: Global, rows: &[NestedClassRow]) -> Result<Vec<Seq<u32>>, NoMemory>
+    ensures { IfOk result (λ graph. IsAround rows.now graph.items) }
+{
+    let mut graph = Vec::new(alloc);
+    for at in (0..rows.len()).rev() {
+        let row = &rows[at];
+        if let Some(nested) = index_in(0x02, row.nested_class) {
+            lead(
+                alloc,
+                &mut graph,
+                nested,
+                index_in(0x02, row.enclosing_class),
+            )?;
+        }
+    }
+    Ok(graph)
+}
+
+/// What encloses each type of an assembly.
+pub(crate) fn enclosers(alloc: Global, rec: &AsmRec) -> Result<Vec<Seq<u32>>, NoMemory>
+    ensures { IfOk result (λ graph. IsAround rec.now.nested_class graph.items) }
+{
+    enclosers_by(alloc, rec.nested_class.as_slice())
+}
+
+/// The type that encloses this one, if one does. For a row that no token can name there is no memory.
+pub(crate) fn encloser<'a>(
+    rec: &AsmRec,
+    graph: &'a [Seq<u32>],
+    at: usize,
+) -> Result<&'a [u32], NoMemory>
+    requires { IsAround rec.now.nested_class graph.now }
+    ensures { IfOk result (λ around. around.now ≡ listed (encloser rec.now at)) }
+{
+    match u32::try_from(at) {
+        Ok(node) => {
+            if node < 0xff_ffff {
+                Ok(next_in(graph, node))
+            } else {
+                Err(NoMemory)
+            }
+        }
+        Err(_) => Err(NoMemory),
+    }
+}
+
+/// Whether the encloser of a type is on a cycle, by the types that the rows of NestedClass name.
+fn is_cyclic_around(
+    alloc: Global,
+    rec: &AsmRec,
+    graph: &[Seq<u32>],
+    row: &NestedClassRow,
+) -> Result<bool, NoMemory>
+    requires { IsAround rec.now.nested_class graph.now }
+    ensures { IfOk result (λ yes. yes ≡ is_cyclic_around rec.now (index_in 0x02 row.now.nested_class)) }
+{
+    match index_in(0x02, row.nested_class) {
+        None => Ok(false),
+        Some(nested) => is_on_cycle(alloc, graph, rec.type_def.len(), nested),
+    }
+}
+
+/// The first row of NestedClass of an assembly whose encloser is on a cycle, looked for one by one.
+fn cyclic_row(
+    alloc: Global,
+    file: usize,
+    rec: &AsmRec,
+    graph: &[Seq<u32>],
+) -> Result<Option<LinkError>, NoMemory>
+    requires { IsAround rec.now.nested_class graph.now }
+    ensures { IfOk result (λ found. found ≡ first_of (cyclic_nesting_row rec.now file) 0 rec.now.nested_class) }
+{
+    for (at, row) in rec.nested_class.as_slice().iter().enumerate() {
+        if is_cyclic_around(alloc, rec, graph, row)? {
+            return Ok(Some(row_fault(file, 16, 0x29, at)?));
+        }
+    }
+    Ok(None)
+}
+
+/// The first row of NestedClass of an assembly whose encloser is on a cycle.
+fn cyclic_nesting_in(
+    alloc: Global,
+    file: usize,
+    rec: &AsmRec,
+) -> Result<Option<LinkError>, NoMemory>
+    ensures { IfOk result (λ found. found ≡ first_of (cyclic_nesting_row rec.now file) 0 rec.now.nested_class) }
+{
+    let graph = enclosers(alloc, rec)?;
+    if is_acyclic(alloc, &graph)? {
+        return Ok(None);
+    }
+    cyclic_row(alloc, file, rec, &graph)
+}
+
+/// The first row of NestedClass (II.22.32) whose encloser is on a cycle, assembly by assembly.
+#[tactic(auto, unfolding(link_rules::specs::Faults::cyclic_nesting))]
+pub fn cyclic_nesting(alloc: Global, recs: &[AsmRec]) -> Result<Option<LinkError>, NoMemory>
+    ensures { IfOk result (λ found. found ≡ cyclic_nesting recs.now) }
+{
+    for (file, rec) in recs.iter().enumerate() {
+        let found = cyclic_nesting_in(alloc, file, rec)?;
+        if found.is_some() {
+            return Ok(found);
+        }
+    }
+    Ok(None)
+}

@@ -1,0 +1,87 @@
+ghost use Rattle.std.specs.Prelude.{◌≡◌, IfOk};
+ghost use Rattle.link_rules.specs.Signatures.{names_at};
+ghost use Rattle.link_rules.specs.Members.{arguments_of, generic_method, method_spec_use};
+ghost use Rattle.member_links.specs.Linked.{IsScope};
+ghost use Rattle.member_links.specs.Definitions.{OwnMethods};
+
+use crate::definitions::{Definitions, method_def_use};
+use crate::linked::Scope;
+use crate::method_types::types_by;
+use crate::references::method_ref_use;
+use il_base::{NoMemory, Seq, Sig};
+use std::alloc::Global;
+use world_model::{BadKind, Known, MethodSpecRow, MethodUse, TypeExpr, index_in};
+
+/// The types that arguments name, or why the first that is bad names none.
+fn arguments_of(
+    alloc: Global,
+    scope: &Scope<'_>,
+    sigs: &[Sig],
+) -> Result<Known<Seq<TypeExpr>>, NoMemory>
+    requires { IsScope scope.now }
+    ensures { IfOk result (λ args. args ≡ arguments_of (names_at scope.now.linked.all.now scope.now.asm scope.now.rec.now) sigs.now) }
+{
+    let args = types_by(alloc, scope, &[], sigs)?;
+    Ok(args)
+}
+
+/// The method that a MethodDef or MemberRef token names.
+#[tactic(auto, unfolding(link_rules::specs::Members::generic_method))]
+fn generic_method(
+    alloc: Global,
+    scope: &Scope<'_>,
+    methods: &Definitions,
+    token: u32,
+) -> Result<Known<MethodUse>, NoMemory>
+    requires scope { IsScope scope.now }
+    requires own { OwnMethods scope.now.rec.now methods.now }
+    ensures { IfOk result (λ u. u ≡ generic_method scope.now.linked.all.now scope.now.asm scope.now.rec.now token) }
+{
+    if token / 0x100_0000 == 0x06 {
+        return match index_in(0x06, token) {
+            Some(k) if (k as usize) < scope.rec.method_def.len() => {
+                method_def_use(alloc, scope, methods, k)
+            }
+            _ => Ok(Known::Bad(BadKind::Unresolved)),
+        };
+    }
+    let Some(k) = index_in(0x0a, token) else {
+        return Ok(Known::Bad(BadKind::Unresolved));
+    };
+    match scope.rec.member_ref.get(k as usize) {
+        Some(row) => method_ref_use(alloc, scope, row),
+        None => Ok(Known::Bad(BadKind::Unresolved)),
+    }
+}
+
+/// The method with its arguments that a method instance names, or why it names none (II.22.29).
+#[tactic(auto, unfolding(link_rules::specs::Members::method_spec_use))]
+pub(crate) fn method_spec_use(
+    alloc: Global,
+    scope: &Scope<'_>,
+    methods: &Definitions,
+    row: &MethodSpecRow,
+) -> Result<Known<MethodUse>, NoMemory>
+    requires scope { IsScope scope.now }
+    requires own { OwnMethods scope.now.rec.now methods.now }
+    ensures { IfOk result (λ u. u ≡ method_spec_use scope.now.linked.all.now scope.now.asm scope.now.rec.now row.now) }
+{
+    let MethodUse { method, owner, .. } = match generic_method(alloc, scope, methods, row.method) {
+        Ok(Known::Good(generic)) => generic,
+        Ok(Known::Bad(why)) => return Ok(Known::Bad(why)),
+        Err(error) => return Err(error),
+    };
+    let sigs = match &row.instantiation {
+        Known::Good(sigs) => sigs.as_slice(),
+        Known::Bad(why) => return Ok(Known::Bad(*why)),
+    };
+    match arguments_of(alloc, scope, sigs) {
+        Ok(Known::Good(args)) => Ok(Known::Good(MethodUse {
+            method,
+            owner,
+            args,
+        })),
+        Ok(Known::Bad(why)) => Ok(Known::Bad(why)),
+        Err(error) => Err(error),
+    }
+}

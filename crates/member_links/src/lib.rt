@@ -1,0 +1,23 @@
+//! What the method and field tokens of several assemblies name, as `link_rules` defines it (`methods_of`, `fields_of`):
+//! from the assemblies and what their type tokens name, a link for each MethodDef, MemberRef and MethodSpec row, and for
+//! each Field and MemberRef row.
+#![tactic(auto)]
+
+mod bases;
+mod counted;
+mod definitions;
+mod found;
+mod homes;
+mod instances;
+mod linked;
+mod links;
+mod members;
+mod method_types;
+mod names;
+mod own_types;
+mod owners;
+mod params;
+mod references;
+mod uses;
+
+pub use links::{field_links, method_links};

@@ -1,0 +1,83 @@
+//! Where the items of a world stand.
+
+ghost use Rattle.std.specs.Prelude.{◌≡◌, ◌+◌, ◌*◌, ◌++◌, ℕ, suc, length, map, OnOk, IfOk};
+ghost use Rattle.std.specs.List.{range_with_len};
+ghost use Rattle.link_rules.specs.Linked.{home, homes_from, homes};
+ghost use Rattle.resolver.specs.Kinds.{count_in, item_of, table_of};
+
+use crate::kind::{Kind, count_in, item_of, table_of};
+use il_base::{AsmId, NoMemory, Seq};
+use std::alloc::Global;
+use world_model::{AsmRec, Home};
+
+/// The token of a row, from 0.
+fn token_of(table: u8, row: u32) -> Result<u32, NoMemory>
+    ensures { IfOk result (λ token. token ≡ table * 16777216 + suc row) }
+{
+    let token = u64::from(table) * 0x100_0000 + u64::from(row) + 1;
+    match u32::try_from(token) {
+        Ok(token) => Ok(token),
+        Err(_) => Err(NoMemory),
+    }
+}
+
+/// Adds those of one kind in one assembly, of which `before` stand in the assemblies before it.
+fn add_rows(
+    homes: &mut Seq<Home>,
+    kind: Kind,
+    asm: u32,
+    before: u32,
+    count: u32,
+) -> Result<(), NoMemory>
+    ensures { OnOk result (homes.new ≡ homes.old ++ map (home (item_of kind) asm (table_of kind) before) (range_with_len 0 count)) }
+{
+    for row in 0..count {
+        let Some(id) = before.checked_add(row) else {
+            return Err(NoMemory);
+        };
+        homes.push(Home {
+            item: item_of(kind, id),
+            asm: AsmId(asm),
+            token: token_of(table_of(kind), row)?,
+        })?;
+    }
+    Ok(())
+}
+
+/// Adds those of one kind, assembly by assembly.
+fn add_kind(homes: &mut Seq<Home>, kind: Kind, all: &[AsmRec]) -> Result<(), NoMemory>
+    ensures { OnOk result (homes.new ≡ homes.old ++ homes_from (count_in kind) (item_of kind) (table_of kind) 0 0 all.now) }
+{
+    let mut asm = 0u32;
+    let mut before = 0u32;
+    for rec in all {
+        let Ok(count) = u32::try_from(count_in(kind, rec)) else {
+            return Err(NoMemory);
+        };
+        add_rows(homes, kind, asm, before, count)?;
+        match (asm.checked_add(1), before.checked_add(count)) {
+            (Some(next), Some(behind)) => {
+                asm = next;
+                before = behind;
+            }
+            _ => return Err(NoMemory),
+        }
+    }
+    Ok(())
+}
+
+/// Where each item of these assemblies stands: the kinds one after the other, in each the assemblies in order.
+#[tactic(auto, unfolding(link_rules::specs::Linked::homes))]
+pub(crate) fn homes(alloc: Global, all: &[AsmRec]) -> Result<Seq<Home>, NoMemory>
+    ensures { IfOk result (λ hs. hs ≡ homes all.now) }
+{
+    let mut homes = Seq::new(alloc);
+    add_kind(&mut homes, Kind::Asm, all)?;
+    add_kind(&mut homes, Kind::Typ, all)?;
+    add_kind(&mut homes, Kind::Method, all)?;
+    add_kind(&mut homes, Kind::Field, all)?;
+    add_kind(&mut homes, Kind::Prop, all)?;
+    add_kind(&mut homes, Kind::Event, all)?;
+    add_kind(&mut homes, Kind::Impl, all)?;
+    Ok(homes)
+}

@@ -1,0 +1,61 @@
+//! Linking.
+
+ghost use Rattle.std.specs.Prelude.{◌≡◌, IfOk};
+ghost use Rattle.link_rules.specs.Linked.{Links, world_in};
+ghost use Rattle.link_rules.specs.Laws.{AreTypeLinks};
+
+use crate::assemblies::assemblies;
+use crate::homes::homes;
+use il_base::{NoMemory, Seq};
+use link_faults::link_fault;
+use link_rules::LinkError;
+use member_links::{field_links, method_links};
+use std::alloc::Global;
+use type_links::type_links;
+use world_model::{AsmRec, TypeLink, World};
+
+/// The world of these assemblies, the core library among them, where their type tokens name this.
+#[tactic(auto, unfolding(link_rules::specs::Linked::world_in))]
+fn world_with(alloc: Global, all: Seq<AsmRec>, types: Vec<TypeLink>) -> Result<World, NoMemory>
+    requires { AreTypeLinks all types.items }
+    ensures { IfOk result (λ w. w ≡ world_in all) }
+{
+    let methods = method_links(alloc, all.as_slice(), types.as_slice())?;
+    let fields = field_links(alloc, all.as_slice(), types.as_slice())?;
+    let homes = homes(alloc, all.as_slice())?;
+    Ok(World {
+        recs: all,
+        homes,
+        types: Seq::from_vec(types),
+        methods: Seq::from_vec(methods),
+        fields: Seq::from_vec(fields),
+    })
+}
+
+/// The world that these assemblies make with the core library. The first of them is the primary.
+///
+/// `Bad` comes exactly where a demand of linking fails, and names the first: a name of an assembly that is taken, a type on
+/// a cycle of bases and interfaces or of value types in fields, an encloser on a cycle, a member that is there twice.
+/// `NoMemory` alone is free; it comes too where a world has more rows of a kind than 4294967295. After a refusal the records
+/// are gone.
+pub fn link(alloc: Global, recs: Seq<AsmRec>) -> Result<World, LinkError>
+    ensures { Links recs result }
+{
+    let inputs = recs.len();
+    let all = match assemblies(alloc, recs) {
+        Err(NoMemory) => return Err(LinkError::NoMemory),
+        Ok(all) => all,
+    };
+    let types = match type_links(alloc, all.as_slice()) {
+        Err(NoMemory) => return Err(LinkError::NoMemory),
+        Ok(types) => types,
+    };
+    match link_fault(alloc, all.as_slice(), inputs, types.as_slice()) {
+        Err(fault) => return Err(fault),
+        Ok(()) => {}
+    }
+    match world_with(alloc, all, types) {
+        Err(NoMemory) => Err(LinkError::NoMemory),
+        Ok(world) => Ok(world),
+    }
+}

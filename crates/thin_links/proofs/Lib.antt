@@ -1,0 +1,11 @@
+pub mod CoreTypes
+pub mod Linkable
+pub mod Tokens
+pub mod Supertypes
+pub mod Leading
+pub mod Cyclic
+pub mod Compared
+pub mod Repeats
+pub mod Faults
+pub mod Differing
+pub mod Restricted

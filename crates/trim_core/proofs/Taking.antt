@@ -1,0 +1,63 @@
+-- What a file is, by a link of its record.
+use Rattle.std.proofs.Common.{◌≡◌, ℕ, ◌≤◌, List, [], ◌∷◌, ◌++◌, length, Option, Some, None, Result, Ok, Err, Bool, true, false, IsTrue, nat_le, refl, sym, ap, subst, ◌∙◌, arith, if◌then◌else◌}
+use Rattle.std.proofs.lemmas.Bool.Decides.{nat_tests}
+use Rattle.cli_format.specs.declared.error.TablesError.{TablesError}
+use Rattle.cli_format.specs.Demand.{first_fault}
+use Rattle.record_format.specs.Record.{record_demands, record_at, HasRecord}
+use Rattle.world_model.specs.declared.record.AsmRec.{AsmRec}
+use Rattle.world_model.specs.declared.world.World.{World}
+use Rattle.world_model.specs.Thin.{is_thin}
+use Rattle.core_table.specs.Record.{core_record}
+use Rattle.link_rules.specs.declared.link_error.LinkError.{LinkError}
+use Rattle.link_rules.specs.declared.link_error.LinkError.TheVariants as unlinked
+use Rattle.link_rules.specs.CoreNames.{missing_names, core_with}
+use Rattle.link_rules.specs.Linked.{assemblies, world_in, world_of, link_fault_of}
+use Rattle.trim_core.specs.declared.answers.Refusal.{Refusal}
+use Rattle.trim_core.specs.declared.answers.Refusal.TheVariants as refusal
+use Rattle.trim_core.specs.Told.{most_bytes, told_alone, told_by, told_linked, if_linked, if_thin, unlinked_as, AloneRead, StartsLinked, starts_thin, TakenWorld, Told, RefusedBy}
+
+module _ (file : List ℕ) (small : length file ≤ most_bytes) (inputs : List AsmRec) (a : AloneRead file inputs) where
+  -- a file of a size that is read, whose record is good, is what linking says
+  told_is : told_alone file ≡ if_linked file (record_at file)
+  unfolding told_alone
+  told_is =
+      let t : nat_le (length file) most_bytes ≡ true = grind (arith, nat_tests) in
+      rw (t, a.good) refl
+
+  fault_is : link_fault_of (record_at file ∷ []) ≡ link_fault_of inputs
+  fault_is = ap link_fault_of (sym a.one)
+
+  pub is_refused : (i why token : ℕ) (answer : Refusal) → link_fault_of inputs ≡ Some (unlinked.Bad i why token) → RefusedBy (unlinked_as file i why token) answer → Told (told_alone file) (Err answer)
+  is_refused i why token answer h r =
+      let e : told_alone file ≡ Err (unlinked_as file i why token) = told_is ∙ ap (told_linked file (record_at file)) (fault_is ∙ h) in
+      rw e r
+
+  links : link_fault_of inputs ≡ None → told_alone file ≡ if_thin (record_at file)
+  links h = told_is ∙ ap (told_linked file (record_at file)) (fault_is ∙ h)
+
+  pub not_yet : link_fault_of inputs ≡ None → is_thin (record_at file) ≡ false → Told (told_alone file) (Err (refusal.NotYet 0))
+  not_yet h f =
+      let e : told_alone file ≡ Err (refusal.NotYet 0) = links h ∙ rw f refl in
+      rw e refl
+
+  -- the world's first record is the file's
+  pub first_is : (w : World) → w ≡ world_of inputs → w.recs ≡ record_at file ∷ (core_with core_record (missing_names core_record inputs) ∷ [])
+  unfolding world_in assemblies
+  first_is w e = ap (λ (v : World). v.recs) e ∙ ap (λ (xs : List AsmRec). xs ++ core_with core_record (missing_names core_record inputs) ∷ []) a.one
+
+  pub taken : (w : World) → link_fault_of inputs ≡ None → w ≡ world_of inputs → is_thin (record_at file) ≡ true → TakenWorld file w
+  taken w h e t = record {
+    rec = record_at file;
+    told = links h ∙ rw t refl;
+    has = a.has;
+    thin = t;
+    linked = fault_is ∙ h;
+    others = core_with core_record (missing_names core_record inputs) ∷ [];
+    stands = first_is w e;
+  }
+
+  pub starts : (w : World) → link_fault_of inputs ≡ None → w ≡ world_of inputs → StartsLinked w.recs
+  starts w h e = subst StartsLinked (sym (first_is w e)) (fault_is ∙ h)
+
+  pub thin_is : (w : World) → w ≡ world_of inputs → starts_thin w.recs ≡ is_thin (record_at file)
+  thin_is w e = ap starts_thin (first_is w e)
