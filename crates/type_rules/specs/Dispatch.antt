@@ -19,7 +19,7 @@ use Rattle.link_rules.specs.declared.member_type.MethodType.{MethodType}
 use Rattle.link_rules.specs.Types.{at_row, or_else}
 use Rattle.link_rules.specs.Signatures.{subst_method}
 use Rattle.link_rules.specs.Members.{args_of, with_bases, type_count, methods_in, run_of, in_definition, open_parent, generic_method}
-use Rattle.link_rules.specs.Cycles.{listed, same_row, home_of}
+use Rattle.link_rules.specs.Cycles.{listed, led_to, same_row, home_of}
 use Rattle.type_rules.specs.Subtypes.{interfaces_of}
 use Rattle.type_rules.specs.Slots.{is_static, is_virtual, is_public, is_interface_row, method_row_at, method_home, type_of_method, type_of_row, match_in, nearest, slot_of, has_slot}
 
@@ -97,14 +97,13 @@ class_dispatch recs t slot = nearest (class_method_in recs slot) (with_bases rec
 
 -- ---- interface slots
 
--- an interface and those that its rows imply, in their order, over at most n rows
-unfoldable pub implied : List AsmRec → ℕ → TypeExpr → List TypeExpr
-implied recs zero e = e ∷ []
-implied recs (suc n) e = e ∷ flat_map (implied recs n) (interfaces_of recs e)
+-- an interface instance and all that its rows imply, the nearest first; no chain of rows is longer than there are types
+unfoldable pub implied : List AsmRec → TypeExpr → List TypeExpr
+implied recs e = led_to same_expr (interfaces_of recs) (type_count recs) (e ∷ [])
 
 -- the interface instances that a type's rows imply, its own parameters left open
 abbrev pub implied_by : List AsmRec → TypeExpr → List TypeExpr
-implied_by recs e = flat_map (implied recs (type_count recs)) (interfaces_of recs (open_parent recs e))
+implied_by recs e = flat_map (implied recs) (interfaces_of recs (open_parent recs e))
 
 abbrev pub is_closed_to : List TypeExpr → TypeExpr → TypeExpr → Bool
 is_closed_to args wanted e = same_expr (subst args [] e) wanted
@@ -121,10 +120,9 @@ pub record Choice : Type 0 where
 abbrev pub choice_in : List AsmRec → TypeExpr → TypeExpr → Option Choice
 choice_in recs wanted e = option_map (λ i. record { of = e; instance = i }) (chosen recs wanted e)
 
--- a declaration of the slot itself in the instance, where the type has these arguments
+-- a declaration with this slot, in the instance, where the type has these arguments
 abbrev pub declares_in : List AsmRec → RowAt → TypeExpr → List TypeExpr → MethodUse → Bool
-declares_in recs slot instance targs d =
-    list_any (same_row slot) (listed (method_home recs d.method)) && same_expr (subst targs [] d.owner) instance
+declares_in recs slot instance targs d = declares_slot recs slot d && same_expr (subst targs [] d.owner) instance
 
 abbrev pub is_public_virtual : MethodDefRow → Bool
 is_public_virtual m = is_public m && is_virtual m

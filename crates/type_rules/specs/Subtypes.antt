@@ -1,27 +1,45 @@
 -- Which types a type can stand for (I.8.7), without variance: itself, its base, its interfaces, and all that these can stand
 -- for; an array also for an array whose element its own is a reference to.
 use Rattle.std.specs.Prelude.{◌≡◌, ℕ, zero, suc, List, [], ◌∷◌, ◌++◌, map, Option, Some, None, ◌==◌, ◌&&◌, ◌||◌, Bool, true, false, not, IsTrue}
-use Rattle.std.specs.List.{list_any, flat_map}
-use Rattle.std.specs.Option.{option_map}
+use Rattle.std.specs.List.{list_any, flat_map, filter}
+use Rattle.std.specs.Option.{option_map, option_and_then}
 use Rattle.world_model.specs.declared.expr.TypeExpr.{TypeExpr, out-TypeExpr}
 use Rattle.world_model.specs.declared.expr.TypeExpr.TheOpen.{TypeExpr-F}
 use Rattle.world_model.specs.declared.expr.TypeExpr as expr
 use Rattle.world_model.specs.declared.record.AsmRec.{AsmRec}
 use Rattle.world_model.specs.Exprs.{subst, levels, same_expr}
 use Rattle.link_rules.specs.declared.row_at.RowAt.{RowAt}
-use Rattle.link_rules.specs.Members.{array_type, args_of, base_of, type_count}
-use Rattle.link_rules.specs.Cycles.{listed, home_of, interfaces_at, is_value_type}
+use Rattle.link_rules.specs.Members.{array_type, args_of, base_at, type_count}
+use Rattle.link_rules.specs.Cycles.{listed, led_to, home_of, interfaces_at, is_value_type}
 
 -- ---- one step up
 
--- the interfaces that the rows of a type name, with the type's arguments put in; a bad row gives nothing
+-- a class or an interface, alone or with arguments: what a base or an interface can be (II.10.1.3, II.22.23)
+abbrev pub is_named_in : TypeExpr-F TypeExpr → Bool
+is_named_in (TypeExpr-F.Prim n) = true
+is_named_in (TypeExpr-F.Def t) = true
+is_named_in (TypeExpr-F.Inst t args) = true
+is_named_in _ = false
+
+unfoldable pub is_named : TypeExpr → Bool
+is_named e = is_named_in (out-TypeExpr e)
+
+-- such types with the arguments of a type put in; any other type gives nothing, as a bad row does
+abbrev pub named_with : TypeExpr → List TypeExpr → List TypeExpr
+named_with e types = map (subst (args_of e) []) (filter is_named types)
+
+-- the base that the row of a type names
+abbrev pub bases_of : List AsmRec → TypeExpr → List TypeExpr
+bases_of recs e = named_with e (listed (option_and_then (base_at recs) (home_of recs e)))
+
+-- the interfaces that the rows of a type name, in order
 unfoldable pub interfaces_of : List AsmRec → TypeExpr → List TypeExpr
-interfaces_of recs e = map (subst (args_of e) []) (flat_map (interfaces_at recs) (listed (home_of recs e)))
+interfaces_of recs e = named_with e (flat_map (interfaces_at recs) (listed (home_of recs e)))
 
 -- of an array it is System.Array (I.8.9.1)
 abbrev pub up_in : List AsmRec → TypeExpr → TypeExpr-F TypeExpr → List TypeExpr
 up_in recs e (TypeExpr-F.Array x) = listed (option_map (λ t. expr.Def t) (array_type recs))
-up_in recs e _ = listed (base_of recs e) ++ interfaces_of recs e
+up_in recs e _ = bases_of recs e ++ interfaces_of recs e
 
 unfoldable pub up : List AsmRec → TypeExpr → List TypeExpr
 up recs e = up_in recs e (out-TypeExpr e)
@@ -52,10 +70,12 @@ pub data IsSubtype (recs : List AsmRec) : TypeExpr → TypeExpr → Type 0 where
 
 -- ---- the same as a search
 
--- in at most n steps up
-unfoldable pub leads_up : List AsmRec → ℕ → TypeExpr → TypeExpr → Bool
-leads_up recs zero a b = same_expr a b
-leads_up recs (suc n) a b = same_expr a b || list_any (λ x. leads_up recs n x b) (up recs a)
+-- what a type leads to, itself first; steps up pass each type of a linked world once, and System.Array before
+unfoldable pub above : List AsmRec → TypeExpr → List TypeExpr
+above recs e = led_to same_expr (up recs) (suc (type_count recs)) (e ∷ [])
+
+abbrev pub leads_up : List AsmRec → TypeExpr → TypeExpr → Bool
+leads_up recs a b = list_any (same_expr b) (above recs a)
 
 abbrev pub element_in : TypeExpr-F TypeExpr → Option TypeExpr
 element_in (TypeExpr-F.Array x) = Some x
@@ -69,11 +89,10 @@ are_elements recs below None y = false
 are_elements recs below (Some x) None = false
 are_elements recs below (Some x) (Some y) = is_reference recs x && below x y
 
--- Steps up pass each type of a linked world once, and System.Array before; arrays are at most n levels deep.
+-- arrays at most n levels deep
 unfoldable pub is_below : List AsmRec → ℕ → TypeExpr → TypeExpr → Bool
-is_below recs zero a b = leads_up recs (suc (type_count recs)) a b
-is_below recs (suc n) a b =
-    leads_up recs (suc (type_count recs)) a b || are_elements recs (is_below recs n) (element_of a) (element_of b)
+is_below recs zero a b = leads_up recs a b
+is_below recs (suc n) a b = leads_up recs a b || are_elements recs (is_below recs n) (element_of a) (element_of b)
 
 abbrev pub is_subtype : List AsmRec → TypeExpr → TypeExpr → Bool
 is_subtype recs a b = is_below recs (levels a) a b
