@@ -1,12 +1,2 @@
-pub mod RowLemmas
-pub mod OwnLemmas
-pub mod SubstNone
-pub mod MethodTypes
-pub mod Searching
-pub mod Owning
 pub mod Linking
 pub mod Telling
-pub mod NameRows
-pub mod Places
-pub mod Zips
-pub mod Running

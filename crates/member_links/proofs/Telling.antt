@@ -3,10 +3,10 @@ use Rattle.std.proofs.Common.{◌≡◌, ℕ, ◌<◌, length, get_or, refl}
 use Rattle.std.specs.List.{AllZip}
 use Rattle.std.proofs.lemmas.Option.{slice_get_read}
 use Rattle.link_rules.specs.Laws.{AreTypeLinks, LinksTell}
-use Rattle.member_links.specs.declared.linked.Linked.{Linked}
-use Rattle.member_links.specs.declared.linked.Scope.{Scope}
-use Rattle.member_links.specs.Linked.{IsLinked, IsScope}
-use Rattle.member_links.specs.Names.{AreNames}
+use Rattle.member_search.specs.declared.linked.Linked.{Linked}
+use Rattle.member_search.specs.declared.linked.Scope.{Scope}
+use Rattle.member_search.specs.Linked.{IsLinked, IsScope}
+use Rattle.member_search.specs.Names.{AreNames}
 
 is_linked : LinksTell → (w : Linked) → AreTypeLinks w.all.now w.links.now → AllZip AreNames w.all.now w.names.now → IsLinked w
 is_linked tell w are names = let told = tell w.all.now w.links.now are in record { tokens = told.0; signatures = told.1; methods = told.2; names = names }

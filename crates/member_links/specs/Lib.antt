@@ -1,8 +1,1 @@
-pub mod Counted
 pub mod Definitions
-pub mod Found
-pub mod Linked
-pub mod Names
-pub mod Owners
-pub mod Params
-pub mod Wanted

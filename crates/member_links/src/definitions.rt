@@ -1,18 +1,18 @@
 ghost use Rattle.std.specs.Prelude.{◌≡◌, ◌<◌, length, slice_index_or, None, IfOk};
 ghost use Rattle.std.specs.Option.{option_map};
 ghost use Rattle.link_rules.specs.Members.{method_def_use, field_def_use};
-ghost use Rattle.member_links.specs.Found.{told};
-ghost use Rattle.member_links.specs.Params.{AreParamCounts};
-ghost use Rattle.member_links.specs.Definitions.{with_owner, AreMethodOwners, AreFieldOwners, OwnMethods, OwnFields};
+ghost use Rattle.member_search.specs.Found.{told};
+ghost use Rattle.member_search.specs.Params.{AreParamCounts};
+ghost use Rattle.member_links.specs.Definitions.{with_owner, OwnMethods, OwnFields};
 
-use crate::found::Found;
-use crate::linked::Scope;
-use crate::own_types::own_type;
-use crate::owners::{field_runs, method_runs, owners_of};
-use crate::params::ParamCounts;
 use crate::uses::{field_use, method_use};
 use il_base::NoMemory;
 use link_rules::RowAt;
+use member_search::found::Found;
+use member_search::linked::Scope;
+use member_search::own_types::own_type;
+use member_search::owners::{field_owners, method_owners};
+use member_search::params::ParamCounts;
 use std::alloc::Global;
 use world_model::{AsmRec, FieldUse, Known, MethodUse};
 
@@ -22,22 +22,6 @@ pub(crate) struct Definitions {
     /// By the member's row: the type's row, both from 0.
     owners: Vec<Option<u32>>,
     params: ParamCounts,
-}
-
-fn method_owners(alloc: Global, rec: &AsmRec) -> Result<Vec<Option<u32>>, NoMemory>
-    ensures { IfOk result (λ owners. AreMethodOwners rec.now owners.items) }
-{
-    let runs = method_runs(alloc, rec)?;
-    let owners = owners_of(alloc, runs.as_slice(), rec.method_def.len())?;
-    Ok(owners)
-}
-
-fn field_owners(alloc: Global, rec: &AsmRec) -> Result<Vec<Option<u32>>, NoMemory>
-    ensures { IfOk result (λ owners. AreFieldOwners rec.now owners.items) }
-{
-    let runs = field_runs(alloc, rec)?;
-    let owners = owners_of(alloc, runs.as_slice(), rec.field.len())?;
-    Ok(owners)
 }
 
 impl Definitions {

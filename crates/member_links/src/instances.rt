@@ -1,29 +1,16 @@
 ghost use Rattle.std.specs.Prelude.{◌≡◌, IfOk};
 ghost use Rattle.link_rules.specs.Signatures.{names_at};
 ghost use Rattle.link_rules.specs.Members.{arguments_of, generic_method, method_spec_use};
-ghost use Rattle.member_links.specs.Linked.{IsScope};
+ghost use Rattle.member_search.specs.Linked.{IsScope};
 ghost use Rattle.member_links.specs.Definitions.{OwnMethods};
 
 use crate::definitions::{Definitions, method_def_use};
-use crate::linked::Scope;
-use crate::method_types::types_by;
 use crate::references::method_ref_use;
 use il_base::{NoMemory, Seq, Sig};
+use member_search::linked::Scope;
+use member_search::method_types::open_types;
 use std::alloc::Global;
 use world_model::{BadKind, Known, MethodSpecRow, MethodUse, TypeExpr, index_in};
-
-/// The types that arguments name, or why the first that is bad names none.
-fn arguments_of(
-    alloc: Global,
-    scope: &Scope<'_>,
-    sigs: &[Sig],
-) -> Result<Known<Seq<TypeExpr>>, NoMemory>
-    requires { IsScope scope.now }
-    ensures { IfOk result (λ args. args ≡ arguments_of (names_at scope.now.linked.all.now scope.now.asm scope.now.rec.now) sigs.now) }
-{
-    let args = types_by(alloc, scope, &[], sigs)?;
-    Ok(args)
-}
 
 /// The method that a MethodDef or MemberRef token names.
 #[tactic(auto, unfolding(link_rules::specs::Members::generic_method))]
@@ -75,7 +62,7 @@ pub(crate) fn method_spec_use(
         Known::Good(sigs) => sigs.as_slice(),
         Known::Bad(why) => return Ok(Known::Bad(*why)),
     };
-    match arguments_of(alloc, scope, sigs) {
+    match open_types(alloc, scope, sigs) {
         Ok(Known::Good(args)) => Ok(Known::Good(MethodUse {
             method,
             owner,

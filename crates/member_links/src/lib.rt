@@ -3,20 +3,9 @@
 //! each Field and MemberRef row.
 #![tactic(auto)]
 
-mod bases;
-mod counted;
 mod definitions;
-mod found;
-mod homes;
 mod instances;
-mod linked;
 mod links;
-mod members;
-mod method_types;
-mod names;
-mod own_types;
-mod owners;
-mod params;
 mod references;
 mod uses;
 

@@ -4,18 +4,18 @@ ghost use Rattle.link_rules.specs.Faults.{numbered};
 ghost use Rattle.link_rules.specs.Members.{method_def_use, field_def_use, method_ref_use, field_ref_use, method_spec_use};
 ghost use Rattle.link_rules.specs.Linked.{method_link, field_link, methods_of, fields_of, links_from};
 ghost use Rattle.link_rules.specs.Laws.{AreTypeLinks};
-ghost use Rattle.member_links.specs.Linked.{IsScope};
+ghost use Rattle.member_search.specs.Linked.{IsScope};
 ghost use Rattle.member_links.specs.Definitions.{OwnMethods, OwnFields};
 
-use crate::counted::row_of;
 use crate::definitions::{Definitions, field_def_use, method_def_use};
 use crate::instances::method_spec_use;
-use crate::linked::{Linked, Scope};
-use crate::names::names_of;
-use crate::params::token_of;
 use crate::references::{field_ref_use, method_ref_use};
 use il_base::{AsmId, NoMemory};
 use link_laws::laws::links_tell;
+use member_search::counted::row_of;
+use member_search::linked::{Linked, Scope};
+use member_search::names::names_of;
+use member_search::params::token_of;
 use std::alloc::Global;
 use world_model::{AsmRec, FieldLink, FieldUse, Known, MethodLink, MethodUse, TypeLink};
 

@@ -2,42 +2,20 @@ ghost use Rattle.std.specs.Prelude.{◌≡◌, IfOk};
 ghost use Rattle.world_model.specs.Worlds.{sig_expr};
 ghost use Rattle.link_rules.specs.Signatures.{names_at, method_type};
 ghost use Rattle.link_rules.specs.Members.{find_method, find_field, method_use, field_use, method_in_parent, field_in_parent, method_ref_use, field_ref_use};
-ghost use Rattle.member_links.specs.Linked.{IsLinked, IsScope};
+ghost use Rattle.member_search.specs.Linked.{IsLinked, IsScope};
 
-use crate::found::find_member;
-use crate::linked::{Linked, Scope};
-use crate::members::Wanted;
-use crate::method_types::{method_type, sig_type};
 use crate::uses::{field_use, method_use};
 use il_base::{MethodSig, NoMemory, Sig};
 use link_rules::MethodType;
+use member_search::found::find_member;
+use member_search::linked::{Linked, Scope};
+use member_search::members::{Among, Wanted};
+use member_search::method_types::{open_method_type, open_type};
 use std::alloc::Global;
 use world_model::{BadKind, FieldUse, Known, MemberRefRow, MemberSig, MethodUse, TypeExpr};
 
-/// A method's signature with its types.
-#[tactic(auto, using(crate::proofs::MethodTypes::method_none))]
-fn wanted_method(
-    alloc: Global,
-    scope: &Scope<'_>,
-    sig: &MethodSig,
-) -> Result<Known<MethodType>, NoMemory>
-    requires { IsScope scope.now }
-    ensures { IfOk result (λ ty. ty ≡ method_type (names_at scope.now.linked.all.now scope.now.asm scope.now.rec.now) sig.now) }
-{
-    method_type(alloc, scope, &[], sig)
-}
-
-/// The type of a field.
-#[tactic(auto, using(crate::proofs::MethodTypes::type_none))]
-fn wanted_type(alloc: Global, scope: &Scope<'_>, sig: &Sig) -> Result<Known<TypeExpr>, NoMemory>
-    requires { IsScope scope.now }
-    ensures { IfOk result (λ ty. ty ≡ sig_expr (names_at scope.now.linked.all.now scope.now.asm scope.now.rec.now) sig.now) }
-{
-    sig_type(alloc, scope, &[], sig)
-}
-
 /// The method with this name and signature that a parent has.
-#[tactic(auto, unfolding(link_rules::specs::Members::find_method, link_rules::specs::Members::method_of_type, crate::specs::Wanted::look_for, crate::specs::Wanted::member_in))]
+#[tactic(auto, unfolding(link_rules::specs::Members::find_method, link_rules::specs::Members::method_of_type, member_search::specs::Wanted::look_for, member_search::specs::Wanted::member_in))]
 fn method_found(
     alloc: Global,
     linked: &Linked<'_>,
@@ -48,7 +26,7 @@ fn method_found(
     requires { IsLinked linked.now }
     ensures { IfOk result (λ u. u ≡ method_use linked.now.all.now (find_method linked.now.all.now parent.now name.now wanted)) }
 {
-    let wanted = Wanted::Method(wanted);
+    let wanted = Wanted::Method(Among::All, wanted);
     match find_member(alloc, linked, parent, name, &wanted) {
         Ok(found) => method_use(alloc, linked.all, found),
         Err(error) => Err(error),
@@ -56,7 +34,7 @@ fn method_found(
 }
 
 /// The field with this name and type that a parent has.
-#[tactic(auto, unfolding(link_rules::specs::Members::find_field, link_rules::specs::Members::field_of_type, crate::specs::Wanted::look_for, crate::specs::Wanted::member_in))]
+#[tactic(auto, unfolding(link_rules::specs::Members::find_field, link_rules::specs::Members::field_of_type, member_search::specs::Wanted::look_for, member_search::specs::Wanted::member_in))]
 fn field_found(
     alloc: Global,
     linked: &Linked<'_>,
@@ -85,7 +63,7 @@ fn method_of_parent(
     requires { IsScope scope.now }
     ensures { IfOk result (λ u. u ≡ method_in_parent scope.now.linked.all.now scope.now.asm scope.now.rec.now row.now parent.now (MemberSig.Method sig.now)) }
 {
-    match wanted_method(alloc, scope, sig) {
+    match open_method_type(alloc, scope, sig) {
         Ok(Known::Good(wanted)) => {
             method_found(alloc, &scope.linked, parent, row.name.as_slice(), wanted)
         }
@@ -105,7 +83,7 @@ fn field_of_parent(
     requires { IsScope scope.now }
     ensures { IfOk result (λ u. u ≡ field_in_parent scope.now.linked.all.now scope.now.asm scope.now.rec.now row.now parent.now (MemberSig.Field sig.now)) }
 {
-    match wanted_type(alloc, scope, sig) {
+    match open_type(alloc, scope, sig) {
         Ok(Known::Good(wanted)) => {
             field_found(alloc, &scope.linked, parent, row.name.as_slice(), wanted)
         }

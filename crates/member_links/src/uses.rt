@@ -2,13 +2,13 @@ ghost use Rattle.std.specs.Prelude.{◌≡◌, ◌+◌, IfOk};
 ghost use Rattle.std.specs.Option.{option_map};
 ghost use Rattle.world_model.specs.Worlds.{rows_before};
 ghost use Rattle.link_rules.specs.Members.{method_use, field_use};
-ghost use Rattle.member_links.specs.Counted.{count_in};
-ghost use Rattle.member_links.specs.Found.{told};
+ghost use Rattle.member_search.specs.Counted.{count_in};
+ghost use Rattle.member_search.specs.Found.{told};
 
-use crate::counted::{Counted, rows_before, sum};
-use crate::found::Found;
 use il_base::{FieldId, MethodId, NoMemory, Seq};
 use link_rules::RowAt;
+use member_search::counted::{Counted, rows_before, sum};
+use member_search::found::Found;
 use std::alloc::Global;
 use world_model::{AsmRec, BadKind, FieldUse, Known, MethodUse};
 

@@ -68,7 +68,7 @@ type_of_row recs at =
 -- one of this name and signature, where the type has these arguments
 abbrev pub is_match : List AsmRec → (MethodDefRow → Bool) → ℕ → AsmRec → List TypeExpr → List ℕ → MethodType → MethodDefRow → Bool
 is_match recs test a rec targs name wanted m =
-    test m && same_name m.name name && is_method_type targs wanted (known_then (method_type (names_at recs a rec)) m.signature)
+    same_name m.name name && (test m && is_method_type targs wanted (known_then (method_type (names_at recs a rec)) m.signature))
 
 abbrev pub match_in_row : List AsmRec → (MethodDefRow → Bool) → List TypeExpr → List ℕ → MethodType → RowAt → AsmRec → TypeDefRow → Option RowAt
 match_in_row recs test targs name wanted at rec row =

@@ -1,0 +1,10 @@
+pub mod RowLemmas
+pub mod OwnLemmas
+pub mod SubstNone
+pub mod MethodTypes
+pub mod Searching
+pub mod Owning
+pub mod NameRows
+pub mod Places
+pub mod Zips
+pub mod Running

@@ -1,0 +1,71 @@
+-- Members that are looked for in the definition of a type, methods and fields alike.
+use Rattle.std.specs.Prelude.{ℕ, ◌/◌, ◌%◌, ◌==◌, ◌&&◌, List, Bool, true, false, Option, Some, None, slice_get}
+use Rattle.std.specs.Option.{option_map, option_and_then}
+use Rattle.world_model.specs.declared.expr.TypeExpr.{TypeExpr}
+use Rattle.world_model.specs.declared.members.FieldRow.{FieldRow}
+use Rattle.world_model.specs.declared.members.MethodDefRow.{MethodDefRow}
+use Rattle.world_model.specs.declared.types.TypeDefRow.{TypeDefRow}
+use Rattle.world_model.specs.declared.record.AsmRec.{AsmRec}
+use Rattle.world_model.specs.Core.{same_name}
+use Rattle.world_model.specs.Worlds.{known_then, sig_expr}
+use Rattle.link_rules.specs.declared.row_at.RowAt.{RowAt}
+use Rattle.link_rules.specs.Types.{at_row}
+use Rattle.link_rules.specs.declared.member_type.MethodType.{MethodType}
+use Rattle.link_rules.specs.Signatures.{names_at, method_type}
+use Rattle.link_rules.specs.Members.{type_home, owner_of, args_of, is_method_type, is_field_type, is_field, find_in_run}
+use Rattle.member_search.specs.declared.members.Wanted.{Wanted}
+use Rattle.member_search.specs.declared.members.Wanted.TheVariants.{Method, Field}
+use Rattle.member_search.specs.declared.members.Among.{Among}
+use Rattle.member_search.specs.declared.members.Among.TheVariants.{All, Virtual, PublicVirtual}
+use Rattle.member_search.specs.declared.names.Names.{Names}
+use Rattle.member_search.specs.declared.owners.Run.{Run}
+use Rattle.member_search.specs.Names.{rows_at}
+use Rattle.member_search.specs.Owners.{method_run, field_run}
+
+-- which methods count, by their flags (II.23.1.10)
+abbrev pub allows : Among → MethodDefRow → Bool
+allows All m = true
+allows Virtual m = m.flags / 0x40 % 2 == 1
+allows PublicVirtual m = m.flags % 8 == 6 && m.flags / 0x40 % 2 == 1
+
+-- the run of such members of a type
+abbrev pub run_in : Wanted → TypeDefRow → Run
+run_in (Method among wanted) t = method_run t
+run_in (Field wanted) t = field_run t
+
+-- the rows of such members with a name
+abbrev pub rows_named : Wanted → Names → List ℕ → List ℕ
+rows_named (Method among wanted) names name = rows_at names.methods name
+rows_named (Field wanted) names name = rows_at names.fields name
+
+abbrev pub fits_at : {A : Type 0} → (A → Bool) → Option A → Bool
+fits_at test None = false
+fits_at test (Some x) = test x
+
+-- whether the member in a row has the signature
+unfoldable pub fits : List AsmRec → ℕ → AsmRec → List TypeExpr → Wanted → ℕ → Bool
+fits recs a rec targs (Method among wanted) k =
+    fits_at (λ (m : MethodDefRow). allows among m && is_method_type targs wanted (known_then (method_type (names_at recs a rec)) m.signature)) (slice_get rec.method_def k)
+fits recs a rec targs (Field wanted) k =
+    fits_at (λ (f : FieldRow). is_field_type targs wanted (known_then (sig_expr (names_at recs a rec)) f.signature)) (slice_get rec.field k)
+
+-- a method of this name and signature that counts, where the type has these arguments
+abbrev pub is_allowed : List AsmRec → ℕ → AsmRec → List TypeExpr → List ℕ → Among → MethodType → MethodDefRow → Bool
+is_allowed recs a rec targs name among wanted m =
+    same_name m.name name && (allows among m && is_method_type targs wanted (known_then (method_type (names_at recs a rec)) m.signature))
+
+-- the first of such members in the run of a type
+unfoldable pub member_in : List AsmRec → ℕ → AsmRec → List TypeExpr → List ℕ → Wanted → TypeDefRow → Option ℕ
+member_in recs a rec targs name (Method among wanted) t = find_in_run (is_allowed recs a rec targs name among wanted) t.method_list_first t.method_list_end rec.method_def
+member_in recs a rec targs name (Field wanted) t = find_in_run (is_field recs a rec targs name wanted) t.field_list_first t.field_list_end rec.field
+
+-- such a member of the type in a row
+abbrev pub member_at : List AsmRec → List TypeExpr → List ℕ → Wanted → RowAt → Option RowAt
+member_at recs targs name wanted at =
+    option_and_then
+    (λ (rec : AsmRec). option_and_then (λ (t : TypeDefRow). option_map (at_row at.asm) (member_in recs at.asm rec targs name wanted t)) (slice_get rec.type_def at.row))
+    (slice_get recs at.asm)
+
+-- `method_of_type` or `field_of_type`
+unfoldable pub look_for : List AsmRec → List ℕ → Wanted → TypeExpr → Option RowAt
+look_for recs name wanted e = option_and_then (member_at recs (args_of e) name wanted) (option_and_then (type_home recs) (owner_of recs e))

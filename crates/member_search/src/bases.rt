@@ -1,0 +1,116 @@
+ghost use Rattle.std.specs.Prelude.{◌≡◌, IfOk};
+ghost use Rattle.std.specs.Option.{option_and_then, option_copied};
+ghost use Rattle.link_rules.specs.Members.{array_type, owner_of, args_of, type_home, base_at, base_of};
+ghost use Rattle.member_search.specs.Linked.{IsLinked};
+
+use crate::homes::type_home;
+use crate::linked::{Linked, Scope, assembly_at};
+use core_table::ARRAY;
+use il_base::{NoMemory, TypeId};
+use link_rules::RowAt;
+use std::alloc::Global;
+use world_model::{AsmRec, TypeExpr, index_in, prim_type, type_id};
+
+/// The type System.Array of the core library.
+pub fn array_type(all: &[AsmRec]) -> Result<Option<TypeId>, NoMemory>
+    ensures { IfOk result (λ id. id ≡ array_type all.now) }
+{
+    let Some(row) = index_in(0x02, ARRAY) else {
+        return Ok(None);
+    };
+    match type_id(all, all.len().saturating_sub(1), row as usize) {
+        Some(id) => Ok(Some(id)),
+        None => Err(NoMemory),
+    }
+}
+
+/// The definition from which a type has its members.
+#[tactic(auto, unfolding(link_rules::specs::Members::owner_of))]
+pub fn owner_of(all: &[AsmRec], ty: &TypeExpr) -> Result<Option<TypeId>, NoMemory>
+    ensures { IfOk result (λ id. id ≡ owner_of all.now ty.now) }
+{
+    match ty {
+        TypeExpr::Prim(code) => match prim_type(all, *code) {
+            Ok(id) => Ok(id),
+            Err(error) => Err(error),
+        },
+        TypeExpr::Def(id) => Ok(Some(*id)),
+        TypeExpr::Inst(id, _) => Ok(Some(*id)),
+        TypeExpr::Array(_) => array_type(all),
+        TypeExpr::ByRef(_) => Ok(None),
+        TypeExpr::Var(_) => Ok(None),
+        TypeExpr::MVar(_) => Ok(None),
+        TypeExpr::Mod { .. } => Ok(None),
+    }
+}
+
+/// The arguments of a type.
+#[tactic(auto, unfolding(link_rules::specs::Members::args_of))]
+pub fn args_of(ty: &TypeExpr) -> &[TypeExpr]
+    ensures { result.now ≡ args_of ty.now }
+{
+    match ty {
+        TypeExpr::Inst(_, args) => args.as_slice(),
+        TypeExpr::Prim(_) => &[],
+        TypeExpr::Def(_) => &[],
+        TypeExpr::Array(_) => &[],
+        TypeExpr::ByRef(_) => &[],
+        TypeExpr::Var(_) => &[],
+        TypeExpr::MVar(_) => &[],
+        TypeExpr::Mod { .. } => &[],
+    }
+}
+
+/// The assembly and row of the definition from which a type has its members.
+pub fn definition(all: &[AsmRec], ty: &TypeExpr) -> Result<Option<RowAt>, NoMemory>
+    ensures { IfOk result (λ at. at ≡ option_and_then (type_home all.now) (owner_of all.now ty.now)) }
+{
+    match owner_of(all, ty) {
+        Ok(Some(id)) => type_home(all, id),
+        Ok(None) => Ok(None),
+        Err(error) => Err(error),
+    }
+}
+
+/// The base of a type definition, as its row names it.
+fn base_at<'a>(linked: &Linked<'a>, at: RowAt) -> Option<&'a TypeExpr>
+    requires { IsLinked linked.now }
+    ensures { option_copied result ≡ base_at linked.now.all.now at }
+{
+    let rec = assembly_at(linked.all, at.asm)?;
+    let row = rec.type_def.get(at.row as usize)?;
+    if row.extends == 0 {
+        return None;
+    }
+    let scope = Scope {
+        linked: *linked,
+        asm: at.asm,
+        rec,
+    };
+    match scope.token_type(row.extends) {
+        Ok(base) => Some(base),
+        Err(_) => None,
+    }
+}
+
+/// The base of a type, with the type's arguments put in.
+#[tactic(auto, unfolding(link_rules::specs::Members::base_of))]
+pub fn base_of(
+    alloc: Global,
+    linked: &Linked<'_>,
+    ty: &TypeExpr,
+) -> Result<Option<TypeExpr>, NoMemory>
+    requires { IsLinked linked.now }
+    ensures { IfOk result (λ base. base ≡ base_of linked.now.all.now ty.now) }
+{
+    let Some(at) = definition(linked.all, ty)? else {
+        return Ok(None);
+    };
+    match base_at(linked, at) {
+        None => Ok(None),
+        Some(base) => {
+            let base = base.subst(alloc, args_of(ty), &[])?;
+            Ok(Some(base))
+        }
+    }
+}

@@ -1,0 +1,52 @@
+ghost use Rattle.std.specs.Prelude.{◌≡◌, suc, IfOk};
+ghost use Rattle.world_model.specs.Tokens.{token_of};
+ghost use Rattle.link_rules.specs.Members.{param_count};
+ghost use Rattle.member_search.specs.Params.{AreParamCounts};
+
+use crate::counted::sum;
+use il_base::NoMemory;
+use std::alloc::Global;
+use std::collections::HashMap;
+use world_model::AsmRec;
+
+/// The token of a row, from 0, of a table.
+pub fn token_of(table: u8, row: usize) -> Result<u32, NoMemory>
+    ensures { IfOk result (λ token. token ≡ token_of table (suc row)) }
+{
+    sum(u32::from(table) * 0x100_0000 + 1, row)
+}
+
+/// How many generic parameters each type or method of an assembly has, by its token (II.22.20).
+#[derive(Drop)]
+pub struct ParamCounts {
+    counts: HashMap<u32, u32>,
+}
+
+impl ParamCounts {
+    pub fn of(alloc: Global, rec: &AsmRec) -> Result<ParamCounts, NoMemory>
+        ensures { IfOk result (AreParamCounts rec.now) }
+    {
+        let mut counts = HashMap::new(alloc);
+        for row in rec.generic_param.as_slice() {
+            let before = match counts.get(&row.owner) {
+                Some(count) => *count,
+                None => 0,
+            };
+            counts.insert(row.owner, sum(before, 1)?)?;
+        }
+        Ok(ParamCounts { counts })
+    }
+}
+
+/// How many generic parameters a type, counted from 0, has.
+#[tactic(auto, unfolding(link_rules::specs::Members::param_count))]
+pub fn param_count(rec: &AsmRec, params: &ParamCounts, row: u32) -> Result<u32, NoMemory>
+    requires { AreParamCounts rec.now params.now }
+    ensures { IfOk result (λ count. count ≡ param_count rec.now row) }
+{
+    let token = token_of(0x02, row as usize)?;
+    match params.counts.get(&token) {
+        Some(count) => Ok(*count),
+        None => Ok(0),
+    }
+}
