@@ -1,0 +1,22 @@
+-- The rows of a table by what one of their columns holds.
+use Rattle.std.specs.Prelude.{◌≡◌, ℕ, nat_eq, Bool, List, [], unwrap_or}
+use Rattle.std.specs.HashMap.{HashMap, get}
+use Rattle.member_search.specs.Names.{places}
+use Rattle.type_tables.specs.declared.groups.Groups.{Groups}
+
+-- whether a column holds this
+abbrev pub is_key : ℕ → ℕ → Bool
+is_key key k = nat_eq k key
+
+abbrev pub rows_of : {S : Type 0} → HashMap ℕ (List ℕ) S → ℕ → List ℕ
+rows_of rows key = unwrap_or (get nat_eq rows key) []
+
+abbrev pub AreRowsOf : {S : Type 0} → List ℕ → HashMap ℕ (List ℕ) S → Type 0
+AreRowsOf keys rows = (key : ℕ) → rows_of rows key ≡ places (is_key key) 0 keys
+
+-- the rows, from 0, in order
+abbrev pub rows_with : Groups → ℕ → List ℕ
+rows_with groups key = rows_of groups.rows key
+
+abbrev pub AreGroups : List ℕ → Groups → Type 0
+AreGroups keys groups = AreRowsOf keys groups.rows

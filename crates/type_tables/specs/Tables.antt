@@ -1,0 +1,55 @@
+-- What questions on the types of a world are answered by.
+use Rattle.std.specs.Prelude.{◌≡◌, ℕ, List, map}
+use Rattle.std.specs.List.{AllZip}
+use Rattle.world_model.specs.declared.record.AsmRec.{AsmRec}
+use Rattle.world_model.specs.declared.types.InterfaceImplRow.{InterfaceImplRow}
+use Rattle.world_model.specs.declared.members.MethodImplRow.{MethodImplRow}
+use Rattle.world_model.specs.declared.members.PropertyMapRow.{PropertyMapRow}
+use Rattle.world_model.specs.declared.members.EventMapRow.{EventMapRow}
+use Rattle.world_model.specs.declared.members.MethodSemanticsRow.{MethodSemanticsRow}
+use Rattle.world_model.specs.declared.world.World.{World}
+use Rattle.link_rules.specs.Laws.{TellTokens, TellSignatures, TellMethods}
+use Rattle.link_rules.specs.Linked.{IsWorld}
+use Rattle.member_search.specs.Names.{AreNames}
+use Rattle.member_search.specs.Owners.{AreMethodOwners}
+use Rattle.type_tables.specs.declared.tables.RowTables.{RowTables}
+use Rattle.type_tables.specs.declared.tables.Tables.{Tables}
+use Rattle.type_tables.specs.Groups.{AreGroups}
+use Rattle.type_tables.specs.Uses.{TellUses}
+
+-- ---- the columns by which rows are grouped
+
+abbrev pub interface_classes : AsmRec → List ℕ
+interface_classes rec = map (λ (r : InterfaceImplRow). r.class) rec.interface_impl
+
+abbrev pub impl_classes : AsmRec → List ℕ
+impl_classes rec = map (λ (r : MethodImplRow). r.class) rec.method_impl
+
+abbrev pub property_parents : AsmRec → List ℕ
+property_parents rec = map (λ (r : PropertyMapRow). r.parent) rec.property_map
+
+abbrev pub event_parents : AsmRec → List ℕ
+event_parents rec = map (λ (r : EventMapRow). r.parent) rec.event_map
+
+abbrev pub associations : AsmRec → List ℕ
+associations rec = map (λ (r : MethodSemanticsRow). r.association) rec.method_semantics
+
+-- ---- the tables
+
+pub record AreRowTables (rec : AsmRec) (t : RowTables) : Type 0 where
+  pub owners : AreMethodOwners rec t.owners.items
+  pub interfaces : AreGroups (interface_classes rec) t.interfaces
+  pub impls : AreGroups (impl_classes rec) t.impls
+  pub properties : AreGroups (property_parents rec) t.properties
+  pub events : AreGroups (event_parents rec) t.events
+  pub semantics : AreGroups (associations rec) t.semantics
+
+-- of a world that a link gave
+pub record IsTables (t : Tables) : Type 0 where
+  pub world : IsWorld t.world.now
+  pub tokens : TellTokens t.world.now.recs t.world.now.types
+  pub signatures : TellSignatures t.world.now.recs t.world.now.types
+  pub methods : TellMethods t.world.now.recs t.world.now.types
+  pub uses : TellUses t.world.now
+  pub names : AllZip AreNames t.world.now.recs t.names.items
+  pub rows : AllZip AreRowTables t.world.now.recs t.rows.items

@@ -1,0 +1,137 @@
+//! Methods by their ids and rows.
+
+ghost use Rattle.std.specs.Prelude.{◌≡◌, Some, slice_get, IfOk};
+ghost use Rattle.std.specs.List.{position_from};
+ghost use Rattle.std.specs.Option.{option_copied, option_map, option_and_then};
+ghost use Rattle.world_model.specs.Worlds.{rows_before};
+ghost use Rattle.link_rules.specs.Members.{methods_in, owns_method, generic_method};
+ghost use Rattle.type_rules.specs.Slots.{method_row_at, method_home, type_of_method, type_of_row};
+ghost use Rattle.type_rules.specs.Dispatch.{good_use, method_id};
+ghost use Rattle.type_tables.specs.Uses.{use_in};
+ghost use Rattle.type_tables.specs.Tables.{IsTables};
+
+use crate::tables::Tables;
+use il_base::{AsmId, MethodId, NoMemory};
+use link_rules::{MethodType, RowAt};
+use member_search::counted::{Counted, row_of, rows_before, sum};
+use member_search::linked::{Scope, assembly_at};
+use member_search::method_types::open_method_type;
+use std::alloc::Global;
+use world_model::{AsmRec, Known, MethodDefRow, MethodUse};
+
+/// The row of a method.
+pub fn method_row_at(all: &[AsmRec], at: RowAt) -> Option<&MethodDefRow>
+    ensures { option_copied result ≡ method_row_at all.now at }
+{
+    match assembly_at(all, at.asm) {
+        None => None,
+        Some(rec) => rec.method_def.get(at.row as usize),
+    }
+}
+
+/// The assembly and row of a method.
+#[tactic(auto, unfolding(link_rules::specs::Members::home_from))]
+pub fn method_home(all: &[AsmRec], id: MethodId) -> Result<Option<RowAt>, NoMemory>
+    ensures { IfOk result (λ at. at ≡ method_home all.now id) }
+{
+    let mut left = id.0;
+    for (a, rec) in all.iter().enumerate() {
+        let count = rec.method_def.len();
+        if (left as usize) < count {
+            let Ok(asm) = u32::try_from(a) else {
+                return Err(NoMemory);
+            };
+            return Ok(Some(RowAt { asm, row: left }));
+        }
+        left -= count as u32;
+    }
+    Ok(None)
+}
+
+/// The id of a method: the methods of all assemblies before it count first.
+pub fn method_id(all: &[AsmRec], at: RowAt) -> Result<MethodId, NoMemory>
+    ensures { IfOk result (λ id. id ≡ method_id all.now at) }
+{
+    let before = rows_before(all, Counted::Methods, at.asm as usize)?;
+    let id = sum(before, at.row as usize)?;
+    Ok(MethodId(id))
+}
+
+/// The first type of an assembly whose run holds a method, both by their rows from 0, where the method's row isn't there.
+fn owner_beyond(rec: &AsmRec, row: u32) -> Option<usize>
+    ensures { result ≡ position_from (owns_method (row + 1)) 0 rec.now.type_def }
+{
+    rec.type_def
+        .as_slice()
+        .iter()
+        .position(|t| t.method_list_first as usize <= row as usize + 1 && row as usize + 1 < t.method_list_end as usize)
+}
+
+/// The type that has a method.
+pub fn type_of_method(tables: &Tables<'_>, at: RowAt) -> Result<Option<RowAt>, NoMemory>
+    requires { IsTables tables.now }
+    ensures { IfOk result (λ of. of ≡ type_of_method tables.now.world.now.recs at) }
+{
+    let all = tables.world.recs.as_slice();
+    let Some(rec) = assembly_at(all, at.asm) else {
+        return Ok(None);
+    };
+    let owner = match tables.rows[at.asm as usize].owners.get(at.row as usize) {
+        Some(owner) => *owner,
+        None => match owner_beyond(rec, at.row) {
+            Some(t) => Some(row_of(t)?),
+            None => None,
+        },
+    };
+    match owner {
+        Some(row) => Ok(Some(RowAt { asm: at.asm, row })),
+        None => Ok(None),
+    }
+}
+
+/// The signature of a method with its types, in the parameters of its own type; None where there is no such method.
+pub fn method_type_at(
+    alloc: Global,
+    tables: &Tables<'_>,
+    at: RowAt,
+) -> Result<Option<Known<MethodType>>, NoMemory>
+    requires { IsTables tables.now }
+    ensures { IfOk result (λ ty. ty ≡ type_of_row tables.now.world.now.recs at) }
+{
+    let linked = tables.linked();
+    let Some(rec) = assembly_at(linked.all, at.asm) else {
+        return Ok(None);
+    };
+    let Some(row) = rec.method_def.get(at.row as usize) else {
+        return Ok(None);
+    };
+    let scope = Scope {
+        linked,
+        asm: at.asm,
+        rec,
+    };
+    match &row.signature {
+        Known::Bad(why) => Ok(Some(Known::Bad(*why))),
+        Known::Good(sig) => match open_method_type(alloc, &scope, sig) {
+            Ok(made) => Ok(Some(made)),
+            Err(error) => Err(error),
+        },
+    }
+}
+
+/// The method that a MethodDef or MemberRef token of an assembly names, if any.
+pub fn use_at<'w>(tables: &Tables<'w>, asm: u32, token: u32) -> Option<&'w MethodUse>
+    requires { IsTables tables.now }
+    ensures { option_copied result ≡ use_in tables.now.world.now.recs asm token }
+{
+    assembly_at(tables.world.recs.as_slice(), asm)?;
+    let table = token / 0x100_0000;
+    if table != 0x06 && table != 0x0a {
+        return None;
+    }
+    match tables.world.method_at(AsmId(asm), token) {
+        Some(Known::Good(named)) => Some(named),
+        Some(Known::Bad(_)) => None,
+        None => None,
+    }
+}

@@ -1,0 +1,138 @@
+//! What is made once of a world.
+
+ghost use Rattle.std.specs.Prelude.{◌≡◌, IfOk};
+ghost use Rattle.std.specs.List.{AllZip};
+ghost use Rattle.link_rules.specs.Linked.{IsWorld};
+ghost use Rattle.member_search.specs.Linked.{IsLinked};
+ghost use Rattle.type_tables.specs.Tables.{interface_classes, impl_classes, property_parents, event_parents, associations, AreRowTables, IsTables};
+
+use crate::groups::Groups;
+use il_base::NoMemory;
+use member_search::linked::Linked;
+use member_search::names::{Names, names_of};
+use member_search::owners::method_owners;
+use std::alloc::Global;
+use world_model::{AsmRec, World};
+
+/// Of an assembly: the type of each method, and the rows of tables by the types or members that they belong to.
+#[derive(Drop)]
+pub struct RowTables {
+    /// The first type whose run each method is in, both by their rows from 0.
+    pub owners: Vec<Option<u32>>,
+    /// InterfaceImpl by Class.
+    pub interfaces: Groups,
+    /// MethodImpl by Class.
+    pub impls: Groups,
+    /// PropertyMap by Parent.
+    pub properties: Groups,
+    /// EventMap by Parent.
+    pub events: Groups,
+    /// MethodSemantics by Association.
+    pub semantics: Groups,
+}
+
+/// A world, the members of each assembly by name, and the rows of each.
+#[derive(Drop)]
+pub struct Tables<'w> {
+    pub world: &'w World,
+    pub names: Vec<Names<'w>>,
+    pub rows: Vec<RowTables>,
+}
+
+fn interface_classes(alloc: Global, rec: &AsmRec) -> Result<Vec<u32>, NoMemory>
+    ensures { IfOk result (λ keys. keys.items ≡ interface_classes rec.now) }
+{
+    let mut keys = Vec::new(alloc);
+    for row in rec.interface_impl.as_slice() {
+        keys.push(row.class)?;
+    }
+    Ok(keys)
+}
+
+fn impl_classes(alloc: Global, rec: &AsmRec) -> Result<Vec<u32>, NoMemory>
+    ensures { IfOk result (λ keys. keys.items ≡ impl_classes rec.now) }
+{
+    let mut keys = Vec::new(alloc);
+    for row in rec.method_impl.as_slice() {
+        keys.push(row.class)?;
+    }
+    Ok(keys)
+}
+
+fn property_parents(alloc: Global, rec: &AsmRec) -> Result<Vec<u32>, NoMemory>
+    ensures { IfOk result (λ keys. keys.items ≡ property_parents rec.now) }
+{
+    let mut keys = Vec::new(alloc);
+    for row in rec.property_map.as_slice() {
+        keys.push(row.parent)?;
+    }
+    Ok(keys)
+}
+
+fn event_parents(alloc: Global, rec: &AsmRec) -> Result<Vec<u32>, NoMemory>
+    ensures { IfOk result (λ keys. keys.items ≡ event_parents rec.now) }
+{
+    let mut keys = Vec::new(alloc);
+    for row in rec.event_map.as_slice() {
+        keys.push(row.parent)?;
+    }
+    Ok(keys)
+}
+
+fn associations(alloc: Global, rec: &AsmRec) -> Result<Vec<u32>, NoMemory>
+    ensures { IfOk result (λ keys. keys.items ≡ associations rec.now) }
+{
+    let mut keys = Vec::new(alloc);
+    for row in rec.method_semantics.as_slice() {
+        keys.push(row.association)?;
+    }
+    Ok(keys)
+}
+
+impl RowTables {
+    fn of(alloc: Global, rec: &AsmRec) -> Result<RowTables, NoMemory>
+        ensures { IfOk result (AreRowTables rec.now) }
+    {
+        let owners = method_owners(alloc, rec)?;
+        let interfaces = Groups::of(alloc, interface_classes(alloc, rec)?.as_slice())?;
+        let impls = Groups::of(alloc, impl_classes(alloc, rec)?.as_slice())?;
+        let properties = Groups::of(alloc, property_parents(alloc, rec)?.as_slice())?;
+        let events = Groups::of(alloc, event_parents(alloc, rec)?.as_slice())?;
+        let semantics = Groups::of(alloc, associations(alloc, rec)?.as_slice())?;
+        Ok(RowTables {
+            owners,
+            interfaces,
+            impls,
+            properties,
+            events,
+            semantics,
+        })
+    }
+}
+
+fn rows_of(alloc: Global, all: &[AsmRec]) -> Result<Vec<RowTables>, NoMemory>
+    ensures { IfOk result (λ rows. AllZip AreRowTables all.now rows.items) }
+{
+    let mut rows = Vec::new(alloc);
+    for rec in all {
+        let own = RowTables::of(alloc, rec)?;
+        rows.push(own)?;
+    }
+    Ok(rows)
+}
+
+impl<'w> Tables<'w> {
+    /// The assemblies of the world, and what their type tokens name.
+    pub fn linked(&self) -> Linked<'_>
+        requires { IsTables self.now }
+        ensures is { IsLinked result }
+        ensures all { result.all.now ≡ self.now.world.now.recs }
+        ensures links { result.links.now ≡ self.now.world.now.types }
+    {
+        Linked {
+            all: self.world.recs.as_slice(),
+            links: self.world.types.as_slice(),
+            names: self.names.as_slice(),
+        }
+    }
+}
