@@ -1,0 +1,162 @@
+-- In a linked world a way up passes each definition once, so the search finds its end.
+use Rattle.std.proofs.Common.{◌≡◌, ℕ, zero, suc, ◌+◌, ◌<◌, ◌≤◌, Bool, true, false, nat_eq, List, [], ◌∷◌, ◌++◌, length, Option, Some, None, ◌⊎◌, inl, inr, refl, sym, ap, subst, ◌∙◌, arith}
+use Rattle.std.specs.Prelude.{slice_get, if◌then◌else◌}
+use Rattle.std.specs.Bool.{Decides}
+use Rattle.std.specs.Option.{option_and_then}
+use Rattle.std.proofs.lemmas.Bool.{and_parts, and_from, or_parts, eqb-true, eq-eqb, cases_lt, true≢false}
+use Rattle.std.proofs.lemmas.List.{length-append}
+use Rattle.il_base.specs.declared.ids.TypeId.{TypeId}
+use Rattle.world_model.specs.declared.expr.TypeExpr.{TypeExpr}
+use Rattle.world_model.specs.declared.types.TypeDefRow.{TypeDefRow}
+use Rattle.world_model.specs.declared.record.AsmRec.{AsmRec}
+use Rattle.world_model.specs.Exprs.{same_expr}
+use Rattle.world_model.proofs.SameExpr.{same_decides}
+use Rattle.core_table.specs.Record.{core_record}
+use Rattle.link_rules.specs.declared.link_error.LinkError.{LinkError}
+use Rattle.link_rules.specs.declared.row_at.RowAt.{RowAt}
+use Rattle.link_rules.specs.CoreNames.{missing_names, core_with}
+use Rattle.link_rules.specs.Types.{or_else, at_row}
+use Rattle.link_rules.specs.Members.{type_home, owner_of, base_at, type_count}
+use Rattle.link_rules.specs.Cycles.{listed, is_on_cycle, same_row, home_of, interfaces_at, supertypes, field_values}
+use Rattle.link_rules.specs.Faults.{first_of, is_cyclic_type, cyclic_type, cyclic_types, duplicate_assembly, cyclic_nesting, duplicate_member, link_fault}
+use Rattle.link_rules.specs.Linked.{assemblies, link_fault_of}
+use Rattle.type_rules.specs.Subtypes.{up, above, leads_up}
+use Rattle.type_laws.proofs.Within.{In, in_any, any_in, in_listed, in_flat}
+use Rattle.type_laws.proofs.Reaching.{Leads, Walks, walks, found, Led, led, cyclic}
+use Rattle.type_laws.proofs.Bounded.{no_walk}
+use Rattle.type_laws.proofs.Upwards.{up_named, homes}
+use Rattle.type_laws.proofs.CoreRows.{place_front}
+use Rattle.type_laws.proofs.CoreHomes.{core_never}
+use Rattle.type_laws.proofs.Places.{IsType, id_of, id_below, one_by_id, home_is_type, TypeAt, type_at, place_within, place_has}
+
+-- ---- no fault
+
+none_first : {A : Type 0} (o p : Option A) → or_else o p ≡ None → o ≡ None
+none_first None p e = refl
+none_first (Some x) p e = e
+
+none_second : {A : Type 0} (o p : Option A) → or_else o p ≡ None → p ≡ None
+none_second None p e = e
+none_second (Some x) p e = cc
+
+none_at : {A B : Type 0} (look : ℕ → A → Option B) (i : ℕ) (xs : List A) (k : ℕ) (x : A) → first_of look i xs ≡ None → slice_get xs k ≡ Some x → look (i + k) x ≡ None
+none_at look i [] k x e is = cc
+none_at look i (y ∷ xs) zero x e is =
+    let same : y ≡ x = cc in
+    let z : i + 0 ≡ i = omega arith in
+    ap (λ (n : ℕ). look n x) z ∙ ap (look i) (sym same) ∙ none_first (look i y) (first_of look (suc i) xs) e
+none_at look i (y ∷ xs) (suc k) x e is =
+    let z : i + suc k ≡ suc i + k = omega arith in
+    ap (λ (n : ℕ). look n x) z ∙ none_at look (suc i) xs k x (none_second (look i y) (first_of look (suc i) xs) e) is
+
+none_of : {A B : Type 0} (look : ℕ → A → Option B) (xs : List A) (k : ℕ) (x : A) → first_of look 0 xs ≡ None → slice_get xs k ≡ Some x → look k x ≡ None
+none_of look xs k x e is = let z : k ≡ 0 + k = omega arith in ap (λ (n : ℕ). look n x) z ∙ none_at look 0 xs k x e is
+
+not_some : (b : Bool) (x : LinkError) → (if b then Some x else None) ≡ None → b ≡ false
+not_some true x e = cc
+not_some false x e = refl
+
+rows_decide : (x y : RowAt) → Decides (same_row x y) (x ≡ y)
+rows_decide x y = (
+  λ h.
+      let p = and_parts (nat_eq x.asm y.asm) (nat_eq x.row y.row) h in
+      λ i. at_row (eqb-true x.asm y.asm p.0 i) (eqb-true x.row y.row p.1 i),
+  λ h. and_from (nat_eq x.asm y.asm) (nat_eq x.row y.row) (eq-eqb x.asm y.asm (ap (λ (r : RowAt). r.asm) h)) (eq-eqb x.row y.row (ap (λ (r : RowAt). r.row) h)),
+)
+
+-- ---- no definition leads to itself
+
+module _ (inputs : List AsmRec) (sound : link_fault_of inputs ≡ None) where
+  abbrev all : List AsmRec
+  all = assemblies inputs
+
+  no_cycle : cyclic_types all inputs ≡ None
+  unfolding link_fault
+  no_cycle =
+      none_first (cyclic_types all inputs) (or_else (cyclic_nesting inputs) (duplicate_member all inputs))
+      (none_second (duplicate_assembly inputs) (or_else (cyclic_types all inputs) (or_else (cyclic_nesting inputs) (duplicate_member all inputs))) sound)
+
+  not_cyclic : (i k : ℕ) (rec : AsmRec) (row : TypeDefRow) → slice_get inputs i ≡ Some rec → slice_get rec.type_def k ≡ Some row → is_cyclic_type all (at_row i k) ≡ false
+  unfolding cyclic_types
+  not_cyclic i k rec row e f =
+      not_some (is_cyclic_type all (at_row i k)) _
+      (none_of (cyclic_type all i) rec.type_def k row (none_of (λ j (r : AsmRec). first_of (cyclic_type all j) 0 r.type_def) inputs i rec no_cycle e) f)
+
+  on_none : (i k : ℕ) (rec : AsmRec) (row : TypeDefRow) → slice_get inputs i ≡ Some rec → slice_get rec.type_def k ≡ Some row
+      → is_on_cycle same_row (supertypes all) (type_count all) (at_row i k) ≡ false
+  unfolding is_cyclic_type
+  on_none i k rec row e f =
+      (or_parts (is_on_cycle same_row (supertypes all) (type_count all) (at_row i k)) (is_on_cycle same_row (field_values all) (type_count all) (at_row i k)) (not_cyclic i k rec row e f)).0
+
+  never_input : (n : ℕ) (x : RowAt) (rec : AsmRec) → slice_get inputs x.asm ≡ Some rec → x.row < length rec.type_def → n ≤ type_count all → Leads (supertypes all) (suc n) x x → ⊥
+  never_input n x rec e lt le l =
+      let row = place_has rec.type_def x.row lt in
+      true≢false (sym (cyclic same_row rows_decide (supertypes all) (type_count all) n x le l) ∙ on_none x.asm x.row rec row.0 e row.1)
+
+  input_front : (a : ℕ) (rec : AsmRec) → slice_get inputs a ≡ Some rec → slice_get all a ≡ Some rec
+  unfolding assemblies
+  input_front a rec e = place_front inputs (core_with core_record (missing_names core_record inputs) ∷ []) a rec e
+
+  never_core : (n : ℕ) (x : RowAt) → x.asm ≡ length inputs → Leads (supertypes all) (suc n) x x → ⊥
+  unfolding assemblies
+  never_core n x e l = core_never inputs (missing_names core_record inputs) n x e l
+
+  long : length all ≡ suc (length inputs)
+  unfolding assemblies
+  long = length-append inputs (core_with core_record (missing_names core_record inputs) ∷ []) ∙ omega arith
+
+  never_by : (n : ℕ) (x : RowAt) (at : TypeAt all x) → (x.asm < length inputs) ⊎ (length inputs ≤ x.asm) → n ≤ type_count all → Leads (supertypes all) (suc n) x x → ⊥
+  never_by n x at (inl lt) le l =
+      let rec = place_has inputs x.asm lt in
+      let same : Some at.rec ≡ Some rec.0 = sym at.there ∙ input_front x.asm rec.0 rec.1 in
+      let is : at.rec ≡ rec.0 = cc in
+      let below : x.row < length at.rec.type_def = at.below in
+      never_input n x rec.0 rec.1 (subst (λ (r : AsmRec). x.row < length r.type_def) is below) le l
+  never_by n x at (inr ge) le l =
+      let lt = place_within all x.asm at.rec at.there in
+      never_core n x (omega (arith, long, lt, ge)) l
+
+  never : (n : ℕ) (x : RowAt) → IsType all x → n ≤ type_count all → Leads (supertypes all) (suc n) x x → ⊥
+  never n x p le l = never_by n x (type_at all x p) (cases_lt x.asm (length inputs)) le l
+
+  home_type : (o : Option TypeId) (at : RowAt) → option_and_then (type_home all) o ≡ Some at → IsType all at
+  home_type None at e = cc
+  home_type (Some t) at e = home_is_type all t at e
+
+  stay : (x y : RowAt) → IsType all x → In y (supertypes all x) → IsType all y
+  unfolding supertypes
+  stay x y p h =
+      let m = in_flat (λ e. listed (home_of all e)) y (listed (base_at all x) ++ interfaces_at all x) h in
+      home_type (owner_of all m.0) y (in_listed y (home_of all m.0) m.2)
+
+  no_way : (e : TypeExpr) → Walks (up all) (suc (suc (type_count all))) e → ⊥
+  no_way e w =
+      let h = homes all (type_count all) w.0 (up_named all e w.0 w.1) w.2 in
+      no_walk (supertypes all) (IsType all) (id_of all) (type_count all) stay (id_below all) (one_by_id all) never h.home (home_type (owner_of all w.0) h.home h.is) h.walks
+
+  -- ---- the search up
+
+  up_by : (k : ℕ) (a b : TypeExpr) → Leads (up all) k a b → (suc (type_count all) < k) ⊎ (k ≤ suc (type_count all)) → leads_up all a b ≡ true
+  unfolding above
+  up_by k a b l (inl lt) = absurd (no_way a (walks (up all) (suc (suc (type_count all))) k a b lt l))
+  up_by k a b l (inr le) =
+      any_in same_expr same_decides b _ (found same_expr same_decides (up all) (suc (type_count all)) k a b (a ∷ []) le (inl refl) l)
+
+  pub up_found : (k : ℕ) (a b : TypeExpr) → Leads (up all) k a b → leads_up all a b ≡ true
+  up_found k a b l = up_by k a b l (cases_lt (suc (type_count all)) k)
+
+-- what the search finds is led to, in any world
+pub record Way (recs : List AsmRec) (a b : TypeExpr) : Type 0 where
+  pub steps : ℕ
+  pub leads : Leads (up recs) steps a b
+
+module _ (recs : List AsmRec) (a b : TypeExpr) where
+  way_by : (l : Led same_expr same_decides (up recs) (a ∷ []) b) → In l.from (a ∷ []) → Way recs a b
+  way_by l (inl e) = record { steps = l.steps; leads = subst (λ (x : TypeExpr). Leads (up recs) l.steps x b) e l.leads }
+  way_by l (inr h) = absurd h
+
+  pub way : leads_up recs a b ≡ true → Way recs a b
+  unfolding above
+  way e =
+      let l = led same_expr same_decides (up recs) (suc (type_count recs)) (a ∷ []) b (in_any same_expr same_decides b _ e) in
+      way_by l l.is

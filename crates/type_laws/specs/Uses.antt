@@ -1,0 +1,22 @@
+-- What the links of methods tell: what each MethodDef and MemberRef token names.
+use Rattle.std.specs.Prelude.{◌≡◌, ℕ, Some, slice_get, ◌==◌, ◌||◌, Bool, IsTrue}
+use Rattle.world_model.specs.declared.record.AsmRec.{AsmRec}
+use Rattle.world_model.specs.declared.world.World.{World}
+use Rattle.world_model.specs.Tokens.{table_of}
+use Rattle.world_model.specs.Worlds.{known_or, method_at}
+use Rattle.link_rules.specs.Members.{generic_method}
+use Rattle.link_rules.specs.Linked.{IsWorld}
+
+-- a MethodDef or MemberRef token
+abbrev pub is_method_token : ℕ → Bool
+is_method_token token = table_of token == 0x06 || table_of token == 0x0a
+
+-- a token of a row that isn't there names nothing by either
+abbrev pub TellsUses : World → Type 0
+TellsUses w =
+    (a : ℕ) (rec : AsmRec) → slice_get w.recs a ≡ Some rec → (token : ℕ) → IsTrue (is_method_token token)
+    → known_or (method_at w a token) ≡ generic_method w.recs a rec token
+
+-- what the law says of any world that a link gave
+abbrev pub UsesTold : Type 0
+UsesTold = (w : World) → IsWorld w → TellsUses w
