@@ -13,9 +13,11 @@ use Rattle.link_rules.specs.Linked.{IsWorld}
 use Rattle.member_search.specs.Names.{AreNames}
 use Rattle.member_search.specs.Owners.{AreMethodOwners}
 use Rattle.type_tables.specs.declared.tables.RowTables.{RowTables}
+use Rattle.type_tables.specs.declared.tables.Rows.{Rows}
 use Rattle.type_tables.specs.declared.tables.Tables.{Tables}
+use Rattle.member_search.specs.Linked.{IsScope}
 use Rattle.type_tables.specs.Groups.{AreGroups}
-use Rattle.type_tables.specs.Uses.{TellUses}
+use Rattle.type_laws.specs.Uses.{TellsUses}
 
 -- ---- the columns by which rows are grouped
 
@@ -50,6 +52,13 @@ pub record IsTables (t : Tables) : Type 0 where
   pub tokens : TellTokens t.world.now.recs t.world.now.types
   pub signatures : TellSignatures t.world.now.recs t.world.now.types
   pub methods : TellMethods t.world.now.recs t.world.now.types
-  pub uses : TellUses t.world.now
+  pub uses : TellsUses t.world.now
   pub names : AllZip AreNames t.world.now.recs t.names.items
   pub rows : AllZip AreRowTables t.world.now.recs t.rows.items
+
+-- the rows of an assembly of the world
+pub record AreRowsAt (t : Tables) (a : ℕ) (r : Rows) : Type 0 where
+  pub scope : IsScope r.scope
+  pub all : r.scope.linked.all.now ≡ t.world.now.recs
+  pub asm : r.scope.asm ≡ a
+  pub tables : AreRowTables r.scope.rec.now r.tables.now

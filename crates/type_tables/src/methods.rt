@@ -1,6 +1,6 @@
 //! Methods by their ids and rows.
 
-ghost use Rattle.std.specs.Prelude.{◌≡◌, Some, slice_get, IfOk};
+ghost use Rattle.std.specs.Prelude.{◌≡◌, suc, Some, slice_get, IfOk};
 ghost use Rattle.std.specs.List.{position_from};
 ghost use Rattle.std.specs.Option.{option_copied, option_map, option_and_then};
 ghost use Rattle.world_model.specs.Worlds.{rows_before};
@@ -8,16 +8,16 @@ ghost use Rattle.link_rules.specs.Members.{methods_in, owns_method, generic_meth
 ghost use Rattle.type_rules.specs.Slots.{method_row_at, method_home, type_of_method, type_of_row};
 ghost use Rattle.type_rules.specs.Dispatch.{good_use, method_id};
 ghost use Rattle.type_tables.specs.Uses.{use_in};
-ghost use Rattle.type_tables.specs.Tables.{IsTables};
+ghost use Rattle.type_tables.specs.Tables.{AreRowTables, IsTables};
 
-use crate::tables::Tables;
+use crate::tables::{RowTables, Tables};
 use il_base::{AsmId, MethodId, NoMemory};
 use link_rules::{MethodType, RowAt};
 use member_search::counted::{Counted, row_of, rows_before, sum};
-use member_search::linked::{Scope, assembly_at};
+use member_search::linked::assembly_at;
 use member_search::method_types::open_method_type;
 use std::alloc::Global;
-use world_model::{AsmRec, Known, MethodDefRow, MethodUse};
+use world_model::{AsmRec, Known, MethodDefRow, MethodUse, TypeDefRow};
 
 /// The row of a method.
 pub fn method_row_at(all: &[AsmRec], at: RowAt) -> Option<&MethodDefRow>
@@ -57,14 +57,42 @@ pub fn method_id(all: &[AsmRec], at: RowAt) -> Result<MethodId, NoMemory>
     Ok(MethodId(id))
 }
 
-/// The first type of an assembly whose run holds a method, both by their rows from 0, where the method's row isn't there.
-fn owner_beyond(rec: &AsmRec, row: u32) -> Option<usize>
-    ensures { result ≡ position_from (owns_method (row + 1)) 0 rec.now.type_def }
+/// Whether the run of a type holds a row, from 1.
+fn owns_method(row: u64, t: &TypeDefRow) -> bool
+    ensures { result ≡ owns_method row t.now }
 {
+    u64::from(t.method_list_first) <= row && row < u64::from(t.method_list_end)
+}
+
+/// The first type of an assembly whose run holds a method that isn't there, both by their rows from 0.
+fn owner_beyond(rec: &AsmRec, row: u32) -> Option<usize>
+    ensures { result ≡ position_from (owns_method (suc row)) 0 rec.now.type_def }
+{
+    let row = u64::from(row) + 1;
     rec.type_def
         .as_slice()
         .iter()
-        .position(|t| t.method_list_first as usize <= row as usize + 1 && row as usize + 1 < t.method_list_end as usize)
+        .position(|t| owns_method(row, t))
+}
+
+/// The type of an assembly that has a method, both by their rows from 0.
+fn owner_row(rec: &AsmRec, tables: &RowTables, row: u32) -> Result<Option<u32>, NoMemory>
+    requires { AreRowTables rec.now tables.now }
+    ensures { IfOk result (λ owner. owner ≡ position_from (owns_method (suc row)) 0 rec.now.type_def) }
+{
+    if (row as usize) < rec.method_def.len() {
+        return match tables.owners.get(row as usize) {
+            Some(owner) => Ok(*owner),
+            None => Ok(None),
+        };
+    }
+    match owner_beyond(rec, row) {
+        Some(t) => {
+            let t = row_of(t)?;
+            Ok(Some(t))
+        }
+        None => Ok(None),
+    }
 }
 
 /// The type that has a method.
@@ -72,20 +100,13 @@ pub fn type_of_method(tables: &Tables<'_>, at: RowAt) -> Result<Option<RowAt>, N
     requires { IsTables tables.now }
     ensures { IfOk result (λ of. of ≡ type_of_method tables.now.world.now.recs at) }
 {
-    let all = tables.world.recs.as_slice();
-    let Some(rec) = assembly_at(all, at.asm) else {
+    let Some(rows) = tables.rows_at(at.asm) else {
         return Ok(None);
     };
-    let owner = match tables.rows[at.asm as usize].owners.get(at.row as usize) {
-        Some(owner) => *owner,
-        None => match owner_beyond(rec, at.row) {
-            Some(t) => Some(row_of(t)?),
-            None => None,
-        },
-    };
-    match owner {
-        Some(row) => Ok(Some(RowAt { asm: at.asm, row })),
-        None => Ok(None),
+    match owner_row(rows.scope.rec, rows.tables, at.row) {
+        Ok(Some(row)) => Ok(Some(RowAt { asm: at.asm, row })),
+        Ok(None) => Ok(None),
+        Err(error) => Err(error),
     }
 }
 
@@ -98,21 +119,15 @@ pub fn method_type_at(
     requires { IsTables tables.now }
     ensures { IfOk result (λ ty. ty ≡ type_of_row tables.now.world.now.recs at) }
 {
-    let linked = tables.linked();
-    let Some(rec) = assembly_at(linked.all, at.asm) else {
+    let Some(rows) = tables.rows_at(at.asm) else {
         return Ok(None);
     };
-    let Some(row) = rec.method_def.get(at.row as usize) else {
+    let Some(row) = rows.scope.rec.method_def.get(at.row as usize) else {
         return Ok(None);
-    };
-    let scope = Scope {
-        linked,
-        asm: at.asm,
-        rec,
     };
     match &row.signature {
         Known::Bad(why) => Ok(Some(Known::Bad(*why))),
-        Known::Good(sig) => match open_method_type(alloc, &scope, sig) {
+        Known::Good(sig) => match open_method_type(alloc, &rows.scope, sig) {
             Ok(made) => Ok(Some(made)),
             Err(error) => Err(error),
         },

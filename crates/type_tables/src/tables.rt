@@ -1,14 +1,15 @@
 //! What is made once of a world.
 
-ghost use Rattle.std.specs.Prelude.{◌≡◌, IfOk};
+ghost use Rattle.std.specs.Prelude.{◌≡◌, slice_get, IfOk, IfSome};
+ghost use Rattle.std.specs.Option.{option_map};
 ghost use Rattle.std.specs.List.{AllZip};
 ghost use Rattle.link_rules.specs.Linked.{IsWorld};
 ghost use Rattle.member_search.specs.Linked.{IsLinked};
-ghost use Rattle.type_tables.specs.Tables.{interface_classes, impl_classes, property_parents, event_parents, associations, AreRowTables, IsTables};
+ghost use Rattle.type_tables.specs.Tables.{interface_classes, impl_classes, property_parents, event_parents, associations, AreRowTables, AreRowsAt, IsTables};
 
 use crate::groups::Groups;
 use il_base::NoMemory;
-use member_search::linked::Linked;
+use member_search::linked::{Linked, Scope, assembly_at};
 use member_search::names::{Names, names_of};
 use member_search::owners::method_owners;
 use std::alloc::Global;
@@ -29,6 +30,13 @@ pub struct RowTables {
     pub events: Groups,
     /// MethodSemantics by Association.
     pub semantics: Groups,
+}
+
+/// An assembly of a world, and what is made of it.
+#[derive(Clone, Copy)]
+pub struct Rows<'a> {
+    pub scope: Scope<'a>,
+    pub tables: &'a RowTables,
 }
 
 /// A world, the members of each assembly by name, and the rows of each.
@@ -134,5 +142,20 @@ impl<'w> Tables<'w> {
             links: self.world.types.as_slice(),
             names: self.names.as_slice(),
         }
+    }
+
+    /// An assembly of the world, by its place from 0, with what is made of it.
+    pub fn rows_at(&self, asm: u32) -> Option<Rows<'_>>
+        requires { IsTables self.now }
+        ensures there { option_map (λ (r : Rows). r.scope.rec.now) result ≡ slice_get self.now.world.now.recs asm }
+        ensures are { IfSome result (AreRowsAt self.now asm) }
+    {
+        let linked = self.linked();
+        let rec = assembly_at(linked.all, asm)?;
+        let scope = Scope { linked, asm, rec };
+        Some(Rows {
+            scope,
+            tables: &self.rows[asm as usize],
+        })
     }
 }

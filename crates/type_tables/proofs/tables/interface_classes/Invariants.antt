@@ -1,0 +1,6 @@
+use Rattle.std.proofs.Common.{◌≡◌, ◌++◌, map, drop}
+use Rattle.world_model.specs.declared.types.InterfaceImplRow.{InterfaceImplRow}
+use Rattle.type_tables.proofs.tables.interface_classes.Given as goal
+
+abbrev pub invariant-loop-row : goal.invariant-loop-row
+invariant-loop-row l = l.keys.items ++ map (λ (r : InterfaceImplRow). r.class) (drop l.row-index l.row-items) ≡ map (λ (r : InterfaceImplRow). r.class) l.row-items
