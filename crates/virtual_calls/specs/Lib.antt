@@ -1,1 +1,2 @@
+pub mod Impls
 pub mod Slots

@@ -3,5 +3,6 @@
 #![tactic(auto)]
 
 mod flags;
+mod impls;
 mod nearest;
 pub mod slots;

@@ -2,7 +2,7 @@ ghost use Rattle.std.specs.Prelude.{◌≡◌, IfOk};
 ghost use Rattle.std.specs.Option.{option_copied};
 ghost use Rattle.link_rules.specs.Members.{type_count, base_at, base_of, with_bases};
 ghost use Rattle.member_search.specs.Wanted.{look_for};
-ghost use Rattle.type_rules.specs.Slots.{nearest};
+ghost use Rattle.type_rules.specs.Slots.{method_row_at, nearest};
 ghost use Rattle.type_tables.specs.Tables.{IsTables};
 
 use il_base::NoMemory;
@@ -11,8 +11,9 @@ use member_search::bases;
 use member_search::counted::{Counted, rows_before};
 use member_search::members::{Wanted, look_for};
 use std::alloc::Global;
+use type_tables::methods::method_row_at;
 use type_tables::tables::Tables;
-use world_model::TypeExpr;
+use world_model::{MethodDefRow, TypeExpr};
 
 /// How many types the assemblies have: no chain of bases is longer.
 #[tactic(auto, unfolding(link_rules::specs::Members::type_count))]
@@ -21,6 +22,13 @@ pub fn type_count(tables: &Tables<'_>) -> Result<u32, NoMemory>
 {
     let all = tables.world.recs.as_slice();
     rows_before(all, Counted::Types, all.len())
+}
+
+/// The row of a method.
+pub fn method_at<'w>(tables: &Tables<'w>, at: RowAt) -> Option<&'w MethodDefRow>
+    ensures { option_copied result ≡ method_row_at tables.now.world.now.recs at }
+{
+    method_row_at(tables.world.recs.as_slice(), at)
 }
 
 /// The base of a type definition, as its row names it.

@@ -1,20 +1,19 @@
 //! The slots of virtual methods (II.10.3, II.12.2).
 
 ghost use Rattle.std.specs.Prelude.{◌≡◌, IfOk};
-ghost use Rattle.std.specs.Option.{option_copied};
 ghost use Rattle.member_search.specs.Wanted.{look_for};
-ghost use Rattle.type_rules.specs.Slots.{method_row_at, nearest, bases_above, inherited_by, inherited, slot_of};
+ghost use Rattle.type_rules.specs.Slots.{nearest, bases_above, inherited_by, inherited, slot_of};
 ghost use Rattle.type_tables.specs.Tables.{IsTables};
 ghost use Rattle.virtual_calls.specs.Slots.{slot_at, AreSlots, slots_in, slots_from};
 
 use crate::flags::{is_new_slot, is_virtual};
-use crate::nearest::{base_at, nearest_match, type_count};
+use crate::nearest::{base_at, method_at, nearest_match, type_count};
 use il_base::{NoMemory, Seq};
 use link_rules::{MethodType, RowAt};
 use member_search::counted::row_of;
 use member_search::members::{Among, Wanted};
 use std::alloc::Global;
-use type_tables::methods::{method_row_at, method_type_at, type_of_method};
+use type_tables::methods::{method_type_at, type_of_method};
 use type_tables::tables::Tables;
 use world_model::{Known, MethodDefRow};
 
@@ -22,13 +21,6 @@ use world_model::{Known, MethodDefRow};
 #[derive(Drop)]
 pub struct Slots {
     rows: Seq<Seq<Option<RowAt>>>,
-}
-
-/// The row of a method.
-fn method_at<'w>(tables: &Tables<'w>, at: RowAt) -> Option<&'w MethodDefRow>
-    ensures { option_copied result ≡ method_row_at tables.now.world.now.recs at }
-{
-    method_row_at(tables.world.recs.as_slice(), at)
 }
 
 /// The first method with this name and signature in the bases of a type definition, its own parameters left open.
