@@ -9,10 +9,12 @@ ghost use Rattle.type_tables.specs.Tables.{interface_classes, impl_classes, prop
 
 use crate::groups::Groups;
 use il_base::NoMemory;
+use link_laws::laws::links_tell;
 use member_search::linked::{Linked, Scope, assembly_at};
 use member_search::names::{Names, names_of};
 use member_search::owners::method_owners;
 use std::alloc::Global;
+use type_laws::laws::uses_told;
 use world_model::{AsmRec, World};
 
 /// Of an assembly: the type of each method, and the rows of tables by the types or members that they belong to.
@@ -130,6 +132,20 @@ fn rows_of(alloc: Global, all: &[AsmRec]) -> Result<Vec<RowTables>, NoMemory>
 }
 
 impl<'w> Tables<'w> {
+    /// What is made once of a world that a link gave.
+    pub fn of(alloc: Global, world: &'w World) -> Result<Tables<'w>, NoMemory>
+        requires { IsWorld world.now }
+        ensures are { IfOk result IsTables }
+        ensures world { IfOk result (λ t. t.world.now ≡ world.now) }
+    {
+        links_tell();
+        uses_told();
+        let all = world.recs.as_slice();
+        let names = names_of(alloc, all)?;
+        let rows = rows_of(alloc, all)?;
+        Ok(Tables { world, names, rows })
+    }
+
     /// The assemblies of the world, and what their type tokens name.
     pub fn linked(&self) -> Linked<'_>
         requires { IsTables self.now }
@@ -151,11 +167,12 @@ impl<'w> Tables<'w> {
         ensures are { IfSome result (AreRowsAt self.now asm) }
     {
         let linked = self.linked();
+        let made = self.rows.as_slice();
         let rec = assembly_at(linked.all, asm)?;
         let scope = Scope { linked, asm, rec };
         Some(Rows {
             scope,
-            tables: &self.rows[asm as usize],
+            tables: &made[asm as usize],
         })
     }
 }

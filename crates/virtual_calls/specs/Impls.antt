@@ -1,14 +1,13 @@
 -- MethodImpl rows by the type that they belong to.
-use Rattle.std.specs.Prelude.{ℕ, List, [], ◌∷◌, Bool, Option, None, slice_get}
+use Rattle.std.specs.Prelude.{ℕ, List, Bool, Option, None, slice_get}
 use Rattle.std.specs.List.{list_any}
-use Rattle.std.specs.Option.{option_and_then}
+use Rattle.std.specs.Option.{option_and_then, option_map_or}
 use Rattle.world_model.specs.declared.expr.TypeExpr.{TypeExpr}
 use Rattle.world_model.specs.declared.expr.MethodUse.{MethodUse}
 use Rattle.world_model.specs.declared.types.TypeDefRow.{TypeDefRow}
 use Rattle.world_model.specs.declared.members.MethodImplRow.{MethodImplRow}
 use Rattle.world_model.specs.declared.record.AsmRec.{AsmRec}
 use Rattle.link_rules.specs.declared.row_at.RowAt.{RowAt}
-use Rattle.link_rules.specs.Types.{or_else}
 use Rattle.link_rules.specs.Cycles.{listed, same_row, home_of}
 use Rattle.type_rules.specs.Dispatch.{declares_slot, declares_in, impl_body, impl_in_row}
 use Rattle.type_tables.specs.Uses.{use_in}
@@ -30,12 +29,7 @@ impl_by recs e declares a row =
     option_and_then (λ (d : MethodUse). option_and_then (impl_body recs e declares d) (use_in recs a row.body)) (use_in recs a row.declaration)
 
 abbrev pub impl_at : List AsmRec → TypeExpr → (MethodUse → Bool) → ℕ → AsmRec → ℕ → Option RowAt
-impl_at recs e declares a rec k = option_and_then (impl_by recs e declares a) (slice_get rec.method_impl k)
-
--- what the first of these rows gives that gives something
-abbrev pub first_at : (ℕ → Option RowAt) → List ℕ → Option RowAt
-first_at look [] = None
-first_at look (k ∷ ks) = or_else (look k) (first_at look ks)
+impl_at recs e declares a rec k = option_map_or (impl_by recs e declares a) (slice_get rec.method_impl k) None
 
 -- `impl_in` of the type in a row
 abbrev pub impl_in_at : List AsmRec → TypeExpr → (MethodUse → Bool) → RowAt → Option RowAt

@@ -5,9 +5,10 @@ ghost use Rattle.link_rules.specs.Members.{with_bases};
 ghost use Rattle.link_rules.specs.Cycles.{same_row};
 ghost use Rattle.type_rules.specs.Slots.{has_slot, method_row_at};
 ghost use Rattle.type_rules.specs.Dispatch.{have_method, is_instance_virtual, is_body, body_at, impl_body, impl_in, declares_slot, declares_in};
+ghost use Rattle.type_tables.specs.Groups.{first_of};
 ghost use Rattle.type_tables.specs.Tables.{IsTables};
 ghost use Rattle.virtual_calls.specs.Slots.{AreSlots};
-ghost use Rattle.virtual_calls.specs.Impls.{declares_by, stands_at, impl_by, impl_at, first_at, impl_in_at};
+ghost use Rattle.virtual_calls.specs.Impls.{declares_by, stands_at, impl_by, impl_at, impl_in_at};
 
 use crate::flags::{is_static, is_virtual};
 use crate::nearest::{base_of, method_at, type_count};
@@ -23,7 +24,6 @@ use type_tables::tables::Tables;
 use world_model::{AsmRec, MethodImplRow, MethodUse, TypeExpr};
 
 /// Which declarations of MethodImpl rows count.
-#[derive(Clone, Copy)]
 pub enum Declares<'a> {
     /// One with this slot.
     Slot(RowAt),
@@ -94,19 +94,19 @@ fn declares_by(
     alloc: Global,
     tables: &Tables<'_>,
     slots: &Slots,
-    declares: Declares<'_>,
+    declares: &Declares<'_>,
     declaration: &MethodUse,
 ) -> Result<bool, NoMemory>
     requires { AreSlots tables.now.world.now.recs slots.now }
-    ensures { IfOk result (λ is. is ≡ declares_by tables.now.world.now.recs declares declaration.now) }
+    ensures { IfOk result (λ is. is ≡ declares_by tables.now.world.now.recs declares.now declaration.now) }
 {
     match declares {
-        Declares::Slot(slot) => declares_slot(tables, slots, slot, declaration),
+        Declares::Slot(slot) => declares_slot(tables, slots, *slot, declaration),
         Declares::In {
             slot,
             instance,
             targs,
-        } => declares_in(alloc, tables, slots, slot, instance, targs, declaration),
+        } => declares_in(alloc, tables, slots, *slot, instance, targs, declaration),
     }
 }
 
@@ -204,14 +204,14 @@ fn impl_body(
     alloc: Global,
     tables: &Tables<'_>,
     slots: &Slots,
-    declares: Declares<'_>,
+    declares: &Declares<'_>,
     ty: &TypeExpr,
     declaration: &MethodUse,
     body: &MethodUse,
 ) -> Result<Option<RowAt>, NoMemory>
     requires tables { IsTables tables.now }
     requires slots { AreSlots tables.now.world.now.recs slots.now }
-    ensures { IfOk result (λ at. at ≡ impl_body tables.now.world.now.recs ty.now (declares_by tables.now.world.now.recs declares) declaration.now body.now) }
+    ensures { IfOk result (λ at. at ≡ impl_body tables.now.world.now.recs ty.now (declares_by tables.now.world.now.recs declares.now) declaration.now body.now) }
 {
     if !declares_by(alloc, tables, slots, declares, declaration)? {
         return Ok(None);
@@ -228,14 +228,14 @@ fn impl_by(
     alloc: Global,
     tables: &Tables<'_>,
     slots: &Slots,
-    declares: Declares<'_>,
+    declares: &Declares<'_>,
     ty: &TypeExpr,
     asm: u32,
     row: &MethodImplRow,
 ) -> Result<Option<RowAt>, NoMemory>
     requires tables { IsTables tables.now }
     requires slots { AreSlots tables.now.world.now.recs slots.now }
-    ensures { IfOk result (λ at. at ≡ impl_by tables.now.world.now.recs ty.now (declares_by tables.now.world.now.recs declares) asm row.now) }
+    ensures { IfOk result (λ at. at ≡ impl_by tables.now.world.now.recs ty.now (declares_by tables.now.world.now.recs declares.now) asm row.now) }
 {
     let Some(declaration) = use_at(tables, asm, row.declaration) else {
         return Ok(None);
@@ -247,11 +247,11 @@ fn impl_by(
 }
 
 /// What the first of these MethodImpl rows, from 0, of an assembly gives that gives a body.
-fn first_at(
+fn first_of(
     alloc: Global,
     tables: &Tables<'_>,
     slots: &Slots,
-    declares: Declares<'_>,
+    declares: &Declares<'_>,
     ty: &TypeExpr,
     asm: u32,
     rec: &AsmRec,
@@ -259,7 +259,7 @@ fn first_at(
 ) -> Result<Option<RowAt>, NoMemory>
     requires tables { IsTables tables.now }
     requires slots { AreSlots tables.now.world.now.recs slots.now }
-    ensures { IfOk result (λ at. at ≡ first_at (impl_at tables.now.world.now.recs ty.now (declares_by tables.now.world.now.recs declares) asm rec.now) rows.now) }
+    ensures { IfOk result (λ at. at ≡ first_of (impl_at tables.now.world.now.recs ty.now (declares_by tables.now.world.now.recs declares.now) asm rec.now) rows.now) }
 {
     for k in rows {
         let Some(row) = rec.method_impl.get(*k as usize) else {
@@ -279,13 +279,13 @@ fn impl_in_at(
     alloc: Global,
     tables: &Tables<'_>,
     slots: &Slots,
-    declares: Declares<'_>,
+    declares: &Declares<'_>,
     ty: &TypeExpr,
     at: RowAt,
 ) -> Result<Option<RowAt>, NoMemory>
     requires tables { IsTables tables.now }
     requires slots { AreSlots tables.now.world.now.recs slots.now }
-    ensures { IfOk result (λ body. body ≡ impl_in_at tables.now.world.now.recs ty.now (declares_by tables.now.world.now.recs declares) at) }
+    ensures { IfOk result (λ body. body ≡ impl_in_at tables.now.world.now.recs ty.now (declares_by tables.now.world.now.recs declares.now) at) }
 {
     let Some(of) = tables.rows_at(at.asm) else {
         return Ok(None);
@@ -295,7 +295,7 @@ fn impl_in_at(
     }
     let token = token_of(0x02, at.row as usize)?;
     let rows = of.tables.impls.rows_with(token);
-    let body = first_at(alloc, tables, slots, declares, ty, at.asm, of.scope.rec, rows)?;
+    let body = first_of(alloc, tables, slots, declares, ty, at.asm, of.scope.rec, rows)?;
     Ok(body)
 }
 
@@ -305,12 +305,12 @@ pub fn impl_in(
     alloc: Global,
     tables: &Tables<'_>,
     slots: &Slots,
-    declares: Declares<'_>,
+    declares: &Declares<'_>,
     ty: &TypeExpr,
 ) -> Result<Option<RowAt>, NoMemory>
     requires tables { IsTables tables.now }
     requires slots { AreSlots tables.now.world.now.recs slots.now }
-    ensures { IfOk result (λ body. body ≡ impl_in tables.now.world.now.recs (declares_by tables.now.world.now.recs declares) ty.now) }
+    ensures { IfOk result (λ body. body ≡ impl_in tables.now.world.now.recs (declares_by tables.now.world.now.recs declares.now) ty.now) }
 {
     match definition(tables.world.recs.as_slice(), ty) {
         Ok(Some(at)) => impl_in_at(alloc, tables, slots, declares, ty, at),
