@@ -7,6 +7,7 @@ use Rattle.link_rules.specs.declared.row_at.RowAt.{RowAt}
 use Rattle.link_rules.specs.Types.{at_row}
 use Rattle.link_rules.specs.Members.{methods_in}
 use Rattle.type_rules.specs.Slots.{slot_of}
+use Rattle.type_rules.specs.Dispatch.{slot_in_run}
 use Rattle.virtual_calls.specs.declared.slots.Slots.{Slots}
 
 -- the slots of the first methods of an assembly
@@ -27,3 +28,8 @@ slot_at slots at = slot_in_rows slots.rows at
 -- the slot of each method
 abbrev pub AreSlots : List AsmRec → Slots → Type 0
 AreSlots recs slots = (at : RowAt) → slot_at slots at ≡ slot_of recs at
+
+-- `slot_in` of the type in a row
+abbrev pub slot_in_at : List AsmRec → RowAt → RowAt → Option RowAt
+slot_in_at recs slot at =
+    option_and_then (λ (rec : AsmRec). option_and_then (slot_in_run recs slot at rec) (slice_get rec.type_def at.row)) (slice_get recs at.asm)

@@ -24,6 +24,7 @@ use type_tables::tables::Tables;
 use world_model::{AsmRec, MethodImplRow, MethodUse, TypeExpr};
 
 /// Which declarations of MethodImpl rows count.
+#[derive(Clone, Copy)]
 pub enum Declares<'a> {
     /// One with this slot.
     Slot(RowAt),
@@ -290,12 +291,13 @@ fn impl_in_at(
     let Some(of) = tables.rows_at(at.asm) else {
         return Ok(None);
     };
-    if at.row as usize >= of.scope.rec.type_def.len() {
+    let rec = of.scope.rec;
+    let Some(_row) = rec.type_def.get(at.row as usize) else {
         return Ok(None);
-    }
+    };
     let token = token_of(0x02, at.row as usize)?;
     let rows = of.tables.impls.rows_with(token);
-    let body = first_of(alloc, tables, slots, declares, ty, at.asm, of.scope.rec, rows)?;
+    let body = first_of(alloc, tables, slots, declares, ty, at.asm, rec, rows)?;
     Ok(body)
 }
 

@@ -2,6 +2,7 @@
 //! interface instance. A method's id and types go in, a method's id comes out, as `dispatch` of `type_rules` has it.
 #![tactic(auto)]
 
+pub mod class_slots;
 mod flags;
 mod impls;
 mod nearest;
