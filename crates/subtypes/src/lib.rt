@@ -3,3 +3,7 @@
 #![tactic(auto)]
 
 pub mod interfaces;
+pub mod references;
+pub mod relation;
+pub mod rounds;
+pub mod upwards;

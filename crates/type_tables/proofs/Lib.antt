@@ -1,3 +1,3 @@
 pub mod Uses
-pub mod Grouped
 pub mod Worlds
+pub mod Grouped
