@@ -1,2 +1,3 @@
 pub mod Impls
+pub mod Interfaces
 pub mod Slots

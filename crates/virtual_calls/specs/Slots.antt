@@ -2,11 +2,12 @@
 use Rattle.std.specs.Prelude.{◌≡◌, ℕ, ◌+◌, List, [], ◌∷◌, map, Option, slice_get}
 use Rattle.std.specs.List.{range_with_len}
 use Rattle.std.specs.Option.{option_and_then}
+use Rattle.il_base.specs.declared.ids.MethodId.{MethodId}
 use Rattle.world_model.specs.declared.record.AsmRec.{AsmRec}
 use Rattle.link_rules.specs.declared.row_at.RowAt.{RowAt}
 use Rattle.link_rules.specs.Types.{at_row}
 use Rattle.link_rules.specs.Members.{methods_in}
-use Rattle.type_rules.specs.Slots.{slot_of}
+use Rattle.type_rules.specs.Slots.{method_home, slot_of}
 use Rattle.type_rules.specs.Dispatch.{slot_in_run}
 use Rattle.virtual_calls.specs.declared.slots.Slots.{Slots}
 
@@ -33,3 +34,7 @@ AreSlots recs slots = (at : RowAt) → slot_at slots at ≡ slot_of recs at
 abbrev pub slot_in_at : List AsmRec → RowAt → RowAt → Option RowAt
 slot_in_at recs slot at =
     option_and_then (λ (rec : AsmRec). option_and_then (slot_in_run recs slot at rec) (slice_get rec.type_def at.row)) (slice_get recs at.asm)
+
+-- the slot of a method, by its id
+abbrev pub slot_of_id : List AsmRec → MethodId → Option RowAt
+slot_of_id recs m = option_and_then (slot_of recs) (method_home recs m)

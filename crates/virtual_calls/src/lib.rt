@@ -3,7 +3,9 @@
 #![tactic(auto)]
 
 pub mod class_slots;
+pub mod dispatch;
 mod flags;
 mod impls;
+pub mod interface_slots;
 mod nearest;
 pub mod slots;

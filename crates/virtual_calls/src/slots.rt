@@ -164,3 +164,11 @@ impl Slots {
         }
     }
 }
+
+/// The slot of a method; None for a method that isn't virtual or isn't there.
+pub fn slot_of_method(tables: &Tables<'_>, slots: &Slots, at: RowAt) -> Option<RowAt>
+    requires { AreSlots tables.now.world.now.recs slots.now }
+    ensures { result ≡ slot_of tables.now.world.now.recs at }
+{
+    slots.at(at)
+}
