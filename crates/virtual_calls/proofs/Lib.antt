@@ -1,3 +1,4 @@
+pub mod Finding
 pub mod Impling
 pub mod Matching
 pub mod Running
