@@ -1,5 +1,5 @@
 -- The first that passes a test among what things give, one thing after the other.
-use Rattle.std.proofs.Common.{◌≡◌, ℕ, suc, ◌+◌, ◌<◌, List, ◌∷◌, ◌++◌, length, drop, get_or, Bool, Option, Some, None, refl, sym, ap, ◌∙◌, arith, add-one}
+use Rattle.std.proofs.Common.{◌≡◌, ℕ, suc, ◌+◌, ◌<◌, List, ◌∷◌, length, drop, get_or, Bool, Option, Some, None, sym, ap, ◌∙◌, arith}
 use Rattle.std.specs.Prelude.{find}
 use Rattle.std.specs.List.{flat_map}
 use Rattle.std.specs.Option.{option_or}

@@ -112,11 +112,7 @@ fn declares_by(
 }
 
 /// Whether a type has this definition.
-fn stands_at(
-    tables: &Tables<'_>,
-    owner: Option<RowAt>,
-    ty: &TypeExpr,
-) -> Result<bool, NoMemory>
+fn stands_at(tables: &Tables<'_>, owner: Option<RowAt>, ty: &TypeExpr) -> Result<bool, NoMemory>
     ensures { IfOk result (λ is. is ≡ stands_at tables.now.world.now.recs owner ty.now) }
 {
     match definition(tables.world.recs.as_slice(), ty) {
@@ -168,12 +164,7 @@ fn is_instance_virtual(tables: &Tables<'_>, at: RowAt) -> bool
 }
 
 /// Whether a method is a body for a class: virtual, not static, of the class or of one of its bases.
-fn is_body(
-    alloc: Global,
-    tables: &Tables<'_>,
-    ty: &TypeExpr,
-    at: RowAt,
-) -> Result<bool, NoMemory>
+fn is_body(alloc: Global, tables: &Tables<'_>, ty: &TypeExpr, at: RowAt) -> Result<bool, NoMemory>
     requires { IsTables tables.now }
     ensures { IfOk result (λ is. is ≡ is_body tables.now.world.now.recs ty.now at) }
 {

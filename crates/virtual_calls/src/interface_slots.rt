@@ -234,7 +234,16 @@ fn from_choice(
     let made = subst_method(alloc, args_of(&choice.instance), signature)?;
     let wanted = Wanted::Method(Among::PublicVirtual, made);
     let name = m.name.as_slice();
-    let found = nearest_look(alloc, tables, slots, slot, &choice.instance, name, &wanted, start)?;
+    let found = nearest_look(
+        alloc,
+        tables,
+        slots,
+        slot,
+        &choice.instance,
+        name,
+        &wanted,
+        start,
+    )?;
     Ok(found)
 }
 

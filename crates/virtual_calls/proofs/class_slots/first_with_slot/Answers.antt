@@ -1,4 +1,4 @@
-use Rattle.std.proofs.Common.{ℕ, None, sym}
+use Rattle.std.proofs.Common.{ℕ, sym}
 use Rattle.std.specs.List.{range_with_len}
 use Rattle.link_rules.specs.Types.{at_row}
 use Rattle.type_rules.specs.Slots.{has_slot}
