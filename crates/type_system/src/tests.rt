@@ -1,0 +1,4 @@
+//! Questions on worlds made by hand: rows as C# would have them, and what .NET answers.
+
+mod build;
+mod names;
