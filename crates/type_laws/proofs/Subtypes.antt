@@ -30,11 +30,11 @@ element_by (TypeExpr-F.Var n) e y is h = cc
 element_by (TypeExpr-F.MVar n) e y is h = cc
 element_by (TypeExpr-F.Mod required by x) e y is h = cc
 
-array_is : (e y : TypeExpr) → element_of e ≡ Some y → e ≡ expr.Array y
+pub array_is : (e y : TypeExpr) → element_of e ≡ Some y → e ≡ expr.Array y
 unfolding element_of
 array_is e y h = element_by (out-TypeExpr e) e y (roll-out-TypeExpr e) h
 
-element_is : (y : TypeExpr) → element_of (expr.Array y) ≡ Some y
+pub element_is : (y : TypeExpr) → element_of (expr.Array y) ≡ Some y
 unfolding element_of
 element_is y = ap element_in (out_is (TypeExpr-F.Array y) (expr.Array y) (expr.rolls-Array y))
 
@@ -87,7 +87,7 @@ module _ (recs : List AsmRec) where
 
   -- ---- what leads up is found at any depth
 
-  led_below : (n : ℕ) (a b : TypeExpr) → leads_up recs a b ≡ true → is_below recs n a b ≡ true
+  pub led_below : (n : ℕ) (a b : TypeExpr) → leads_up recs a b ≡ true → is_below recs n a b ≡ true
   unfolding is_below
   led_below zero a b e = e
   led_below (suc n) a b e = or_left (leads_up recs a b) (are_elements recs (is_below recs n) (element_of a) (element_of b)) e

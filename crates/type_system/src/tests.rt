@@ -2,3 +2,4 @@
 
 mod build;
 mod names;
+mod subtypes;

@@ -1,8 +1,10 @@
 //! The questions on the types of a world.
 
 ghost use Rattle.std.specs.Prelude.{◌≡◌, IfOk};
+ghost use Rattle.std.specs.Bool.{Decides};
 ghost use Rattle.world_model.specs.Exprs.{subst};
 ghost use Rattle.link_rules.specs.Linked.{IsWorld};
+ghost use Rattle.type_rules.specs.Subtypes.{IsSubtype, is_subtype};
 ghost use Rattle.type_rules.specs.Texts.{text};
 ghost use Rattle.type_rules.specs.Searches.{find_type};
 
@@ -10,6 +12,7 @@ use attr_blobs::TypeName;
 use il_base::{AsmId, NoMemory, Seq, Text, TypeId};
 use std::alloc::Global;
 use std::marker::Model;
+use subtypes::relation::is_subtype;
 use type_names::TypeNames;
 use type_tables::tables::Tables;
 use world_model::{TypeExpr, World};
@@ -56,6 +59,15 @@ impl<'w> Types<'w> {
         ensures { result.now ≡ self.now }
     {
         self.tables.world
+    }
+
+    /// Whether a type can stand for another: it is that type, or it leads to it over bases and interfaces; an array also
+    /// for an array whose element its own, a reference, can stand for. Variance doesn't count.
+    pub fn is_subtype(&self, alloc: Global, a: &TypeExpr, b: &TypeExpr) -> Result<bool, NoMemory>
+        ensures searched { IfOk result (λ yes. yes ≡ is_subtype self.now.recs a.now b.now) }
+        ensures related { IfOk result (λ yes. Decides yes (IsSubtype self.now.recs a.now b.now)) }
+    {
+        is_subtype(alloc, &self.tables, a, b)
     }
 
     /// A type with arguments put in place of generic parameters: `targs` of the type, `margs` of the method. A number

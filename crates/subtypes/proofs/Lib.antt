@@ -1,0 +1,4 @@
+pub mod Naming
+pub mod Looking
+pub mod Elements
+pub mod Decided

@@ -1,0 +1,99 @@
+//! Whether one type can stand for another (I.8.7), without variance.
+
+ghost use Rattle.std.specs.Prelude.{◌≡◌, IfOk};
+ghost use Rattle.std.specs.Bool.{Decides};
+ghost use Rattle.std.specs.Option.{option_copied};
+ghost use Rattle.type_rules.specs.Subtypes.{leads_up, element_of, is_subtype, IsSubtype};
+ghost use Rattle.type_tables.specs.Tables.{IsTables};
+
+use crate::references::is_reference;
+use crate::rounds::{above, is_among};
+use il_base::NoMemory;
+use std::alloc::Global;
+use type_laws::laws::subtype_decides;
+use type_tables::tables::Tables;
+use world_model::TypeExpr;
+
+/// Whether steps up from a type lead to another.
+fn leads_up(
+    alloc: Global,
+    tables: &Tables<'_>,
+    a: &TypeExpr,
+    b: &TypeExpr,
+) -> Result<bool, NoMemory>
+    requires { IsTables tables.now }
+    ensures { IfOk result (λ yes. yes ≡ leads_up tables.now.world.now.recs a.now b.now) }
+{
+    let found = above(alloc, tables, a)?;
+    let yes = is_among(found.as_slice(), b);
+    Ok(yes)
+}
+
+/// The element of an array; None for any other type.
+#[tactic(auto, unfolding(type_rules::specs::Subtypes::element_of))]
+fn element_of(ty: &TypeExpr) -> Option<&TypeExpr>
+    ensures { option_copied result ≡ element_of ty.now }
+{
+    match ty {
+        TypeExpr::Array(element) => Some(element.get()),
+        TypeExpr::Prim(_) => None,
+        TypeExpr::Def(_) => None,
+        TypeExpr::Inst(_, _) => None,
+        TypeExpr::ByRef(_) => None,
+        TypeExpr::Var(_) => None,
+        TypeExpr::MVar(_) => None,
+        TypeExpr::Mod { .. } => None,
+    }
+}
+
+/// The search for a subtype, one level of arrays after the other.
+fn is_below(
+    alloc: Global,
+    tables: &Tables<'_>,
+    a: &TypeExpr,
+    b: &TypeExpr,
+) -> Result<bool, NoMemory>
+    requires { IsTables tables.now }
+    ensures { IfOk result (λ yes. yes ≡ is_subtype tables.now.world.now.recs a.now b.now) }
+{
+    let mut below = a;
+    let mut wanted = b;
+    'levels: loop {
+        let found = leads_up(alloc, tables, below, wanted)?;
+        if found {
+            return Ok(true);
+        }
+        let element = match element_of(below) {
+            Some(element) => element,
+            None => return Ok(false),
+        };
+        let other = match element_of(wanted) {
+            Some(other) => other,
+            None => return Ok(false),
+        };
+        let by_reference = is_reference(tables, element)?;
+        if !by_reference {
+            return Ok(false);
+        }
+        below = element;
+        wanted = other;
+    }
+}
+
+/// Whether a value of the first type can stand where one of the second is wanted: they are one, the second is a base or an
+/// interface of the first or of one of these, or both are arrays and the first one's element is a reference type that can
+/// stand for the second one's (I.8.7). An array can stand for System.Array.
+pub fn is_subtype(
+    alloc: Global,
+    tables: &Tables<'_>,
+    a: &TypeExpr,
+    b: &TypeExpr,
+) -> Result<bool, NoMemory>
+    requires { IsTables tables.now }
+    ensures searched { IfOk result (λ yes. yes ≡ is_subtype tables.now.world.now.recs a.now b.now) }
+    ensures related { IfOk result (λ yes. Decides yes (IsSubtype tables.now.world.now.recs a.now b.now)) }
+{
+    subtype_decides();
+    let yes = is_below(alloc, tables, a, b)?;
+    Ok(yes)
+}

@@ -1,0 +1,118 @@
+//! One step up from a type: its base and its interfaces (I.8.7).
+
+ghost use Rattle.std.specs.Prelude.{◌≡◌, ◌++◌, IfOk, OnOk};
+ghost use Rattle.std.specs.Option.{option_map};
+ghost use Rattle.world_model.specs.declared.expr.TypeExpr as expr;
+ghost use Rattle.link_rules.specs.Members.{array_type, base_at};
+ghost use Rattle.link_rules.specs.Cycles.{listed, interfaces_at};
+ghost use Rattle.type_rules.specs.Subtypes.{bases_of, interfaces_of, up};
+ghost use Rattle.type_tables.specs.Tables.{IsTables};
+ghost use Rattle.subtypes.specs.Named.{named_by};
+
+use crate::interfaces::{add_interfaces, add_named};
+use il_base::NoMemory;
+use link_rules::RowAt;
+use member_search::bases::{args_of, array_type, base_at, definition};
+use std::alloc::Global;
+use type_tables::tables::Tables;
+use world_model::{AsmRec, TypeExpr};
+
+/// Puts the base that the row of a type definition names at the end, with these arguments put in.
+fn add_base(
+    alloc: Global,
+    tables: &Tables<'_>,
+    args: &[TypeExpr],
+    at: RowAt,
+    found: &mut Vec<TypeExpr>,
+) -> Result<(), NoMemory>
+    requires { IsTables tables.now }
+    ensures { OnOk result (found.new.items ≡ found.old.items ++ named_by args.now (listed (base_at tables.now.world.now.recs at))) }
+{
+    let linked = tables.linked();
+    match base_at(&linked, at) {
+        Some(base) => add_named(alloc, args, base, found),
+        None => Ok(()),
+    }
+}
+
+/// Puts the base and the interfaces of a type definition at the end, with these arguments put in.
+fn add_above_row(
+    alloc: Global,
+    tables: &Tables<'_>,
+    args: &[TypeExpr],
+    at: RowAt,
+    found: &mut Vec<TypeExpr>,
+) -> Result<(), NoMemory>
+    requires { IsTables tables.now }
+    ensures { OnOk result (found.new.items ≡ found.old.items ++ (named_by args.now (listed (base_at tables.now.world.now.recs at)) ++ named_by args.now (interfaces_at tables.now.world.now.recs at))) }
+{
+    add_base(alloc, tables, args, at, found)?;
+    add_interfaces(alloc, tables, args, at, found)?;
+    Ok(())
+}
+
+/// Puts the base and the interfaces of a type at the end, as its rows name them.
+#[tactic(auto, unfolding(type_rules::specs::Subtypes::interfaces_of))]
+fn add_above_type(
+    alloc: Global,
+    tables: &Tables<'_>,
+    ty: &TypeExpr,
+    found: &mut Vec<TypeExpr>,
+) -> Result<(), NoMemory>
+    requires { IsTables tables.now }
+    ensures { OnOk result (found.new.items ≡ found.old.items ++ (bases_of tables.now.world.now.recs ty.now ++ interfaces_of tables.now.world.now.recs ty.now)) }
+{
+    match definition(tables.world.recs.as_slice(), ty) {
+        Ok(Some(at)) => add_above_row(alloc, tables, args_of(ty), at, found),
+        Ok(None) => Ok(()),
+        Err(error) => Err(error),
+    }
+}
+
+/// Puts System.Array at the end.
+fn add_array(all: &[AsmRec], found: &mut Vec<TypeExpr>) -> Result<(), NoMemory>
+    ensures { OnOk result (found.new.items ≡ found.old.items ++ listed (option_map (λ t. expr.Def t) (array_type all.now))) }
+{
+    match array_type(all) {
+        Ok(Some(id)) => {
+            found.push(TypeExpr::Def(id))?;
+            Ok(())
+        }
+        Ok(None) => Ok(()),
+        Err(error) => Err(error),
+    }
+}
+
+/// Puts what is one step above a type at the end: its base, then its interfaces; System.Array for an array.
+#[tactic(auto, unfolding(type_rules::specs::Subtypes::up))]
+pub(crate) fn add_up(
+    alloc: Global,
+    tables: &Tables<'_>,
+    ty: &TypeExpr,
+    found: &mut Vec<TypeExpr>,
+) -> Result<(), NoMemory>
+    requires { IsTables tables.now }
+    ensures { OnOk result (found.new.items ≡ found.old.items ++ up tables.now.world.now.recs ty.now) }
+{
+    match ty {
+        TypeExpr::Array(_) => add_array(tables.world.recs.as_slice(), found),
+        TypeExpr::Prim(_) => add_above_type(alloc, tables, ty, found),
+        TypeExpr::Def(_) => add_above_type(alloc, tables, ty, found),
+        TypeExpr::Inst(_, _) => add_above_type(alloc, tables, ty, found),
+        TypeExpr::ByRef(_) => add_above_type(alloc, tables, ty, found),
+        TypeExpr::Var(_) => add_above_type(alloc, tables, ty, found),
+        TypeExpr::MVar(_) => add_above_type(alloc, tables, ty, found),
+        TypeExpr::Mod { .. } => add_above_type(alloc, tables, ty, found),
+    }
+}
+
+/// What is one step above a type: its base, then its interfaces, with the type's arguments put in; System.Array for an
+/// array.
+pub fn up(alloc: Global, tables: &Tables<'_>, ty: &TypeExpr) -> Result<Vec<TypeExpr>, NoMemory>
+    requires { IsTables tables.now }
+    ensures { IfOk result (λ found. found.items ≡ up tables.now.world.now.recs ty.now) }
+{
+    let mut found = Vec::new(alloc);
+    add_up(alloc, tables, ty, &mut found)?;
+    Ok(found)
+}
