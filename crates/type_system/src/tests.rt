@@ -2,4 +2,4 @@
 
 mod build;
 mod names;
-mod subtypes;
+mod subtyping;
