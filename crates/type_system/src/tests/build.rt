@@ -263,7 +263,8 @@ pub fn method_of(
 
 /// The class of a TypeDef row implements the interface of a token.
 pub fn implement(rec: &mut AsmRec, class: u32, interface: u32) -> Result<(), NoMemory> {
-    rec.interface_impl.push(InterfaceImplRow { class, interface })
+    rec.interface_impl
+        .push(InterfaceImplRow { class, interface })
 }
 
 /// In the class of a TypeDef row a method is the body for a declaration.
@@ -291,12 +292,7 @@ pub fn generic(rec: &mut AsmRec, alloc: Global, owner: u32, number: u16) -> Resu
 }
 
 /// A TypeSpec row for a generic class of one argument.
-pub fn instance_of(
-    rec: &mut AsmRec,
-    alloc: Global,
-    token: u32,
-    arg: Sig,
-) -> Result<(), NoMemory> {
+pub fn instance_of(rec: &mut AsmRec, alloc: Global, token: u32, arg: Sig) -> Result<(), NoMemory> {
     let mut args = Seq::new(alloc);
     args.push(arg)?;
     rec.type_spec.push(TypeSpecRow {

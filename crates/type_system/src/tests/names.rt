@@ -60,7 +60,14 @@ fn texts(rt: HostRuntime) -> Result<(), Fail> {
     let types = Types::new(alloc, &world)?;
     assert!(rt; has_text(alloc, &types, def(1), b"Plain")?);
     assert!(rt; has_text(alloc, &types, int32(), b"System.Int32")?);
-    assert!(rt; has_text(alloc, &types, inst(alloc, 2, string())?, b"Box`1[System.String]")?);
+    assert!(rt;
+        has_text(
+            alloc,
+            &types,
+            inst(alloc, 2, string())?,
+            b"Box`1[System.String]"
+        )?
+    );
     assert!(rt; has_text(alloc, &types, array(alloc, def(1))?, b"Plain[]")?);
     Ok(())
 }

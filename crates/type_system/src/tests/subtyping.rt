@@ -7,12 +7,7 @@ use std::alloc::Global;
 use std::test::Fail;
 use world_model::{AsmRec, Known, TypeExpr, TypeSpecRow};
 
-fn is_below(
-    alloc: Global,
-    types: &Types<'_>,
-    a: TypeExpr,
-    b: TypeExpr,
-) -> Result<bool, NoMemory> {
+fn is_below(alloc: Global, types: &Types<'_>, a: TypeExpr, b: TypeExpr) -> Result<bool, NoMemory> {
     types.is_subtype(alloc, &a, &b)
 }
 
