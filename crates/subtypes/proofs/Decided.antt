@@ -1,5 +1,5 @@
 -- What the law on subtypes says of the world of these tables.
-use Rattle.std.proofs.Common.{◌≡◌, Bool, List, sym, ap, subst, ◌∙◌}
+use Rattle.std.proofs.Common.{◌≡◌, Bool, List, sym, ap, subst}
 use Rattle.std.specs.Bool.{Decides}
 use Rattle.world_model.specs.declared.expr.TypeExpr.{TypeExpr}
 use Rattle.world_model.specs.declared.record.AsmRec.{AsmRec}

@@ -7,7 +7,7 @@ use Rattle.std.specs.Prelude.{if◌then◌else◌}
 use Rattle.std.specs.Bool.{Decides}
 use Rattle.std.specs.List.{list_any, flat_map}
 use Rattle.link_rules.specs.Cycles.{add_new, add_all, led_to}
-use Rattle.type_laws.proofs.Within.{In, any_in, in_added, in_kept, in_parts}
+use Rattle.type_laws.proofs.Within.{In, any_in, in_added}
 
 module _ {A : Type 0} (same : A → A → Bool) where
   -- ---- lists that grow at their ends

@@ -1,20 +1,18 @@
 -- The interfaces that the rows of a type name, by its rows alone and with its arguments put in at once.
-use Rattle.std.proofs.Common.{◌≡◌, ℕ, suc, List, [], ◌∷◌, ◌++◌, length, drop, ◌≤◌, map, Bool, true, false, Option, Some, None, refl, sym, ap, ◌∙◌}
+use Rattle.std.proofs.Common.{◌≡◌, ℕ, suc, List, [], ◌∷◌, ◌++◌, length, drop, ◌≤◌, Bool, true, false, refl, sym, ap, ◌∙◌}
 use Rattle.std.specs.Prelude.{slice_get, ◌==◌, if◌then◌else◌}
-use Rattle.std.specs.List.{flat_map, filter}
+use Rattle.std.specs.List.{flat_map}
 use Rattle.std.specs.Option.{option_map_or}
-use Rattle.std.proofs.lemmas.Grind.{common_steps}
 use Rattle.std.proofs.lemmas.List.{map-append, append-nil, drop_all}
 use Rattle.std.proofs.lemmas.List.Elements.{filter-append}
 use Rattle.world_model.specs.declared.expr.TypeExpr.{TypeExpr}
 use Rattle.world_model.specs.declared.record.AsmRec.{AsmRec}
 use Rattle.world_model.specs.declared.types.InterfaceImplRow.{InterfaceImplRow}
 use Rattle.world_model.specs.Tokens.{token_of}
-use Rattle.link_rules.specs.declared.row_at.RowAt.{RowAt}
 use Rattle.link_rules.specs.Types.{at_row}
 use Rattle.link_rules.specs.Signatures.{token_type}
 use Rattle.link_rules.specs.Members.{good_type}
-use Rattle.link_rules.specs.Cycles.{listed, interface_of, interfaces_in, interfaces_at}
+use Rattle.link_rules.specs.Cycles.{listed, interface_of, interfaces_in}
 use Rattle.type_tables.specs.declared.groups.Groups.{Groups}
 use Rattle.type_tables.specs.Groups.{rows_with, AreGroups}
 use Rattle.type_tables.specs.Tables.{interface_classes}

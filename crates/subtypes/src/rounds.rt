@@ -153,11 +153,7 @@ pub fn above(alloc: Global, tables: &Tables<'_>, ty: &TypeExpr) -> Result<Vec<Ty
 
 /// An interface and all interfaces that its rows lead to, itself first, the nearest before those behind them.
 #[tactic(auto, unfolding(type_rules::specs::Dispatch::implied))]
-pub fn implied(
-    alloc: Global,
-    tables: &Tables<'_>,
-    ty: &TypeExpr,
-) -> Result<Vec<TypeExpr>, NoMemory>
+pub fn implied(alloc: Global, tables: &Tables<'_>, ty: &TypeExpr) -> Result<Vec<TypeExpr>, NoMemory>
     requires { IsTables tables.now }
     ensures { IfOk result (λ found. found.items ≡ implied tables.now.world.now.recs ty.now) }
 {

@@ -36,7 +36,7 @@ fn add_base(
 }
 
 /// Puts the base and the interfaces of a type definition at the end, with these arguments put in.
-fn add_above_row(
+fn add_supertypes_of_row(
     alloc: Global,
     tables: &Tables<'_>,
     args: &[TypeExpr],
@@ -53,7 +53,7 @@ fn add_above_row(
 
 /// Puts the base and the interfaces of a type at the end, as its rows name them.
 #[tactic(auto, unfolding(type_rules::specs::Subtypes::interfaces_of))]
-fn add_above_type(
+fn add_supertypes_of_type(
     alloc: Global,
     tables: &Tables<'_>,
     ty: &TypeExpr,
@@ -63,7 +63,7 @@ fn add_above_type(
     ensures { OnOk result (found.new.items ≡ found.old.items ++ (bases_of tables.now.world.now.recs ty.now ++ interfaces_of tables.now.world.now.recs ty.now)) }
 {
     match definition(tables.world.recs.as_slice(), ty) {
-        Ok(Some(at)) => add_above_row(alloc, tables, args_of(ty), at, found),
+        Ok(Some(at)) => add_supertypes_of_row(alloc, tables, args_of(ty), at, found),
         Ok(None) => Ok(()),
         Err(error) => Err(error),
     }
@@ -96,13 +96,13 @@ pub(crate) fn add_up(
 {
     match ty {
         TypeExpr::Array(_) => add_array(tables.world.recs.as_slice(), found),
-        TypeExpr::Prim(_) => add_above_type(alloc, tables, ty, found),
-        TypeExpr::Def(_) => add_above_type(alloc, tables, ty, found),
-        TypeExpr::Inst(_, _) => add_above_type(alloc, tables, ty, found),
-        TypeExpr::ByRef(_) => add_above_type(alloc, tables, ty, found),
-        TypeExpr::Var(_) => add_above_type(alloc, tables, ty, found),
-        TypeExpr::MVar(_) => add_above_type(alloc, tables, ty, found),
-        TypeExpr::Mod { .. } => add_above_type(alloc, tables, ty, found),
+        TypeExpr::Prim(_) => add_supertypes_of_type(alloc, tables, ty, found),
+        TypeExpr::Def(_) => add_supertypes_of_type(alloc, tables, ty, found),
+        TypeExpr::Inst(_, _) => add_supertypes_of_type(alloc, tables, ty, found),
+        TypeExpr::ByRef(_) => add_supertypes_of_type(alloc, tables, ty, found),
+        TypeExpr::Var(_) => add_supertypes_of_type(alloc, tables, ty, found),
+        TypeExpr::MVar(_) => add_supertypes_of_type(alloc, tables, ty, found),
+        TypeExpr::Mod { .. } => add_supertypes_of_type(alloc, tables, ty, found),
     }
 }
 

@@ -5,22 +5,27 @@ ghost use Rattle.std.specs.Bool.{Decides};
 ghost use Rattle.world_model.specs.Exprs.{subst};
 ghost use Rattle.link_rules.specs.Linked.{IsWorld};
 ghost use Rattle.type_rules.specs.Subtypes.{IsSubtype, is_subtype};
+ghost use Rattle.type_rules.specs.Dispatch.{dispatch};
 ghost use Rattle.type_rules.specs.Texts.{text};
+ghost use Rattle.type_tables.specs.Tables.{IsTables};
 ghost use Rattle.type_rules.specs.Searches.{find_type};
 
 use attr_blobs::TypeName;
-use il_base::{AsmId, NoMemory, Seq, Text, TypeId};
+use il_base::{AsmId, MethodId, NoMemory, Seq, Text, TypeId};
 use std::alloc::Global;
 use std::marker::Model;
 use subtypes::relation::is_subtype;
 use type_names::TypeNames;
 use type_tables::tables::Tables;
+use virtual_calls::dispatch::dispatch;
+use virtual_calls::slots::Slots;
 use world_model::{TypeExpr, World};
 
 /// A world with what questions on its types are answered by, made once. Contracts see the world, which a link gave.
 #[derive(Drop)]
 pub struct Types<'w> {
     tables: Tables<'w>,
+    slots: Slots,
     names: TypeNames<'w>,
 }
 
@@ -29,6 +34,7 @@ impl<'w> Model for Types<'w> {
     ghost use Rattle.world_model.specs.declared.world.World.{World};
     ghost use Rattle.world_model.specs.contracts.world.World as world;
     ghost use Rattle.type_tables.specs.Tables.{IsTables};
+    ghost use Rattle.virtual_calls.specs.Slots.{AreSlots};
 
     ghost Value = { World };
 
@@ -36,7 +42,25 @@ impl<'w> Model for Types<'w> {
 
     ghost view = { λ t. t.tables.world.now };
 
-    ghost invariant = { λ t. IsTables t.tables × (t.names ≡ t.tables.world.now.recs) };
+    ghost invariant = { λ t. IsTables t.tables × AreSlots t.tables.world.now.recs t.slots × (t.names ≡ t.tables.world.now.recs) };
+}
+
+/// The types of a world whose tables are made.
+fn with_tables<'w>(alloc: Global, tables: Tables<'w>) -> Result<Types<'w>, NoMemory>
+    requires { IsTables tables }
+    ensures { IfOk result (λ types. types ≡ tables.entry.world.now) }
+{
+    match Slots::of(alloc, &tables) {
+        Err(_) => Err(NoMemory),
+        Ok(slots) => match TypeNames::of(alloc, tables.world.recs.as_slice()) {
+            Err(_) => Err(NoMemory),
+            Ok(names) => Ok(Types {
+                tables,
+                slots,
+                names,
+            }),
+        },
+    }
 }
 
 impl<'w> Types<'w> {
@@ -47,10 +71,7 @@ impl<'w> Types<'w> {
     {
         match Tables::of(alloc, world) {
             Err(_) => Err(NoMemory),
-            Ok(tables) => match TypeNames::of(alloc, world.recs.as_slice()) {
-                Err(_) => Err(NoMemory),
-                Ok(names) => Ok(Types { tables, names }),
-            },
+            Ok(tables) => with_tables(alloc, tables),
         }
     }
 
@@ -68,6 +89,21 @@ impl<'w> Types<'w> {
         ensures related { IfOk result (λ yes. Decides yes (IsSubtype self.now.recs a.now b.now)) }
     {
         is_subtype(alloc, &self.tables, a, b)
+    }
+
+    /// The method that a virtual method is answered by in a type `t`; None for a method that isn't virtual or isn't there, or
+    /// where `t` has nothing for it. For a method of an interface `owner` is the interface instance, for any other it isn't
+    /// looked at. A method without a body is an answer too.
+    pub fn dispatch(
+        &self,
+        alloc: Global,
+        t: &TypeExpr,
+        owner: &TypeExpr,
+        slot: MethodId,
+    ) -> Result<Option<MethodId>, NoMemory>
+        ensures { IfOk result (λ found. found ≡ dispatch self.now.recs t.now owner.now slot) }
+    {
+        dispatch(alloc, &self.tables, &self.slots, t, owner, slot)
     }
 
     /// A type with arguments put in place of generic parameters: `targs` of the type, `margs` of the method. A number

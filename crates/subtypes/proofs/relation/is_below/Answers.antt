@@ -14,13 +14,13 @@ returns-in-None c =
 pub returns-in-None-element_of : goal.returns-in-None-element_of
 returns-in-None-element_of c =
     sym (no_other c.args.tables.now.world.now.recs c.levels.below.now c.levels.wanted.now (sym c.in_ok-found.ensures ∙ c.if-found.false) c.in-Some.element.now
-      (sym c.in-Some.ensures) (sym c.in-None-element_of.ensures))
+    (sym c.in-Some.ensures) (sym c.in-None-element_of.ensures))
     ∙ c.levels.invariant
 
 pub returns-then-not-by_reference : goal.returns-then-not-by_reference
 returns-then-not-by_reference c =
     sym (no_reference c.args.tables.now.world.now.recs c.levels.below.now c.levels.wanted.now (sym c.in_ok-found.ensures ∙ c.if-found.false) c.in-Some.element.now
-      c.in-Some-element_of.other.now (sym c.in-Some.ensures) (sym c.in-Some-element_of.ensures) (sym c.in_ok-by_reference.ensures ∙ c.if-not-by_reference.true))
+    c.in-Some-element_of.other.now (sym c.in-Some.ensures) (sym c.in-Some-element_of.ensures) (sym c.in_ok-by_reference.ensures ∙ c.if-not-by_reference.true))
     ∙ c.levels.invariant
 
 pub levels-smaller : goal.levels-smaller
@@ -29,5 +29,5 @@ levels-smaller c = let e = deeper c.levels.below.now c.in-Some.element.now (sym 
 pub levels-preserved : goal.levels-preserved
 levels-preserved c =
     sym (one_down c.args.tables.now.world.now.recs c.levels.below.now c.levels.wanted.now (sym c.in_ok-found.ensures ∙ c.if-found.false) c.in-Some.element.now
-      c.in-Some-element_of.other.now (sym c.in-Some.ensures) (sym c.in-Some-element_of.ensures) (sym c.in_ok-by_reference.ensures ∙ c.if-not-by_reference.false))
+    c.in-Some-element_of.other.now (sym c.in-Some.ensures) (sym c.in-Some-element_of.ensures) (sym c.in_ok-by_reference.ensures ∙ c.if-not-by_reference.false))
     ∙ c.levels.invariant

@@ -9,5 +9,5 @@ use Rattle.subtypes.proofs.rounds.led_to.Given as goal
 abbrev pub invariant-loop-round : goal.invariant-loop-round
 invariant-loop-round l = record {
   led : led_to same_expr (next_by l.tables.world.now.recs l.step) (l.rounds - l.round) l.found.items ≡ led_to same_expr (next_by l.tables.world.now.recs l.step) l.rounds (l.ty ∷ []);
-  looked : Looked same_expr same_decides (next_by l.tables.world.now.recs l.step) l.looked_at l.found.items
+  looked : Looked same_expr same_decides (next_by l.tables.world.now.recs l.step) l.looked_at l.found.items;
 }

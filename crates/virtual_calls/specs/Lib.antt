@@ -1,0 +1,3 @@
+pub mod Impls
+pub mod Interfaces
+pub mod Slots
