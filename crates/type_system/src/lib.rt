@@ -2,6 +2,8 @@
 //! name, the text of a type. A world that `resolver::link` gave goes in, and each answer is `type_rules`' of its records.
 #![tactic(auto)]
 
+#[cfg(test)]
+mod tests;
 mod types;
 
 pub use types::Types;

@@ -1,0 +1,8 @@
+//! Questions on worlds made by hand: rows as C# would have them, and what .NET answers.
+
+mod build;
+mod classes;
+mod generics;
+mod interfaces;
+mod names;
+mod subtyping;

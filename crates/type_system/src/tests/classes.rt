@@ -1,0 +1,166 @@
+//! Which method a virtual call runs, by the slots of classes.
+
+use super::build::*;
+use crate::Types;
+use il_base::{MethodId, NoMemory};
+use std::alloc::Global;
+use std::test::Fail;
+use world_model::AsmRec;
+
+/// What the type of an id answers a method of a class with.
+fn runs(alloc: Global, types: &Types<'_>, ty: u32, method: u32) -> Result<Option<u32>, NoMemory> {
+    let ty = def(ty);
+    match types.dispatch(alloc, &ty, &ty, MethodId(method)) {
+        Err(error) => Err(error),
+        Ok(None) => Ok(None),
+        Ok(Some(MethodId(id))) => Ok(Some(id)),
+    }
+}
+
+/// Types 1 to 3, each with one method, 0 to 2:
+///
+/// ```text
+/// class B     { public virtual void M(); }
+/// class S : B { public new virtual void M(); }
+/// class T : S { public override void M(); }
+/// ```
+fn fill_hidden(rec: &mut AsmRec, alloc: Global) -> Result<(), NoMemory> {
+    begin(rec, alloc, b"App")?;
+    class(rec, alloc, b"B", OBJECT, 1)?;
+    method(rec, alloc, b"M", VIRTUAL)?;
+    class(rec, alloc, b"S", 0x0200_0002, 1)?;
+    method(rec, alloc, b"M", VIRTUAL)?;
+    class(rec, alloc, b"T", 0x0200_0003, 1)?;
+    method(rec, alloc, b"M", OVERRIDE)
+}
+
+/// An override takes the nearest slot, and a slot of the same name further up is another.
+#[test]
+fn hidden_slots(rt: HostRuntime) -> Result<(), Fail> {
+    let alloc = rt.alloc();
+    let mut rec = no_rows(alloc);
+    fill_hidden(&mut rec, alloc)?;
+    let world = world_of(alloc, rec)?;
+    let types = Types::new(alloc, &world)?;
+    assert_eq!(rt; runs(alloc, &types, 3, 0)?, Some(0));
+    assert_eq!(rt; runs(alloc, &types, 3, 1)?, Some(2));
+    assert_eq!(rt; runs(alloc, &types, 3, 2)?, Some(2));
+    Ok(())
+}
+
+/// Types 1 to 3, methods 0 A.M and 1 C.M:
+///
+/// ```text
+/// class A     { public virtual void M(); }
+/// class B : A {}
+/// class C : B { public override void M(); }
+/// ```
+fn fill_inherited(rec: &mut AsmRec, alloc: Global) -> Result<(), NoMemory> {
+    begin(rec, alloc, b"App")?;
+    class(rec, alloc, b"A", OBJECT, 1)?;
+    method(rec, alloc, b"M", VIRTUAL)?;
+    class(rec, alloc, b"B", 0x0200_0002, 0)?;
+    class(rec, alloc, b"C", 0x0200_0003, 1)?;
+    method(rec, alloc, b"M", OVERRIDE)
+}
+
+/// A class without the method has that of its base.
+#[test]
+fn inherited_methods(rt: HostRuntime) -> Result<(), Fail> {
+    let alloc = rt.alloc();
+    let mut rec = no_rows(alloc);
+    fill_inherited(&mut rec, alloc)?;
+    let world = world_of(alloc, rec)?;
+    let types = Types::new(alloc, &world)?;
+    assert_eq!(rt; runs(alloc, &types, 2, 0)?, Some(0));
+    assert_eq!(rt; runs(alloc, &types, 3, 0)?, Some(1));
+    Ok(())
+}
+
+/// Types 1 to 3, each with one method, 0 to 2:
+///
+/// ```text
+/// class B     { public virtual void M(); }
+/// class D : B { public virtual void N(); .override B::M with D::N }
+/// class E : D { public override void N(); }
+/// ```
+fn fill_renamed(rec: &mut AsmRec, alloc: Global) -> Result<(), NoMemory> {
+    begin(rec, alloc, b"App")?;
+    class(rec, alloc, b"B", OBJECT, 1)?;
+    method(rec, alloc, b"M", VIRTUAL)?;
+    class(rec, alloc, b"D", 0x0200_0002, 1)?;
+    method(rec, alloc, b"N", VIRTUAL)?;
+    override_by(rec, 0x0200_0003, 0x0600_0002, 0x0600_0001)?;
+    class(rec, alloc, b"E", 0x0200_0003, 1)?;
+    method(rec, alloc, b"N", OVERRIDE)
+}
+
+/// A MethodImpl row gives a slot a body by another name. An override of that body takes the body's own slot alone.
+#[test]
+fn slots_by_method_impl(rt: HostRuntime) -> Result<(), Fail> {
+    let alloc = rt.alloc();
+    let mut rec = no_rows(alloc);
+    fill_renamed(&mut rec, alloc)?;
+    let world = world_of(alloc, rec)?;
+    let types = Types::new(alloc, &world)?;
+    assert_eq!(rt; runs(alloc, &types, 2, 0)?, Some(1));
+    assert_eq!(rt; runs(alloc, &types, 3, 0)?, Some(1));
+    assert_eq!(rt; runs(alloc, &types, 3, 1)?, Some(2));
+    Ok(())
+}
+
+/// Types 1 and 2, methods 0 B.M, 1 B.N, 2 S.M:
+///
+/// ```text
+/// class B     { public virtual void M(); public virtual void N(); .override B::M with B::N }
+/// class S : B { public new virtual void M(); }
+/// ```
+fn fill_renamed_base(rec: &mut AsmRec, alloc: Global) -> Result<(), NoMemory> {
+    begin(rec, alloc, b"App")?;
+    class(rec, alloc, b"B", OBJECT, 2)?;
+    method(rec, alloc, b"M", VIRTUAL)?;
+    method(rec, alloc, b"N", VIRTUAL)?;
+    override_by(rec, 0x0200_0002, 0x0600_0002, 0x0600_0001)?;
+    class(rec, alloc, b"S", 0x0200_0002, 1)?;
+    method(rec, alloc, b"M", VIRTUAL)
+}
+
+/// A MethodImpl row of a base is for the base's slot, and for no slot that hides it.
+#[test]
+fn hidden_slots_by_method_impl(rt: HostRuntime) -> Result<(), Fail> {
+    let alloc = rt.alloc();
+    let mut rec = no_rows(alloc);
+    fill_renamed_base(&mut rec, alloc)?;
+    let world = world_of(alloc, rec)?;
+    let types = Types::new(alloc, &world)?;
+    assert_eq!(rt; runs(alloc, &types, 2, 0)?, Some(1));
+    assert_eq!(rt; runs(alloc, &types, 2, 2)?, Some(2));
+    Ok(())
+}
+
+/// Types 1 and 2, each with one method, 0 and 1:
+///
+/// ```text
+/// class A          { public void M(); }
+/// abstract class B { public abstract void M(); }
+/// ```
+fn fill_plain(rec: &mut AsmRec, alloc: Global) -> Result<(), NoMemory> {
+    begin(rec, alloc, b"App")?;
+    class(rec, alloc, b"A", OBJECT, 1)?;
+    method(rec, alloc, b"M", PLAIN)?;
+    class(rec, alloc, b"B", OBJECT, 1)?;
+    method(rec, alloc, b"M", ABSTRACT)
+}
+
+/// A method that isn't virtual has no slot. An abstract one has, and is what is found there.
+#[test]
+fn plain_and_abstract_methods(rt: HostRuntime) -> Result<(), Fail> {
+    let alloc = rt.alloc();
+    let mut rec = no_rows(alloc);
+    fill_plain(&mut rec, alloc)?;
+    let world = world_of(alloc, rec)?;
+    let types = Types::new(alloc, &world)?;
+    assert_eq!(rt; runs(alloc, &types, 1, 0)?, None);
+    assert_eq!(rt; runs(alloc, &types, 2, 1)?, Some(1));
+    Ok(())
+}

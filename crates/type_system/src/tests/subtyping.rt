@@ -1,0 +1,130 @@
+//! Which types a type can stand for.
+
+use super::build::*;
+use crate::Types;
+use il_base::{NoMemory, Sig};
+use std::alloc::Global;
+use std::test::Fail;
+use world_model::{AsmRec, Known, TypeExpr, TypeSpecRow};
+
+fn is_below(alloc: Global, types: &Types<'_>, a: TypeExpr, b: TypeExpr) -> Result<bool, NoMemory> {
+    types.is_subtype(alloc, &a, &b)
+}
+
+/// Whether a vector of the one can stand for a vector of the other.
+fn is_array_below(
+    alloc: Global,
+    types: &Types<'_>,
+    a: TypeExpr,
+    b: TypeExpr,
+) -> Result<bool, NoMemory> {
+    let a = array(alloc, a)?;
+    let b = array(alloc, b)?;
+    types.is_subtype(alloc, &a, &b)
+}
+
+/// Types 1 to 4:
+///
+/// ```text
+/// interface I {}
+/// interface J : I {}
+/// class T : J {}
+/// class U {}
+/// ```
+fn fill_chain(rec: &mut AsmRec, alloc: Global) -> Result<(), NoMemory> {
+    begin(rec, alloc, b"App")?;
+    interface(rec, alloc, b"I", 0)?;
+    interface(rec, alloc, b"J", 0)?;
+    class(rec, alloc, b"T", OBJECT, 0)?;
+    class(rec, alloc, b"U", OBJECT, 0)?;
+    implement(rec, 0x0200_0003, 0x0200_0002)?;
+    implement(rec, 0x0200_0004, 0x0200_0003)
+}
+
+#[test]
+fn interfaces_and_bases(rt: HostRuntime) -> Result<(), Fail> {
+    let alloc = rt.alloc();
+    let mut rec = no_rows(alloc);
+    fill_chain(&mut rec, alloc)?;
+    let world = world_of(alloc, rec)?;
+    let types = Types::new(alloc, &world)?;
+    assert!(rt; is_below(alloc, &types, def(3), def(1))?);
+    assert!(rt; is_below(alloc, &types, def(3), def(2))?);
+    assert!(rt; is_below(alloc, &types, def(3), object())?);
+    assert!(rt; is_below(alloc, &types, def(3), def(3))?);
+    assert!(rt; !is_below(alloc, &types, def(1), def(3))?);
+    assert!(rt; !is_below(alloc, &types, def(3), def(4))?);
+    Ok(())
+}
+
+/// Vectors of references stand for one another as their elements do, those of other types don't. System.Array is row 22 of
+/// the core library, behind the five types of the assembly.
+#[test]
+fn arrays(rt: HostRuntime) -> Result<(), Fail> {
+    let alloc = rt.alloc();
+    let mut rec = no_rows(alloc);
+    fill_chain(&mut rec, alloc)?;
+    let world = world_of(alloc, rec)?;
+    let types = Types::new(alloc, &world)?;
+    assert!(rt; is_array_below(alloc, &types, def(3), def(1))?);
+    assert!(rt; is_below(alloc, &types, array(alloc, def(3))?, def(26))?);
+    assert!(rt; is_below(alloc, &types, array(alloc, def(3))?, object())?);
+    assert!(rt; is_array_below(alloc, &types, string(), object())?);
+    assert!(rt; !is_array_below(alloc, &types, int32(), object())?);
+    Ok(())
+}
+
+/// Types 1 and 2:
+///
+/// ```text
+/// class Base<T> {}
+/// class D : Base<int> {}
+/// ```
+fn fill_generic(rec: &mut AsmRec, alloc: Global) -> Result<(), NoMemory> {
+    begin(rec, alloc, b"App")?;
+    class(rec, alloc, b"Base`1", OBJECT, 0)?;
+    generic(rec, alloc, 0x0200_0002, 0)?;
+    instance_of(rec, alloc, 0x0200_0002, Sig::Prim(0x08))?;
+    class(rec, alloc, b"D", 0x1b00_0001, 0)
+}
+
+#[test]
+fn generic_bases(rt: HostRuntime) -> Result<(), Fail> {
+    let alloc = rt.alloc();
+    let mut rec = no_rows(alloc);
+    fill_generic(&mut rec, alloc)?;
+    let world = world_of(alloc, rec)?;
+    let types = Types::new(alloc, &world)?;
+    assert!(rt; is_below(alloc, &types, def(2), inst(alloc, 1, int32())?)?);
+    assert!(rt; !is_below(alloc, &types, def(2), inst(alloc, 1, string())?)?);
+    Ok(())
+}
+
+/// Types 1 and 2:
+///
+/// ```text
+/// interface I {}
+/// class C<T> : T {}
+/// ```
+fn fill_parameter_row(rec: &mut AsmRec, alloc: Global) -> Result<(), NoMemory> {
+    begin(rec, alloc, b"App")?;
+    interface(rec, alloc, b"I", 0)?;
+    class(rec, alloc, b"C`1", OBJECT, 0)?;
+    generic(rec, alloc, 0x0200_0003, 0)?;
+    rec.type_spec.push(TypeSpecRow {
+        signature: Known::Good(Sig::Var(0)),
+    })?;
+    implement(rec, 0x0200_0003, 0x1b00_0001)
+}
+
+/// A row that names a parameter, which no interface can be, gives nothing.
+#[test]
+fn rows_of_parameters(rt: HostRuntime) -> Result<(), Fail> {
+    let alloc = rt.alloc();
+    let mut rec = no_rows(alloc);
+    fill_parameter_row(&mut rec, alloc)?;
+    let world = world_of(alloc, rec)?;
+    let types = Types::new(alloc, &world)?;
+    assert!(rt; !is_below(alloc, &types, inst(alloc, 2, def(1))?, def(1))?);
+    Ok(())
+}
