@@ -4,5 +4,6 @@ mod build;
 mod classes;
 mod generics;
 mod interfaces;
+mod links;
 mod names;
 mod subtyping;

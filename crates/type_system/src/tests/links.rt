@@ -1,0 +1,121 @@
+//! What a link of assemblies answers.
+
+use super::build::*;
+use il_base::{AsmId, NoMemory, Seq};
+use link_rules::LinkError;
+use resolver::link;
+use std::alloc::Global;
+use std::test::Fail;
+use world_model::{AsmRec, BadKind, ExportedTypeRow, Known, NestedClassRow};
+
+/// An assembly of a name, without types of its own.
+fn named(alloc: Global, name: &[u8]) -> Result<AsmRec, NoMemory> {
+    let mut rec = no_rows(alloc);
+    begin(&mut rec, alloc, name)?;
+    Ok(rec)
+}
+
+/// Why two assemblies don't link: the assembly, the demand and the row.
+fn fault(alloc: Global, first: AsmRec, second: AsmRec) -> Result<Option<(u32, u8, u32)>, NoMemory> {
+    let mut recs = Seq::new(alloc);
+    recs.push(first)?;
+    recs.push(second)?;
+    match link(alloc, recs) {
+        Ok(_) => Ok(None),
+        Err(LinkError::Bad { file, why, token }) => Ok(Some((file, why, token))),
+        Err(LinkError::NoMemory) => Err(NoMemory),
+    }
+}
+
+#[test]
+fn assemblies_of_one_name(rt: HostRuntime) -> Result<(), Fail> {
+    let alloc = rt.alloc();
+    let first = named(alloc, b"App")?;
+    let second = named(alloc, b"App")?;
+    assert_eq!(rt; fault(alloc, first, second)?, Some((1, 14, 0)));
+    Ok(())
+}
+
+/// The type of a token is nested in that of another.
+fn nest(rec: &mut AsmRec, nested_class: u32, enclosing_class: u32) -> Result<(), NoMemory> {
+    rec.nested_class.push(NestedClassRow {
+        nested_class,
+        enclosing_class,
+    })
+}
+
+/// Types 1 and 2, each of them nested in the other.
+fn fill_enclosing(rec: &mut AsmRec, alloc: Global) -> Result<(), NoMemory> {
+    begin(rec, alloc, b"Lib")?;
+    class(rec, alloc, b"Outer", OBJECT, 0)?;
+    class(rec, alloc, b"Inner", OBJECT, 0)?;
+    nest(rec, 0x0200_0002, 0x0200_0003)?;
+    nest(rec, 0x0200_0003, 0x0200_0002)
+}
+
+#[test]
+fn types_that_enclose_each_other(rt: HostRuntime) -> Result<(), Fail> {
+    let alloc = rt.alloc();
+    let first = named(alloc, b"App")?;
+    let mut second = no_rows(alloc);
+    fill_enclosing(&mut second, alloc)?;
+    assert_eq!(rt; fault(alloc, first, second)?, Some((1, 16, 0x2900_0001)));
+    Ok(())
+}
+
+/// An assembly that forwards the type `T` to another.
+fn fill_forwarding(rec: &mut AsmRec, alloc: Global, own: &[u8], to: &[u8]) -> Result<(), NoMemory> {
+    begin(rec, alloc, own)?;
+    refer(rec, alloc, to)?;
+    rec.exported_type.push(ExportedTypeRow {
+        flags: 0x0020_0000,
+        type_def_id: 0,
+        name: text(alloc, b"T")?,
+        namespace: Seq::new(alloc),
+        implementation: 0x2300_0002,
+    })
+}
+
+/// An assembly with a reference to the type `T` of `A`, its second TypeRef row.
+fn fill_user(rec: &mut AsmRec, alloc: Global) -> Result<(), NoMemory> {
+    begin(rec, alloc, b"App")?;
+    refer(rec, alloc, b"A")?;
+    mention(rec, alloc, 0x2300_0002, b"", b"T")
+}
+
+/// `App`, `A` and `B`, where `A` forwards `T` to `B` and `B` to a third.
+fn push_forwarding(
+    alloc: Global,
+    recs: &mut Seq<AsmRec>,
+    back_to: &[u8],
+) -> Result<(), NoMemory> {
+    let mut app = no_rows(alloc);
+    fill_user(&mut app, alloc)?;
+    let mut a = no_rows(alloc);
+    fill_forwarding(&mut a, alloc, b"A", b"B")?;
+    let mut b = no_rows(alloc);
+    fill_forwarding(&mut b, alloc, b"B", back_to)?;
+    recs.push(app)?;
+    recs.push(a)?;
+    recs.push(b)
+}
+
+/// Whether the reference of `App` names nothing.
+fn is_unresolved(alloc: Global, recs: Seq<AsmRec>) -> Result<bool, NoMemory> {
+    let world = world(alloc, recs)?;
+    match world.type_at(AsmId(0), 0x0100_0002) {
+        Some(Known::Bad(BadKind::Unresolved)) => Ok(true),
+        Some(Known::Bad(_)) => Ok(false),
+        Some(Known::Good(_)) => Ok(false),
+        None => Ok(false),
+    }
+}
+
+#[test]
+fn assemblies_that_forward_to_each_other(rt: HostRuntime) -> Result<(), Fail> {
+    let alloc = rt.alloc();
+    let mut recs = Seq::new(alloc);
+    push_forwarding(alloc, &mut recs, b"A")?;
+    assert!(rt; is_unresolved(alloc, recs)?);
+    Ok(())
+}
