@@ -82,6 +82,7 @@ COLUMNS = {
     0x1B: ("blob",),
     0x20: (4, 2, 2, 2, 2, 4, "blob", "name", "name"),
     0x23: (2, 2, 2, 2, 4, "blob", "name", "name", "blob"),
+    0x29: ((">", 0x02), (">", 0x02)),
     0x2A: (2, 2, TYPE_OR_METHOD_DEF, "name"),
     0x2B: (METHOD_DEF_OR_REF, "blob"),
 }
