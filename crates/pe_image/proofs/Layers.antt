@@ -90,7 +90,7 @@ until_step : (c : Bool) (r : ℕ) (x y : Stretch) (xs ys : List Stretch) (rest :
     → nat_le x.from y.from ≡ c → Lays r x xs rest
     → found (option_or a y.section) (until x rest a y.section ys) r ≡ option_or (found a (x ∷ xs) r) (found y.section ys r)
     → found (option_or a b) (cond c (both x.from x.section b ∷ rest b (y ∷ ys)) (both y.from a y.section ∷ until x rest a y.section ys)) r
-      ≡ option_or (found a (x ∷ xs) r) (found b (y ∷ ys) r)
+    ≡ option_or (found a (x ∷ xs) r) (found b (y ∷ ys) r)
 unfolding found
 until_step true r x y xs ys rest a b e h i =
     upper_case (nat_lt r x.from) (nat_lt r y.from) a b (found x.section xs r) (found y.section ys r) _ (below_too r x.from y.from e) (h b (y ∷ ys))

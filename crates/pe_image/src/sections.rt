@@ -33,7 +33,12 @@ impl<'a> Model for Sections<'a> {
 
 impl<'a> Sections<'a> {
     /// The sections whose headers begin at a place.
-    pub fn new(alloc: Global, bytes: &'a [u8], place: usize, count: u16) -> Result<Sections<'a>, NoMemory>
+    pub fn new(
+        alloc: Global,
+        bytes: &'a [u8],
+        place: usize,
+        count: u16,
+    ) -> Result<Sections<'a>, NoMemory>
         requires small { length bytes.now < 2 ^ 32 }
         requires place { place ≡ sections_place bytes.now }
         requires count { count ≡ section_count bytes.now }
@@ -141,7 +146,13 @@ fn nth(bytes: &[u8], place: usize, i: u16) -> Section
 /// The stretches of `count` sections from the one with a number, from 0. The sections of each half are put together before
 /// the halves are, so the time is that of a sort.
 #[tactic(auto, using(crate::proofs::Looking::looking))]
-fn stretches_from(alloc: Global, bytes: &[u8], place: usize, first: u16, count: u16) -> Result<Vec<Stretch>, NoMemory>
+fn stretches_from(
+    alloc: Global,
+    bytes: &[u8],
+    place: usize,
+    first: u16,
+    count: u16,
+) -> Result<Vec<Stretch>, NoMemory>
     requires place { place ≡ sections_place bytes.now }
     requires reach { place < 2 ^ 33 }
     requires within { first + count < 2 ^ 16 }

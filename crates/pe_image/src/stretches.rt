@@ -93,7 +93,11 @@ fn is_upper_next(upper: &[Stretch], lower: &[Stretch]) -> bool
 }
 
 /// Two lists of stretches, the first laid over the second.
-pub fn overlay(alloc: Global, upper: &[Stretch], lower: &[Stretch]) -> Result<Vec<Stretch>, NoMemory>
+pub fn overlay(
+    alloc: Global,
+    upper: &[Stretch],
+    lower: &[Stretch],
+) -> Result<Vec<Stretch>, NoMemory>
     ensures { IfOk result (λ all. all.items ≡ overlay None upper.now None lower.now) }
 {
     let mut rest = Layers {

@@ -102,3 +102,24 @@ fn refuses(rt: HostRuntime) -> Result<(), Fail> {
     );
     Ok(())
 }
+
+/// A third section, from 0x1f00 to 0x2700, whose raw bytes are the file's.
+#[test]
+fn finds_the_first_of_sections_that_overlap(rt: HostRuntime) -> Result<(), Fail> {
+    let mut file = sample(rt.alloc())?;
+    put(&mut file, 0x86, &[3]);
+    put(
+        &mut file,
+        0x1d0,
+        &[0, 8, 0, 0, 0, 0x1f, 0, 0, 0, 8, 0, 0, 0, 0],
+    );
+    assert!(rt; file.len() < 4096);
+    let image = Image::read(rt.alloc(), &file).ok().ok_or("an image")?;
+    assert_eq!(rt; image.place(0x1eff), None);
+    assert_eq!(rt; image.place(0x1f10), Some(0x10));
+    assert_eq!(rt; image.place(0x2050), Some(0x250));
+    assert_eq!(rt; image.place(0x2260), Some(0x360));
+    assert_eq!(rt; image.place(0x2700), None);
+    assert_eq!(rt; image.place(0x4000), Some(0x600));
+    Ok(())
+}

@@ -17,5 +17,5 @@ returns c =
     let parted = IsPartitionedBy-leb (λ (s : Stretch). s.from) c.args.stretches.now c.from-rva.result (in_order 0 _ c.requires) in
     let point = IsPartitionPoint-from_clause (λ (s : Stretch). leb s.from c.from-rva.result) _ _ c.partition_point-passed.ensures.partitioned parted (λ a r q k. search rules) in
     sym (found_at _ _ _ (c.partition_point-passed.result - 1) _ (omega arith)
-        (λ i d h. omega (arith, c.from-rva.ensures, leb-true _ _ (point.0 i d (omega arith) (omega arith))))
-        (λ i d h l. omega (arith, c.from-rva.ensures, leb-false _ _ (point.1 i d (omega arith) l))))
+    (λ i d h. omega (arith, c.from-rva.ensures, leb-true _ _ (point.0 i d (omega arith) (omega arith))))
+    (λ i d h l. omega (arith, c.from-rva.ensures, leb-false _ _ (point.1 i d (omega arith) l))))
