@@ -1,2 +1,3 @@
-pub mod Ascents
 pub mod Finding
+pub mod Layers
+pub mod Looking

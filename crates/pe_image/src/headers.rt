@@ -1,8 +1,9 @@
-ghost use Rattle.std.specs.Prelude.{◌≡◌, ◌+◌, ◌<◌, ◌^◌, ◌==◌, ◌||◌, ◌≤◌, length, IfOk};
-ghost use Rattle.cli_format.specs.Demand.{Checked};
+ghost use Rattle.std.specs.Prelude.{◌≡◌, ◌+◌, ◌<◌, ◌^◌, ◌==◌, ◌||◌, ◌≤◌, length, None, IfOk};
+ghost use Rattle.cli_format.specs.Demand.{Checked, first_fault};
+ghost use Rattle.pe_image.specs.Opened.{headers_of};
 ghost use Rattle.cli_format.specs.Image.{signature_place, signature_demands, optional_place, magic_demands, directory_place, directory_demands, directory_count_place, is_wide, header_demands, sections_demands, subsystem_of, sections_place, section_count};
 
-use crate::sections::Sections;
+use crate::sections::check_sections;
 use cli_format::{NO_CLI, NOT_PE, need, need_bytes, u16_in, u32_in};
 use il_base::BadAt;
 
@@ -84,9 +85,12 @@ fn count_place(bytes: &[u8], optional: usize) -> usize
 }
 
 /// What the headers of a file give.
-#[derive(Debug, Drop)]
-pub struct Headers<'a> {
-    pub sections: Sections<'a>,
+#[derive(Clone, Copy, Debug)]
+pub struct Headers {
+    /// The place of the first section header.
+    pub sections: usize,
+    /// The number of sections.
+    pub count: u16,
     /// The place of directory 14.
     pub directory: usize,
     /// The subsystem (II.25.2.3.2).
@@ -95,35 +99,48 @@ pub struct Headers<'a> {
 
 /// The headers of a file.
 #[tactic(auto, using(cli_format::proofs::Faults::faults), unfolding(cli_format::specs::Image::header_demands))]
-pub fn read_headers(bytes: &[u8]) -> Result<Headers<'_>, BadAt>
+pub fn read_headers(bytes: &[u8]) -> Result<Headers, BadAt>
     requires { length bytes.now < 2 ^ 32 }
-    ensures checked { Checked result (header_demands bytes.now) (record { sections = bytes.now; directory = directory_place bytes.now; subsystem = subsystem_of bytes.now }) }
+    ensures checked { Checked result (header_demands bytes.now) (headers_of bytes.now) }
     ensures within { IfOk result (λ h. h.directory + 4 ≤ length bytes.now) }
+    ensures reach { IfOk result (λ h. h.sections < 2 ^ 33) }
+    ensures sections { IfOk result (λ h. first_fault (sections_demands bytes.now) ≡ None) }
 {
     let signature = find_signature(bytes)?;
     let optional = find_optional(bytes, signature)?;
     let directory = find_directory(bytes, optional)?;
-    let sections = read_sections(bytes, signature, optional)?;
+    let sections = sections_place(bytes, signature, optional);
+    let count = section_count(bytes, signature);
+    check_sections(bytes, sections, count)?;
     let subsystem = subsystem_in(bytes, optional);
     Ok(Headers {
         sections,
+        count,
         directory,
         subsystem,
     })
 }
 
-/// The sections, whose headers lie behind the optional header.
-#[tactic(auto, unfolding(cli_format::specs::Image::sections_place, cli_format::specs::Image::section_count))]
-fn read_sections(bytes: &[u8], signature: u32, optional: usize) -> Result<Sections<'_>, BadAt>
-    requires small { length bytes.now < 2 ^ 32 }
+/// The place of the first section header, behind the optional header.
+#[tactic(auto, unfolding(cli_format::specs::Image::sections_place))]
+fn sections_place(bytes: &[u8], signature: u32, optional: usize) -> usize
     requires signature { signature ≡ signature_place bytes.now }
     requires optional { optional ≡ optional_place bytes.now }
     requires reach { optional < 2 ^ 32 }
-    ensures { Checked result (sections_demands bytes.now) bytes.now }
+    ensures value { result ≡ sections_place bytes.now }
+    ensures reach { result < 2 ^ 33 }
 {
-    let count = u16_in(bytes, signature as usize + 6);
     let size = u16_in(bytes, signature as usize + 20);
-    Sections::read(bytes, optional + size as usize, count)
+    optional + size as usize
+}
+
+/// The number of sections.
+#[tactic(auto, unfolding(cli_format::specs::Image::section_count))]
+fn section_count(bytes: &[u8], signature: u32) -> u16
+    requires { signature ≡ signature_place bytes.now }
+    ensures { result ≡ section_count bytes.now }
+{
+    u16_in(bytes, signature as usize + 6)
 }
 
 #[tactic(auto, unfolding(cli_format::specs::Image::subsystem_of))]

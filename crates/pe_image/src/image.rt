@@ -2,11 +2,14 @@ ghost use Rattle.std.specs.Prelude.{◌≡◌, ◌+◌, ◌<◌, ◌≤◌, ◌^
 ghost use Rattle.std.specs.Option.{option_map};
 ghost use Rattle.cli_format.specs.Demand.{Checked, demand, bad};
 ghost use Rattle.cli_format.specs.Image.{image_demands, image_at, image_place, image_tail, metadata_of, metadata_place_of, entry_token_of, cli_flags_of, subsystem_of, resources_of, sections_place, section_count, cli_place, directory_place, cli_demands, il_only_demands, metadata_demands, metadata_place_in, metadata_size, mapped};
+ghost use Rattle.pe_image.specs.Opened.{Opened};
 
-use crate::headers::{Headers, read_headers};
+use crate::error::ImageError;
+use crate::headers::read_headers;
 use crate::sections::{Sections, part};
 use cli_format::{BAD_RVA, NATIVE, NO_CLI, NOT_IL_ONLY, need, u32_in, u64_in};
 use il_base::BadAt;
+use std::alloc::Global;
 use std::marker::Model;
 
 /// The PE image of a file (II.25). Contracts see the bytes of the file.
@@ -32,23 +35,20 @@ impl<'a> Model for Image<'a> {
 impl<'a> Image<'a> {
     /// The image of a file. A refusal is that of the first demand that fails.
     #[tactic(auto, using(cli_format::proofs::Faults::faults), unfolding(cli_format::specs::Image::image_demands))]
-    pub fn read(bytes: &'a [u8]) -> Result<Image<'a>, BadAt>
+    pub fn read(alloc: Global, bytes: &'a [u8]) -> Result<Image<'a>, ImageError>
         requires { length bytes.now < 2 ^ 32 }
-        ensures { Checked result (image_demands bytes.now) bytes.now }
+        ensures { Opened result (image_demands bytes.now) bytes.now }
     {
-        let Headers {
-            sections,
-            directory,
-            subsystem,
-        } = read_headers(bytes)?;
-        let cli = find_cli(&sections, directory)?;
+        let headers = read_headers(bytes)?;
+        let sections = Sections::new(alloc, bytes, headers.sections, headers.count)?;
+        let cli = find_cli(&sections, headers.directory)?;
         check_il_only(bytes, cli)?;
         let metadata = find_metadata(&sections, cli)?;
         Ok(Image {
             sections,
             cli,
             metadata,
-            subsystem,
+            subsystem: headers.subsystem,
         })
     }
 

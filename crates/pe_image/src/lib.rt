@@ -3,10 +3,13 @@
 //! in their order: an image where all hold, and else the refusal of the first that fails.
 #![tactic(auto)]
 
+mod error;
 mod headers;
 mod image;
 mod sections;
+mod stretches;
 
+pub use error::ImageError;
 pub use image::Image;
 
 #[cfg(test)]

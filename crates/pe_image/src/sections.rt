@@ -1,63 +1,53 @@
-ghost use Rattle.std.specs.Prelude.{◌≡◌, ◌+◌, ◌*◌, ◌-◌, ◌<◌, ◌≤◌, ◌^◌, length, take, drop, IfSome, None, true};
+ghost use Rattle.std.specs.Prelude.{◌≡◌, ◌+◌, ◌*◌, ◌-◌, ◌<◌, ◌≤◌, ◌^◌, length, take, drop, IfSome, IfOk, None};
 ghost use Rattle.std.specs.Option.{option_map, option_and_then};
 ghost use Rattle.cli_format.specs.Demand.{Checked, first_fault};
 ghost use Rattle.cli_format.specs.Image.{section_demands, sections_demands, section_at, nth_section, section_of, sections_of, sections_place, section_count, covers, place_in, mapped, image_tail, tail_in};
-ghost use Rattle.pe_image.specs.Ascending.{ascend, end_before, section_end};
+ghost use Rattle.pe_image.specs.Stretches.{AreOf};
 
+use crate::stretches::{Stretch, find, overlay, stretches_of};
 use cli_format::{Section, need_bytes, u32_in};
-use il_base::BadAt;
+use il_base::{BadAt, NoMemory};
+use std::alloc::Global;
 use std::marker::Model;
 
 /// The sections of a file (II.25.3), each of them within the file. Contracts see the bytes of the file.
 #[derive(Debug, Drop)]
 pub struct Sections<'a> {
     bytes: &'a [u8],
-    place: usize,
-    count: u16,
-    /// Whether each section begins in memory where the one before ends, or behind.
-    ascending: bool,
+    /// The memory of all sections.
+    stretches: Vec<Stretch>,
 }
 
 impl<'a> Model for Sections<'a> {
     ghost use Rattle.std.specs.Prelude.{◌≡◌, ℕ, ◌<◌, ◌^◌, List, length, None};
     ghost use Rattle.cli_format.specs.Demand.{first_fault};
-    ghost use Rattle.cli_format.specs.Image.{sections_demands, sections_place, section_count};
-    ghost use Rattle.pe_image.specs.Ascending.{ascend};
+    ghost use Rattle.cli_format.specs.Image.{sections_demands, section_count};
+    ghost use Rattle.pe_image.specs.Stretches.{AreOf};
 
     ghost Value = { List ℕ };
 
     ghost view = { λ s. s.bytes.now };
 
-    ghost invariant = { λ s. (s.place ≡ sections_place s.bytes.now) × (s.place < 2 ^ 33) × (s.count ≡ section_count s.bytes.now) × (length s.bytes.now < 2 ^ 32) × (first_fault (sections_demands s.bytes.now) ≡ None) × (s.ascending ≡ ascend s.bytes.now s.count) };
+    ghost invariant = { λ s. (length s.bytes.now < 2 ^ 32) × (first_fault (sections_demands s.bytes.now) ≡ None) × AreOf s.bytes.now (section_count s.bytes.now) 0 s.stretches.items };
 }
 
 impl<'a> Sections<'a> {
     /// The sections whose headers begin at a place.
-    #[tactic(auto, using(cli_format::proofs::Faults::faults, crate::proofs::Ascents::ascents), unfolding(cli_format::specs::Image::sections_demands))]
-    pub fn read(bytes: &'a [u8], place: usize, count: u16) -> Result<Sections<'a>, BadAt>
+    pub fn new(
+        alloc: Global,
+        bytes: &'a [u8],
+        place: usize,
+        count: u16,
+    ) -> Result<Sections<'a>, NoMemory>
         requires small { length bytes.now < 2 ^ 32 }
         requires place { place ≡ sections_place bytes.now }
         requires count { count ≡ section_count bytes.now }
         requires reach { place < 2 ^ 33 }
-        ensures { Checked result (sections_demands bytes.now) bytes.now }
+        requires demands { first_fault (sections_demands bytes.now) ≡ None }
+        ensures { IfOk result (λ s. s ≡ bytes.now) }
     {
-        let mut ascending = true;
-        let mut end = 0;
-        for i in 0..count {
-            match check_section(bytes, place, i) {
-                Ok(section) => {
-                    ascending = ascending && end <= u64::from(section.rva);
-                    end = end_of(&section);
-                }
-                Err(e) => return Err(e),
-            }
-        }
-        Ok(Sections {
-            bytes,
-            place,
-            count,
-            ascending,
-        })
+        let stretches = stretches_from(alloc, bytes, place, 0, count)?;
+        Ok(Sections { bytes, stretches })
     }
 
     /// The bytes of the file.
@@ -69,67 +59,12 @@ impl<'a> Sections<'a> {
     }
 
     /// The first section in which an RVA lies.
+    #[tactic(auto, using(crate::proofs::Looking::looking))]
     pub fn find(&self, rva: u32) -> Option<Section>
         ensures value { result ≡ section_of (sections_of self.now) rva }
         ensures within { IfSome result (λ s. (s.rva ≤ rva) × (s.raw + s.raw_size ≤ length self.now)) }
     {
-        if self.ascending {
-            self.find_in_order(rva)
-        } else {
-            self.find_in_any_order(rva)
-        }
-    }
-
-    /// The first section in which an RVA lies, where the sections ascend.
-    #[tactic(auto, using(crate::proofs::Finding::finding, crate::proofs::Ascents::ascents))]
-    fn find_in_order(&self, rva: u32) -> Option<Section>
-        requires { ascend self.now (section_count self.now) ≡ true }
-        ensures value { result ≡ section_of (sections_of self.now) rva }
-        ensures within { IfSome result (λ s. (s.rva ≤ rva) × (s.raw + s.raw_size ≤ length self.now)) }
-    {
-        let i = self.passed(rva);
-        if i < self.count {
-            let section = nth(self.bytes, self.place, i);
-            if is_covered(&section, rva) {
-                return Some(section);
-            }
-        }
-        None
-    }
-
-    /// How many sections end at an RVA or before it, where they ascend.
-    #[tactic(auto, using(crate::proofs::Ascents::ascents))]
-    fn passed(&self, rva: u32) -> u16
-        ensures within { result ≤ section_count self.now }
-        ensures before { end_before self.now result ≤ rva }
-        ensures behind { result < section_count self.now → rva < section_end (nth_section self.now result) }
-    {
-        let mut low = 0;
-        let mut high = self.count;
-        while low < high {
-            let middle = low + (high - low) / 2;
-            if end_of(&nth(self.bytes, self.place, middle)) <= u64::from(rva) {
-                low = middle + 1;
-            } else {
-                high = middle;
-            }
-        }
-        low
-    }
-
-    /// The first section in which an RVA lies, looked for one by one.
-    #[tactic(auto, using(crate::proofs::Finding::finding))]
-    fn find_in_any_order(&self, rva: u32) -> Option<Section>
-        ensures value { result ≡ section_of (sections_of self.now) rva }
-        ensures within { IfSome result (λ s. (s.rva ≤ rva) × (s.raw + s.raw_size ≤ length self.now)) }
-    {
-        for i in 0..self.count {
-            let section = nth(self.bytes, self.place, i);
-            if is_covered(&section, rva) {
-                return Some(section);
-            }
-        }
-        None
+        find(&self.stretches, rva)
     }
 
     /// The place in the file of `len` bytes from an RVA, where they lie in the raw bytes of its section.
@@ -166,6 +101,24 @@ pub fn part(bytes: &[u8], at: usize, len: usize) -> &[u8]
     &bytes[at..][..len]
 }
 
+/// The headers of the sections are in the file, and so are their raw bytes.
+#[tactic(auto, using(cli_format::proofs::Faults::faults), unfolding(cli_format::specs::Image::sections_demands))]
+pub fn check_sections(bytes: &[u8], place: usize, count: u16) -> Result<(), BadAt>
+    requires small { length bytes.now < 2 ^ 32 }
+    requires place { place ≡ sections_place bytes.now }
+    requires count { count ≡ section_count bytes.now }
+    requires reach { place < 2 ^ 33 }
+    ensures { Checked result (sections_demands bytes.now) tt }
+{
+    for i in 0..count {
+        match check_section(bytes, place, i) {
+            Ok(_) => {}
+            Err(e) => return Err(e),
+        }
+    }
+    Ok(())
+}
+
 /// The section with a number, from 0, whose header and raw bytes are within the file.
 #[tactic(auto, using(cli_format::proofs::Faults::faults), unfolding(cli_format::specs::Image::section_demands, cli_format::specs::Image::section_place))]
 fn check_section(bytes: &[u8], place: usize, i: u16) -> Result<Section, BadAt>
@@ -190,6 +143,35 @@ fn nth(bytes: &[u8], place: usize, i: u16) -> Section
     section_in(bytes, place + 40 * i as usize)
 }
 
+/// The stretches of `count` sections from the one with a number, from 0. The sections of each half are put together before
+/// the halves are, so the time is that of a sort.
+#[tactic(auto, using(crate::proofs::Looking::looking))]
+fn stretches_from(
+    alloc: Global,
+    bytes: &[u8],
+    place: usize,
+    first: u16,
+    count: u16,
+) -> Result<Vec<Stretch>, NoMemory>
+    requires place { place ≡ sections_place bytes.now }
+    requires reach { place < 2 ^ 33 }
+    requires within { first + count < 2 ^ 16 }
+    ensures { IfOk result (λ all. AreOf bytes.now count first all.items) }
+{
+    if count == 0 {
+        return Ok(Vec::new(alloc));
+    }
+    if count == 1 {
+        let all = stretches_of(alloc, nth(bytes, place, first))?;
+        return Ok(all);
+    }
+    let half = count / 2;
+    let upper = stretches_from(alloc, bytes, place, first, half)?;
+    let lower = stretches_from(alloc, bytes, place, first + half, count - half)?;
+    let all = overlay(alloc, &upper, &lower)?;
+    Ok(all)
+}
+
 /// The section whose header is at a place.
 #[tactic(auto, unfolding(cli_format::specs::Image::section_at))]
 fn section_in(bytes: &[u8], at: usize) -> Section
@@ -202,22 +184,6 @@ fn section_in(bytes: &[u8], at: usize) -> Section
         raw_size: u32_in(bytes, at + 16),
         raw: u32_in(bytes, at + 20),
     }
-}
-
-/// The RVA at which a section ends.
-#[tactic(auto, unfolding(crate::specs::Ascending::section_end))]
-fn end_of(section: &Section) -> u64
-    ensures { result ≡ section_end section.now }
-{
-    u64::from(section.rva) + u64::from(section.size)
-}
-
-/// Whether an RVA lies in the section.
-#[tactic(auto, unfolding(cli_format::specs::Image::covers, crate::specs::Ascending::section_end))]
-fn is_covered(section: &Section, rva: u32) -> bool
-    ensures { result ≡ covers section.now rva }
-{
-    section.rva <= rva && u64::from(rva) < end_of(section)
 }
 
 /// The place of `len` bytes from an RVA in its section, where they lie in its raw bytes.

@@ -5,7 +5,7 @@ ghost use Rattle.record_format.specs.Record.{as_demand, record_demands, place_by
 
 use cli_format::TablesError;
 use meta_tables::Tables;
-use pe_image::Image;
+use pe_image::{Image, ImageError};
 use std::alloc::Global;
 use std::marker::Model;
 
@@ -37,7 +37,7 @@ impl<'a> Assembly<'a> {
         requires { length bytes.now < 2 ^ 32 }
         ensures { Read result (record_demands bytes.now) bytes.now }
     {
-        let image = open_image(bytes)?;
+        let image = open_image(alloc, bytes)?;
         let tables = Tables::read(alloc, image.metadata(), image.metadata_place())?;
         Ok(Assembly { image, tables })
     }
@@ -54,12 +54,13 @@ impl<'a> Assembly<'a> {
 
 /// The image of a file.
 #[tactic(auto, using(cli_format::proofs::Faults::refused_by, crate::proofs::Demands::mapped))]
-fn open_image(bytes: &[u8]) -> Result<Image<'_>, TablesError>
+fn open_image(alloc: Global, bytes: &[u8]) -> Result<Image<'_>, TablesError>
     requires { length bytes.now < 2 ^ 32 }
     ensures { Read result (map as_demand (image_demands bytes.now)) bytes.now }
 {
-    match Image::read(bytes) {
+    match Image::read(alloc, bytes) {
         Ok(image) => Ok(image),
-        Err(bad) => Err(TablesError::Bad(bad)),
+        Err(ImageError::Bad(bad)) => Err(TablesError::Bad(bad)),
+        Err(ImageError::NoMemory) => Err(TablesError::NoMemory),
     }
 }
