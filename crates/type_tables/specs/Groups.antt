@@ -1,6 +1,7 @@
 -- The rows of a table by what one of their columns holds.
-use Rattle.std.specs.Prelude.{◌≡◌, ℕ, nat_eq, Bool, List, [], unwrap_or}
+use Rattle.std.specs.Prelude.{◌≡◌, ℕ, nat_eq, Bool, List, [], ◌∷◌, Option, None, unwrap_or}
 use Rattle.std.specs.HashMap.{HashMap, get}
+use Rattle.link_rules.specs.Types.{or_else}
 use Rattle.member_search.specs.Names.{places}
 use Rattle.type_tables.specs.declared.groups.Groups.{Groups}
 
@@ -20,3 +21,8 @@ rows_with groups key = rows_of groups.rows key
 
 abbrev pub AreGroups : List ℕ → Groups → Type 0
 AreGroups keys groups = AreRowsOf keys groups.rows
+
+-- what the first of these that has something gives
+abbrev pub first_of : {A B : Type 0} → (A → Option B) → List A → Option B
+first_of look [] = None
+first_of look (x ∷ xs) = or_else (look x) (first_of look xs)

@@ -1,4 +1,3 @@
-use Rattle.std.proofs.Common.{sym}
 use Rattle.type_tables.proofs.Worlds.{type_links_are}
 use Rattle.type_tables.proofs.tables.Tables.of.Goals as goal
 
@@ -11,6 +10,6 @@ returns-clause-are c =
       signatures = told.1;
       methods = told.2;
       uses = c.uses_told.ensures c.args.world.now c.requires;
-      names = c.in_ok-names.ensures;
-      rows = c.in_ok-rows.ensures;
+      names = rw c.as_slice-all.ensures at c.in_ok-names.ensures;
+      rows = rw c.as_slice-all.ensures at c.in_ok-rows.ensures;
     }
