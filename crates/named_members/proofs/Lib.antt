@@ -1,2 +1,5 @@
+pub mod AccessorRows
+pub mod KindRows
 pub mod Lists
 pub mod MapRows
+pub mod RunRows

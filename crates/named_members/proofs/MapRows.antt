@@ -6,7 +6,6 @@ use Rattle.std.specs.Option.{option_map, option_map_or}
 use Rattle.std.proofs.lemmas.List.{append_assoc}
 use Rattle.world_model.specs.declared.members.PropertyMapRow.{PropertyMapRow}
 use Rattle.world_model.specs.declared.members.EventMapRow.{EventMapRow}
-use Rattle.world_model.specs.declared.types.TypeDefRow.{TypeDefRow}
 use Rattle.world_model.specs.declared.record.AsmRec.{AsmRec}
 use Rattle.world_model.specs.Tokens.{token_of}
 use Rattle.link_rules.specs.declared.row_at.RowAt.{RowAt}
@@ -44,8 +43,8 @@ under_option : {A B C : Type 0} (g : B → List C) (h : A → B) (o : Option A) 
 under_option g h None = refl
 under_option g h (Some x) = refl
 
-module _ (rec : AsmRec) (tables : RowTables) (are : AreRowTables rec tables) (at : RowAt) (name : List ℕ) (t : TypeDefRow) where
-  pub named_in_map : (m : Mapped) → flat_map (named_under m rec at.asm name) (map_rows m tables (token_of 0x02 (suc at.row))) ≡ named_places m rec at.asm name t at.row
+module _ (rec : AsmRec) (tables : RowTables) (are : AreRowTables rec tables) (at : RowAt) (name : List ℕ) where
+  pub named_in_map : (m : Mapped) → flat_map (named_under m rec at.asm name) (map_rows m tables (token_of 0x02 (suc at.row))) ≡ named_places m rec name at
   named_in_map Property =
       let token : ℕ = token_of 0x02 (suc at.row) in
       let g : PropertyMapRow → List RowAt = λ row. named_in_run Property rec at.asm name (property_run row) in

@@ -1,2 +1,4 @@
+pub mod Accessors
+pub mod Kinds
 pub mod Runs
 pub mod Mapped

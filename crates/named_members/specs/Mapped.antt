@@ -1,20 +1,20 @@
 -- Properties and events, whose runs stand in PropertyMap (II.22.35) and EventMap (II.22.12).
-use Rattle.std.specs.Prelude.{ℕ, ◌-◌, List, [], length, map, Option, slice_get, Bool}
+use Rattle.std.specs.Prelude.{ℕ, suc, ◌-◌, List, [], length, map, Option, slice_get, Bool}
 use Rattle.std.specs.List.{list_any, flat_map, filter, range_with_len}
 use Rattle.std.specs.Option.{option_map, option_map_or}
 use Rattle.world_model.specs.declared.members.PropertyRow.{PropertyRow}
 use Rattle.world_model.specs.declared.members.PropertyMapRow.{PropertyMapRow}
 use Rattle.world_model.specs.declared.members.EventRow.{EventRow}
 use Rattle.world_model.specs.declared.members.EventMapRow.{EventMapRow}
-use Rattle.world_model.specs.declared.types.TypeDefRow.{TypeDefRow}
 use Rattle.world_model.specs.declared.record.AsmRec.{AsmRec}
 use Rattle.world_model.specs.Core.{same_name}
+use Rattle.world_model.specs.Tokens.{token_of}
 use Rattle.link_rules.specs.declared.row_at.RowAt.{RowAt}
 use Rattle.link_rules.specs.Types.{at_row}
 use Rattle.link_rules.specs.Members.{run_of}
 use Rattle.link_rules.specs.Cycles.{listed}
 use Rattle.member_search.specs.declared.owners.Run.{Run}
-use Rattle.type_rules.specs.Searches.{property_places, event_places}
+use Rattle.type_rules.specs.Searches as searches
 use Rattle.type_tables.specs.declared.tables.RowTables.{RowTables}
 use Rattle.type_tables.specs.Groups.{rows_with}
 use Rattle.named_members.specs.declared.kinds.Mapped.{Mapped}
@@ -60,11 +60,11 @@ named_in_run m rec asm name run = named_from m rec asm name (run.first - 1) (run
 abbrev pub named_under : Mapped → AsmRec → ℕ → List ℕ → ℕ → List RowAt
 named_under m rec asm name k = option_map_or (named_in_run m rec asm name) (run_at m rec k) []
 
--- those of a type that its definition lists
-abbrev pub places_of : Mapped → AsmRec → TypeDefRow → ℕ → List ℕ
-places_of Property rec t k = property_places rec t k
-places_of Event rec t k = event_places rec t k
+-- those of a type, by its row from 0
+abbrev pub places_of : Mapped → AsmRec → ℕ → List ℕ
+places_of Property rec k = flat_map (searches.property_run rec (token_of 0x02 (suc k))) rec.property_map
+places_of Event rec k = flat_map (searches.event_run rec (token_of 0x02 (suc k))) rec.event_map
 
 -- those of a type that have a name
-abbrev pub named_places : Mapped → AsmRec → ℕ → List ℕ → TypeDefRow → ℕ → List RowAt
-named_places m rec asm name t k = map (at_row asm) (filter (has_name m rec name) (places_of m rec t k))
+abbrev pub named_places : Mapped → AsmRec → List ℕ → RowAt → List RowAt
+named_places m rec name at = map (at_row at.asm) (filter (has_name m rec name) (places_of m rec at.row))

@@ -2,6 +2,8 @@
 //! is what `type_rules/specs/Searches` lists.
 #![tactic(auto)]
 
+pub mod accessors;
 pub mod kinds;
 pub mod mapped;
+pub mod rows;
 pub mod runs;

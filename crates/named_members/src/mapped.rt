@@ -2,7 +2,6 @@
 
 ghost use Rattle.std.specs.Prelude.{◌≡◌, ℕ, ◌-◌, ◌++◌, ◌≤◌, slice_get, IfOk, OnOk};
 ghost use Rattle.std.specs.List.{flat_map};
-ghost use Rattle.world_model.specs.declared.types.TypeDefRow.{TypeDefRow};
 ghost use Rattle.type_tables.specs.Tables.{AreRowTables};
 ghost use Rattle.named_members.specs.Mapped.{count_in, map_rows, run_at, has_name, named_from, run_length, named_in_run, named_under, named_places};
 
@@ -141,7 +140,7 @@ pub fn named_places(
     name: &[u8],
 ) -> Result<Vec<RowAt>, NoMemory>
     requires { AreRowTables rec.now tables.now }
-    ensures { IfOk result (λ found. (t : TypeDefRow) → found.items ≡ named_places mapped rec.now at.asm name.now t at.row) }
+    ensures { IfOk result (λ found. found.items ≡ named_places mapped rec.now name.now at) }
 {
     let token = token_of(0x02, at.row as usize)?;
     let rows = map_rows(tables, mapped, token);
