@@ -1,10 +1,9 @@
 -- Members in the types that have them.
-use Rattle.std.specs.Prelude.{◌≡◌, ℕ, suc, ◌<◌, List, length, Option, None, slice_index_or}
-use Rattle.std.specs.List.{position_from}
+use Rattle.std.specs.Prelude.{ℕ, List, Option}
 use Rattle.std.specs.Option.{option_map}
 use Rattle.world_model.specs.declared.record.AsmRec.{AsmRec}
 use Rattle.link_rules.specs.Types.{at_row}
-use Rattle.link_rules.specs.Members.{Found, own_type, owns_method, owns_field}
+use Rattle.link_rules.specs.Members.{Found, own_type}
 use Rattle.member_links.specs.declared.definitions.Definitions.{Definitions}
 use Rattle.member_search.specs.Owners.{AreMethodOwners, AreFieldOwners}
 use Rattle.member_search.specs.Params.{AreParamCounts}

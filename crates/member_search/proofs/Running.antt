@@ -1,5 +1,5 @@
 -- The first member with a name and a signature in the run of a type, by the rows of the name.
-use Rattle.std.proofs.Common.{◌≡◌, ℕ, ◌+◌, ◌-◌, ◌<◌, ◌≤◌, List, length, take, drop, get_or, Bool, ◌&&◌, Option, Some, ap, ◌∙◌, arith, length-drop}
+use Rattle.std.proofs.Common.{◌≡◌, ℕ, ◌+◌, ◌-◌, ◌<◌, ◌≤◌, List, length, take, drop, get_or, Bool, ◌&&◌, ap, ◌∙◌, arith, length-drop}
 use Rattle.std.proofs.lemmas.List.{take_all}
 use Rattle.std.specs.Prelude.{slice_get}
 use Rattle.std.specs.List.Sorted.{IsNonDecreasing}
@@ -14,7 +14,7 @@ use Rattle.link_rules.specs.Members.{is_method_type, is_field_type}
 use Rattle.member_search.specs.declared.members.Wanted.{Wanted}
 use Rattle.member_search.specs.declared.members.Wanted.TheVariants.{Method, Field}
 use Rattle.member_search.specs.declared.names.Names.{Names}
-use Rattle.member_search.specs.Names.{places, first_fitting, is_method_named, is_field_named, AreNames}
+use Rattle.member_search.specs.Names.{first_fitting, is_method_named, is_field_named, AreNames}
 use Rattle.member_search.specs.Wanted.{allows, run_in, rows_named, fits_at, fits, member_in}
 use Rattle.member_search.proofs.Places.{places_in_order, run_by_places}
 

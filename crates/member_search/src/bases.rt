@@ -73,7 +73,7 @@ pub fn definition(all: &[AsmRec], ty: &TypeExpr) -> Result<Option<RowAt>, NoMemo
 }
 
 /// The base of a type definition, as its row names it.
-fn base_at<'a>(linked: &Linked<'a>, at: RowAt) -> Option<&'a TypeExpr>
+pub fn base_at<'a>(linked: &Linked<'a>, at: RowAt) -> Option<&'a TypeExpr>
     requires { IsLinked linked.now }
     ensures { option_copied result ≡ base_at linked.now.all.now at }
 {

@@ -87,11 +87,7 @@ pub fn own_type(
 /// A parent with its own parameters in place of its arguments, since a reference's signature speaks of them; System.Array
 /// for an array.
 #[tactic(auto, unfolding(link_rules::specs::Members::open_parent))]
-pub fn open_parent(
-    alloc: Global,
-    all: &[AsmRec],
-    parent: &TypeExpr,
-) -> Result<TypeExpr, NoMemory>
+pub fn open_parent(alloc: Global, all: &[AsmRec], parent: &TypeExpr) -> Result<TypeExpr, NoMemory>
     ensures { IfOk result (λ ty. ty ≡ open_parent all.now parent.now) }
 {
     match parent {

@@ -54,11 +54,7 @@ fn put_owner(owners: &mut [Option<u32>], run: Run, owner: u32)
 }
 
 /// The owner of each row of a table: the first type whose run it is in.
-pub fn owners_of(
-    alloc: Global,
-    runs: &[Run],
-    rows: usize,
-) -> Result<Vec<Option<u32>>, NoMemory>
+pub fn owners_of(alloc: Global, runs: &[Run], rows: usize) -> Result<Vec<Option<u32>>, NoMemory>
     ensures { IfOk result (λ owners. AreOwners runs.now rows owners.items) }
 {
     let mut owners = vec![in alloc; None; rows]?;

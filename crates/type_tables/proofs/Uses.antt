@@ -1,13 +1,12 @@
 -- A token that is neither MethodDef nor MemberRef names no method here.
-use Rattle.std.proofs.Common.{◌≡◌, ℕ, Bool, true, false, List, Option, Some, None, refl, sym, ap, ◌∙◌}
-use Rattle.std.specs.Prelude.{◌==◌, slice_get, if◌then◌else◌}
+use Rattle.std.proofs.Common.{◌≡◌, ℕ, Bool, true, false, List, Option, Some, None, refl}
+use Rattle.std.specs.Prelude.{◌==◌}
 use Rattle.std.specs.Option.{option_and_then}
 use Rattle.std.proofs.lemmas.Bool.{eqb-true}
 use Rattle.world_model.specs.declared.record.AsmRec.{AsmRec}
-use Rattle.world_model.specs.Tokens.{table_of, index_in}
+use Rattle.world_model.specs.Tokens.{table_of}
 use Rattle.link_rules.specs.Members.{generic_method}
 use Rattle.type_rules.specs.Dispatch.{good_use}
-use Rattle.type_tables.specs.Uses.{use_in}
 
 no_use : (recs : List AsmRec) (a : ℕ) (rec : AsmRec) (token : ℕ) → (table_of token == 0x06) ≡ false → (table_of token == 0x0a) ≡ false → good_use (generic_method recs a rec token) ≡ None
 unfolding generic_method

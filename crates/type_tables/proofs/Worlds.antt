@@ -1,5 +1,5 @@
 -- A world that a link gave has the links of all its type tokens.
-use Rattle.std.proofs.Common.{◌≡◌, List, refl, sym, subst}
+use Rattle.std.proofs.Common.{List, refl, sym, subst}
 use Rattle.world_model.specs.declared.record.AsmRec.{AsmRec}
 use Rattle.world_model.specs.declared.world.World.{World}
 use Rattle.link_rules.specs.Laws.{AreTypeLinks}

@@ -7,7 +7,6 @@ use Rattle.world_model.specs.declared.members.MethodImplRow.{MethodImplRow}
 use Rattle.world_model.specs.declared.members.PropertyMapRow.{PropertyMapRow}
 use Rattle.world_model.specs.declared.members.EventMapRow.{EventMapRow}
 use Rattle.world_model.specs.declared.members.MethodSemanticsRow.{MethodSemanticsRow}
-use Rattle.world_model.specs.declared.world.World.{World}
 use Rattle.link_rules.specs.Laws.{TellTokens, TellSignatures, TellMethods}
 use Rattle.link_rules.specs.Linked.{IsWorld}
 use Rattle.member_search.specs.Names.{AreNames}

@@ -26,12 +26,7 @@ fn take_rows(alloc: Global, rows: &mut HashMap<u32, Seq<u32>>, key: u32) -> Seq<
 }
 
 /// Puts a row at the end of those of a value.
-fn put(
-    alloc: Global,
-    rows: &mut HashMap<u32, Seq<u32>>,
-    key: u32,
-    row: u32,
-) -> Result<(), NoMemory>
+fn put(alloc: Global, rows: &mut HashMap<u32, Seq<u32>>, key: u32, row: u32) -> Result<(), NoMemory>
     ensures { OnOk result ((q : ℕ) → rows_of rows.new q ≡ (if nat_eq key q then rows_of rows.old q ++ row ∷ [] else rows_of rows.old q)) }
 {
     let mut of_key = take_rows(alloc, rows, key);

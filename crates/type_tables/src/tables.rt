@@ -9,10 +9,10 @@ ghost use Rattle.type_tables.specs.Tables.{interface_classes, impl_classes, prop
 
 use crate::groups::Groups;
 use il_base::NoMemory;
+use link_laws::laws::links_tell;
 use member_search::linked::{Linked, Scope, assembly_at};
 use member_search::names::{Names, names_of};
 use member_search::owners::method_owners;
-use link_laws::laws::links_tell;
 use std::alloc::Global;
 use type_laws::laws::uses_told;
 use world_model::{AsmRec, World};

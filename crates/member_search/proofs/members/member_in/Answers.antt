@@ -1,4 +1,4 @@
-use Rattle.std.proofs.Common.{◌≡◌, ◌-◌, subst, ◌∙◌}
+use Rattle.std.proofs.Common.{◌-◌, ◌∙◌}
 use Rattle.member_search.specs.Wanted.{run_in, rows_named}
 use Rattle.member_search.proofs.Running.{GoesOver, all_behind, rows_in_order, member_found}
 use Rattle.member_search.proofs.members.member_in.Goals as goal

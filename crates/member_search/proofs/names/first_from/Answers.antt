@@ -1,4 +1,3 @@
-use Rattle.member_search.proofs.Places.{places_in_order}
 use Rattle.std.proofs.Common.{ltb, ltb-true, arith, rules}
 use Rattle.std.proofs.lemmas.Bool.{ltb-false}
 use Rattle.std.proofs.lemmas.List.Sorted.{IsPartitionPoint-from_clause, IsPartitionedBy-ltb}

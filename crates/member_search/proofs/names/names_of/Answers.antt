@@ -1,4 +1,3 @@
-use Rattle.std.proofs.Common.{arith}
 use Rattle.member_search.specs.Names.{AreNames}
 use Rattle.member_search.proofs.Zips.{zip_more}
 use Rattle.member_search.proofs.names.names_of.Goals as goal

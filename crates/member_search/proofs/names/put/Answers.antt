@@ -1,4 +1,3 @@
-use Rattle.std.proofs.Common.{◌++◌, ◌∷◌, []}
 use Rattle.std.proofs.lemmas.Map.Text.{hash_map_updates_str}
 use Rattle.member_search.proofs.NameRows.{put_rows}
 use Rattle.member_search.proofs.names.put.Goals as goal

@@ -1,4 +1,3 @@
-use Rattle.std.proofs.Common.{arith}
 use Rattle.member_search.proofs.Zips.{zip_more}
 use Rattle.type_tables.specs.Tables.{AreRowTables}
 use Rattle.type_tables.proofs.tables.rows_of.Goals as goal

@@ -1,8 +1,7 @@
-use Rattle.std.proofs.Common.{◌≡◌, List, length, get_or, Some, refl, sym, ap, subst, ◌∙◌}
+use Rattle.std.proofs.Common.{◌≡◌, Some, refl, sym, ap, subst, ◌∙◌}
 use Rattle.std.specs.Prelude.{slice_get}
 use Rattle.std.specs.List.{AllZip}
 use Rattle.member_search.proofs.Zips.{zip_as_long, zip_at}
-use Rattle.world_model.specs.declared.record.AsmRec.{AsmRec}
 use Rattle.type_tables.specs.declared.tables.RowTables.{RowTables}
 use Rattle.type_tables.specs.Tables.{AreRowTables}
 use Rattle.type_tables.proofs.tables.Tables.rows_at.Goals as goal
@@ -22,6 +21,6 @@ returns-clause-are c =
       scope = record { linked = c.linked-linked.ensures.is; here = sym c.in_ok-rec.ensures };
       all = c.linked-linked.ensures.all;
       asm = refl;
-        tables = subst (λ (t : RowTables). AreRowTables c.in_ok-rec.rec.now t) (sym c.index-made-asm.is)
-      (zip_at AreRowTables c.args.self.now.world.now.recs c.as_slice-made.result.now all c.args.asm c.in_ok-rec.rec.now c.index-made-asm.result there);
+      tables = subst (λ (t : RowTables). AreRowTables c.in_ok-rec.rec.now t) (sym c.index-made-asm.is)
+          (zip_at AreRowTables c.args.self.now.world.now.recs c.as_slice-made.result.now all c.args.asm c.in_ok-rec.rec.now c.index-made-asm.result there);
     }

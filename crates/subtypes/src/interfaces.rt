@@ -1,0 +1,141 @@
+//! The interfaces that the rows of a type name (II.22.23).
+
+ghost use Rattle.std.specs.Prelude.{◌≡◌, ◌++◌, ◌∷◌, [], slice_get, IfOk, OnOk};
+ghost use Rattle.std.specs.Option.{option_map_or};
+ghost use Rattle.link_rules.specs.Types.{at_row};
+ghost use Rattle.link_rules.specs.Cycles.{interfaces_in, interfaces_at};
+ghost use Rattle.type_rules.specs.Subtypes.{is_named, interfaces_of};
+ghost use Rattle.member_search.specs.Linked.{IsScope};
+ghost use Rattle.type_tables.specs.Tables.{AreRowTables, IsTables};
+ghost use Rattle.subtypes.specs.Named.{named_by, row_interface};
+
+use il_base::NoMemory;
+use link_rules::RowAt;
+use member_search::bases::{args_of, definition};
+use member_search::linked::Scope;
+use member_search::params::token_of;
+use std::alloc::Global;
+use type_tables::tables::{Rows, Tables};
+use world_model::TypeExpr;
+
+/// Whether this is a class or an interface, alone or with arguments: what a base or an interface can be.
+#[tactic(auto, unfolding(type_rules::specs::Subtypes::is_named))]
+fn is_named(ty: &TypeExpr) -> bool
+    ensures { result ≡ is_named ty.now }
+{
+    match ty {
+        TypeExpr::Prim(_) => true,
+        TypeExpr::Def(_) => true,
+        TypeExpr::Inst(_, _) => true,
+        TypeExpr::Array(_) => false,
+        TypeExpr::ByRef(_) => false,
+        TypeExpr::Var(_) => false,
+        TypeExpr::MVar(_) => false,
+        TypeExpr::Mod { .. } => false,
+    }
+}
+
+/// Puts such a type at the end, with these arguments put in; any other adds nothing.
+pub(crate) fn add_named(
+    alloc: Global,
+    args: &[TypeExpr],
+    ty: &TypeExpr,
+    found: &mut Vec<TypeExpr>,
+) -> Result<(), NoMemory>
+    ensures { OnOk result (found.new.items ≡ found.old.items ++ named_by args.now (ty.now ∷ [])) }
+{
+    if is_named(ty) {
+        let made = ty.subst(alloc, args, &[])?;
+        found.push(made)?;
+    }
+    Ok(())
+}
+
+/// Puts the interface that a row, from 0, names at the end, with these arguments put in.
+fn add_interface(
+    alloc: Global,
+    scope: &Scope<'_>,
+    args: &[TypeExpr],
+    row: u32,
+    found: &mut Vec<TypeExpr>,
+) -> Result<(), NoMemory>
+    requires { IsScope scope.now }
+    ensures { OnOk result (found.new.items ≡ found.old.items ++ option_map_or (row_interface scope.now.linked.all.now scope.now.asm scope.now.rec.now args.now) (slice_get scope.now.rec.now.interface_impl row) []) }
+{
+    let Some(row) = scope.rec.interface_impl.get(row as usize) else {
+        return Ok(());
+    };
+    match scope.token_type(row.interface) {
+        Ok(ty) => add_named(alloc, args, ty, found),
+        Err(_) => Ok(()),
+    }
+}
+
+/// Puts the interfaces of a type definition, by its row from 0, at the end, with these arguments put in.
+fn add_row_interfaces(
+    alloc: Global,
+    rows: &Rows<'_>,
+    args: &[TypeExpr],
+    row: u32,
+    found: &mut Vec<TypeExpr>,
+) -> Result<(), NoMemory>
+    requires scope { IsScope rows.now.scope }
+    requires tables { AreRowTables rows.now.scope.rec.now rows.now.tables.now }
+    ensures { OnOk result (found.new.items ≡ found.old.items ++ named_by args.now (interfaces_in rows.now.scope.linked.all.now (at_row rows.now.scope.asm row) rows.now.scope.rec.now)) }
+{
+    let token = token_of(0x02, row as usize)?;
+    for k in rows.tables.interfaces.rows_with(token) {
+        add_interface(alloc, &rows.scope, args, *k, found)?;
+    }
+    Ok(())
+}
+
+/// Puts the interfaces that the rows of a type definition name at the end, in order, with these arguments put in.
+#[tactic(auto, unfolding(link_rules::specs::Cycles::interfaces_at))]
+pub(crate) fn add_interfaces(
+    alloc: Global,
+    tables: &Tables<'_>,
+    args: &[TypeExpr],
+    at: RowAt,
+    found: &mut Vec<TypeExpr>,
+) -> Result<(), NoMemory>
+    requires { IsTables tables.now }
+    ensures { OnOk result (found.new.items ≡ found.old.items ++ named_by args.now (interfaces_at tables.now.world.now.recs at)) }
+{
+    match tables.rows_at(at.asm) {
+        Some(rows) => add_row_interfaces(alloc, &rows, args, at.row, found),
+        None => Ok(()),
+    }
+}
+
+/// Puts the interfaces that the rows of a type name at the end, in order, with the type's arguments put in.
+#[tactic(auto, unfolding(type_rules::specs::Subtypes::interfaces_of))]
+pub(crate) fn add_interfaces_of(
+    alloc: Global,
+    tables: &Tables<'_>,
+    ty: &TypeExpr,
+    found: &mut Vec<TypeExpr>,
+) -> Result<(), NoMemory>
+    requires { IsTables tables.now }
+    ensures { OnOk result (found.new.items ≡ found.old.items ++ interfaces_of tables.now.world.now.recs ty.now) }
+{
+    match definition(tables.world.recs.as_slice(), ty) {
+        Ok(Some(at)) => add_interfaces(alloc, tables, args_of(ty), at, found),
+        Ok(None) => Ok(()),
+        Err(error) => Err(error),
+    }
+}
+
+/// The interfaces that the rows of a type name, in order, with the type's arguments put in.
+pub fn interfaces_of(
+    alloc: Global,
+    tables: &Tables<'_>,
+    ty: &TypeExpr,
+) -> Result<Vec<TypeExpr>, NoMemory>
+    requires { IsTables tables.now }
+    ensures { IfOk result (λ found. found.items ≡ interfaces_of tables.now.world.now.recs ty.now) }
+{
+    let mut found = Vec::new(alloc);
+    add_interfaces_of(alloc, tables, ty, &mut found)?;
+    Ok(found)
+}

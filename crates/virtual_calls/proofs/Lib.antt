@@ -1,0 +1,5 @@
+pub mod Impling
+pub mod Matching
+pub mod Running
+pub mod Walking
+pub mod Slotting

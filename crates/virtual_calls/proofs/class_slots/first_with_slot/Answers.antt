@@ -1,0 +1,13 @@
+use Rattle.std.proofs.Common.{ℕ, None, sym}
+use Rattle.std.specs.List.{range_with_len}
+use Rattle.link_rules.specs.Types.{at_row}
+use Rattle.type_rules.specs.Slots.{has_slot}
+use Rattle.type_rules.specs.Dispatch.{place_that}
+use Rattle.virtual_calls.proofs.Running.{place_next}
+use Rattle.virtual_calls.proofs.class_slots.first_with_slot.Goals as goal
+
+pub loop-i-preserved : goal.loop-i-preserved
+loop-i-preserved c =
+    let test = λ (j : ℕ). has_slot c.args.tables.now.world.now.recs c.args.slot (at_row c.args.asm j) in
+    place_next test c.args.start c.args.count c.loop-i.i c.in_ok-row.row (place_that test (range_with_len c.args.start c.args.count)) c.loop-i-test.true c.in_ok-row.ensures
+    (sym c.if-has_slot.ensures) c.loop-i.invariant

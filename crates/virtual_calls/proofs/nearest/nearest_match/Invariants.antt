@@ -1,0 +1,10 @@
+use Rattle.std.proofs.Common.{◌≡◌, ◌-◌}
+use Rattle.link_rules.specs.Members.{bases_from}
+use Rattle.member_search.specs.Wanted.{look_for}
+use Rattle.type_rules.specs.Slots.{nearest}
+use Rattle.virtual_calls.proofs.nearest.nearest_match.Given as goal
+
+abbrev pub invariant-loop : goal.invariant-loop
+invariant-loop l =
+    nearest (look_for l.tables.world.now.recs l.name l.wanted) (bases_from l.tables.world.now.recs (l.count - l.counter) l.ty)
+    ≡ nearest (look_for l.tables.world.now.recs l.name l.wanted) (bases_from l.tables.world.now.recs l.count l.fn.start)

@@ -1,0 +1,9 @@
+//! Which method a virtual call runs: the slot of a method, and what a type has for a class slot or for a slot of an
+//! interface instance. A method's id and types go in, a method's id comes out, as `dispatch` of `type_rules` has it.
+#![tactic(auto)]
+
+pub mod class_slots;
+mod flags;
+mod impls;
+mod nearest;
+pub mod slots;
