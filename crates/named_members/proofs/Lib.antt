@@ -1,4 +1,5 @@
 pub mod AccessorRows
+pub mod ImplRows
 pub mod KindRows
 pub mod Lists
 pub mod MapRows

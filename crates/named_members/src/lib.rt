@@ -3,7 +3,12 @@
 #![tactic(auto)]
 
 pub mod accessors;
+pub mod counts;
+pub mod impls;
 pub mod kinds;
 pub mod mapped;
+pub mod members;
+pub mod named;
+pub mod overrides;
 pub mod rows;
 pub mod runs;

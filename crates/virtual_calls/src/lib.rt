@@ -4,6 +4,6 @@
 
 pub mod class_slots;
 mod flags;
-mod impls;
-mod nearest;
+pub mod impls;
+pub mod nearest;
 pub mod slots;
