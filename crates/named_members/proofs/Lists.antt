@@ -22,4 +22,3 @@ module _ {A B : Type 0} (f : A → B) (p : A → Bool) where
 pub flat_agree : {X B : Type 0} (f g : X → List B) → ((x : X) → f x ≡ g x) → (xs : List X) → flat_map f xs ≡ flat_map g xs
 flat_agree f g h [] = refl
 flat_agree f g h (x ∷ xs) = rw (h x, flat_agree f g h xs) refl
-

@@ -1,6 +1,5 @@
 -- The accessors of a property or an event (II.22.28).
 use Rattle.std.specs.Prelude.{ℕ, List, [], slice_get}
-use Rattle.std.specs.List.{flat_map}
 use Rattle.std.specs.Option.{option_map, option_map_or}
 use Rattle.world_model.specs.declared.members.MethodSemanticsRow.{MethodSemanticsRow}
 use Rattle.world_model.specs.declared.record.AsmRec.{AsmRec}

@@ -1,5 +1,5 @@
 -- Which members count: public ones of a type itself, public ones of instances of its bases.
-use Rattle.std.specs.Prelude.{ℕ, ◌%◌, ◌/◌, List, ◌==◌, ◌&&◌, ◌||◌, Bool, not}
+use Rattle.std.specs.Prelude.{◌%◌, ◌/◌, List, ◌==◌, ◌&&◌, ◌||◌, Bool, not}
 use Rattle.world_model.specs.declared.members.FieldRow.{FieldRow}
 use Rattle.world_model.specs.declared.members.MethodDefRow.{MethodDefRow}
 use Rattle.world_model.specs.declared.record.AsmRec.{AsmRec}

@@ -1,5 +1,5 @@
 -- Members by name, all kinds alike.
-use Rattle.std.specs.Prelude.{ℕ, ◌%◌, ◌/◌, List, [], ◌∷◌, ◌++◌, map, slice_get, ◌==◌, ◌&&◌, Bool, true, false, not}
+use Rattle.std.specs.Prelude.{ℕ, List, map, slice_get, Bool}
 use Rattle.std.specs.List.{list_any, flat_map, filter}
 use Rattle.world_model.specs.declared.expr.TypeExpr.{TypeExpr}
 use Rattle.world_model.specs.declared.types.TypeDefRow.{TypeDefRow}
@@ -10,8 +10,7 @@ use Rattle.world_model.specs.Core.{same_name}
 use Rattle.link_rules.specs.declared.row_at.RowAt.{RowAt}
 use Rattle.link_rules.specs.Types.{at_row}
 use Rattle.link_rules.specs.Cycles.{listed}
-use Rattle.type_rules.specs.Slots.{is_public, is_static}
-use Rattle.type_rules.specs.Searches.{rows_of, field_places, method_places, property_places, event_places, field_test, method_test, accessor_test, is_constructor, is_property_named, is_event_named, is_public_accessor, is_instance_accessor}
+use Rattle.type_rules.specs.Searches.{rows_of, field_places, method_places, property_places, event_places, field_test, method_test, is_property_named, is_event_named}
 use Rattle.named_members.specs.declared.kinds.Kind.{Kind}
 use Rattle.named_members.specs.declared.kinds.Kind.TheVariants.{Field, Method, Property, Event}
 use Rattle.named_members.specs.declared.kinds.Mapped.TheVariants as mapped

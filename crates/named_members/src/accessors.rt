@@ -40,7 +40,12 @@ fn add_method(rec: &AsmRec, asm: u32, k: u32, found: &mut Vec<RowAt>) -> Result<
 }
 
 /// The methods that these rows, from 0, of MethodSemantics name, in order.
-fn methods_under(alloc: Global, rec: &AsmRec, asm: u32, rows: &[u32]) -> Result<Vec<RowAt>, NoMemory>
+fn methods_under(
+    alloc: Global,
+    rec: &AsmRec,
+    asm: u32,
+    rows: &[u32],
+) -> Result<Vec<RowAt>, NoMemory>
     ensures { IfOk result (λ found. found.items ≡ flat_map (method_under rec.now asm) rows.now) }
 {
     let mut found = Vec::new(alloc);

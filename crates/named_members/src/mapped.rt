@@ -62,11 +62,11 @@ pub fn has_name(rec: &AsmRec, mapped: Mapped, name: &[u8], k: u32) -> bool
 {
     match mapped {
         Mapped::Property => match rec.property.get(k as usize) {
-            Some(row) => row.name.as_slice() == name,
+            Some(property) => property.name.as_slice() == name,
             None => false,
         },
         Mapped::Event => match rec.event.get(k as usize) {
-            Some(row) => row.name.as_slice() == name,
+            Some(event) => event.name.as_slice() == name,
             None => false,
         },
     }

@@ -21,7 +21,11 @@ use virtual_calls::slots::Slots;
 use world_model::{AsmRec, TypeExpr};
 
 /// A type and its bases, the nearest first.
-fn with_bases(alloc: Global, tables: &Tables<'_>, start: TypeExpr) -> Result<Vec<TypeExpr>, NoMemory>
+fn with_bases(
+    alloc: Global,
+    tables: &Tables<'_>,
+    start: TypeExpr,
+) -> Result<Vec<TypeExpr>, NoMemory>
     requires { IsTables tables.now }
     ensures { IfOk result (λ types. types.items ≡ with_bases tables.now.world.now.recs start) }
 {
@@ -86,7 +90,12 @@ fn id_of(all: &[AsmRec], kind: Kind, at: RowAt) -> Result<Item, NoMemory>
 }
 
 /// Puts the ids of members behind others.
-fn add_ids(all: &[AsmRec], kind: Kind, rows: &[RowAt], items: &mut Seq<Item>) -> Result<(), NoMemory>
+fn add_ids(
+    all: &[AsmRec],
+    kind: Kind,
+    rows: &[RowAt],
+    items: &mut Seq<Item>,
+) -> Result<(), NoMemory>
     ensures { OnOk result (items.new ≡ items.old ++ map (id_of all.now kind) rows.now) }
 {
     for at in rows {
@@ -129,7 +138,15 @@ fn members_along(
     let mut items = Seq::new(alloc);
     add_named(alloc, tables, slots, types, Kind::Field, name, &mut items)?;
     add_named(alloc, tables, slots, types, Kind::Method, name, &mut items)?;
-    add_named(alloc, tables, slots, types, Kind::Property, name, &mut items)?;
+    add_named(
+        alloc,
+        tables,
+        slots,
+        types,
+        Kind::Property,
+        name,
+        &mut items,
+    )?;
     add_named(alloc, tables, slots, types, Kind::Event, name, &mut items)?;
     Ok(items)
 }

@@ -84,7 +84,16 @@ fn of_type(
     ensures { IfOk result (λ more. more.items ≡ kept tables.now.world.now.recs types.now kind inherited found.now (named_rows tables.now.world.now.recs name.now kind ty.now)) }
 {
     let rows = named_rows(alloc, tables, kind, name, ty)?;
-    kept(alloc, tables, slots, types, kind, inherited, found, rows.as_slice())
+    kept(
+        alloc,
+        tables,
+        slots,
+        types,
+        kind,
+        inherited,
+        found,
+        rows.as_slice(),
+    )
 }
 
 /// Those found, and those of more bases.
@@ -104,7 +113,17 @@ fn gather(
 {
     let mut found = own;
     for base in bases {
-        let more = of_type(alloc, tables, slots, types, kind, name, true, found.as_slice(), base)?;
+        let more = of_type(
+            alloc,
+            tables,
+            slots,
+            types,
+            kind,
+            name,
+            true,
+            found.as_slice(),
+            base,
+        )?;
         found.extend_from_slice(more.as_slice())?;
     }
     Ok(found)

@@ -124,7 +124,14 @@ fn accessors_override(
 {
     let methods = accessors(alloc, tables, mapped, x)?;
     let others = accessors(alloc, tables, mapped, y)?;
-    any_overrides(alloc, tables, slots, types, methods.as_slice(), others.as_slice())
+    any_overrides(
+        alloc,
+        tables,
+        slots,
+        types,
+        methods.as_slice(),
+        others.as_slice(),
+    )
 }
 
 /// Whether a member found before hides another of its kind; a field hides none.

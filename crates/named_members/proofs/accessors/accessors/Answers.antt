@@ -1,5 +1,4 @@
 use Rattle.std.proofs.Common.{sym, ◌∙◌}
-use Rattle.std.specs.Option.{option_map}
 use Rattle.named_members.proofs.AccessorRows.{accessors_found}
 use Rattle.named_members.specs.Accessors.{table_of}
 use Rattle.named_members.proofs.accessors.accessors.Goals as goal
