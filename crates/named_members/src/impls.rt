@@ -61,11 +61,16 @@ fn names_body(
     ensures { IfOk result (λ is. is ≡ names_body tables.now.world.now.recs ty.now body named.now) }
 {
     match method_home(tables.world.recs.as_slice(), named.method) {
-        Ok(Some(at)) => match body_at(alloc, tables, ty, at) {
-            Ok(Some(found)) => Ok(same_row(body, found)),
-            Ok(None) => Ok(false),
-            Err(error) => Err(error),
-        },
+        Ok(Some(at)) => {
+            if !same_row(body, at) {
+                return Ok(false);
+            }
+            match body_at(alloc, tables, ty, at) {
+                Ok(Some(found)) => Ok(same_row(body, found)),
+                Ok(None) => Ok(false),
+                Err(error) => Err(error),
+            }
+        }
         Ok(None) => Ok(false),
         Err(error) => Err(error),
     }
