@@ -11,6 +11,8 @@ pub enum Counted {
     Types,
     Methods,
     Fields,
+    Properties,
+    Events,
 }
 
 /// How many rows an assembly has in the table.
@@ -21,6 +23,8 @@ pub fn count_in(rec: &AsmRec, counted: Counted) -> usize
         Counted::Types => rec.type_def.len(),
         Counted::Methods => rec.method_def.len(),
         Counted::Fields => rec.field.len(),
+        Counted::Properties => rec.property.len(),
+        Counted::Events => rec.event.len(),
     }
 }
 

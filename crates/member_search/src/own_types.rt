@@ -51,7 +51,7 @@ fn id_of(all: &[AsmRec], at: RowAt) -> Result<TypeId, NoMemory>
 
 /// A type definition as a type. A primitive of the core library is its element type.
 #[tactic(auto, unfolding(link_rules::specs::Signatures::definition_expr))]
-fn definition_expr(all: &[AsmRec], at: RowAt) -> Result<TypeExpr, NoMemory>
+pub fn definition_expr(all: &[AsmRec], at: RowAt) -> Result<TypeExpr, NoMemory>
     ensures { IfOk result (λ ty. ty ≡ definition_expr all.now at) }
 {
     match prim_at(all, at) {

@@ -36,7 +36,7 @@ pub enum Declares<'a> {
     },
 }
 
-fn same_row(x: RowAt, y: RowAt) -> bool
+pub fn same_row(x: RowAt, y: RowAt) -> bool
     ensures { result ≡ same_row x y }
 {
     x.asm == y.asm && x.row == y.row
@@ -54,7 +54,7 @@ pub fn has_slot(tables: &Tables<'_>, slots: &Slots, slot: RowAt, at: RowAt) -> b
 }
 
 /// Whether a declaration has this slot.
-fn declares_slot(
+pub fn declares_slot(
     tables: &Tables<'_>,
     slots: &Slots,
     slot: RowAt,
@@ -175,7 +175,7 @@ fn is_body(alloc: Global, tables: &Tables<'_>, ty: &TypeExpr, at: RowAt) -> Resu
     have_method(alloc, tables, start, at)
 }
 
-fn body_at(
+pub fn body_at(
     alloc: Global,
     tables: &Tables<'_>,
     ty: &TypeExpr,

@@ -5,7 +5,7 @@
 pub mod class_slots;
 pub mod dispatch;
 mod flags;
-mod impls;
+pub mod impls;
 pub mod interface_slots;
-mod nearest;
+pub mod nearest;
 pub mod slots;

@@ -1,0 +1,28 @@
+-- Which members count: public ones of a type itself, public ones of instances of its bases.
+use Rattle.std.specs.Prelude.{◌%◌, ◌/◌, List, ◌==◌, ◌&&◌, ◌||◌, Bool, not}
+use Rattle.world_model.specs.declared.members.FieldRow.{FieldRow}
+use Rattle.world_model.specs.declared.members.MethodDefRow.{MethodDefRow}
+use Rattle.world_model.specs.declared.record.AsmRec.{AsmRec}
+use Rattle.link_rules.specs.declared.row_at.RowAt.{RowAt}
+use Rattle.type_rules.specs.Slots.{is_public, is_static}
+use Rattle.type_rules.specs.Searches.{field_test, method_test, accessor_test, is_constructor, is_public_accessor, is_instance_accessor}
+use Rattle.named_members.specs.declared.kinds.Kind.{Kind}
+use Rattle.named_members.specs.declared.kinds.Kind.TheVariants.{Field, Method, Property, Event}
+use Rattle.named_members.specs.declared.kinds.Mapped.{Mapped}
+use Rattle.named_members.specs.declared.kinds.Mapped.TheVariants as mapped
+use Rattle.named_members.specs.Accessors.{table_of}
+
+abbrev pub passes_field : Bool → FieldRow → Bool
+passes_field inherited f = f.flags % 8 == 6 && (not inherited || f.flags / 0x10 % 2 == 0)
+
+abbrev pub passes_method : Bool → MethodDefRow → Bool
+passes_method inherited m = is_public m && not (is_constructor m) && (not inherited || not (is_static m))
+
+abbrev pub mapped_counts : List AsmRec → Mapped → Bool → RowAt → Bool
+mapped_counts recs m inherited at = accessor_test recs (table_of m) is_public_accessor at && (not inherited || accessor_test recs (table_of m) is_instance_accessor at)
+
+abbrev pub counts : List AsmRec → Kind → Bool → RowAt → Bool
+counts recs Field inherited at = field_test recs (passes_field inherited) at
+counts recs Method inherited at = method_test recs (passes_method inherited) at
+counts recs Property inherited at = mapped_counts recs mapped.Property inherited at
+counts recs Event inherited at = mapped_counts recs mapped.Event inherited at

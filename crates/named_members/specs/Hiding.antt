@@ -1,0 +1,19 @@
+-- Which members hide others.
+use Rattle.std.specs.Prelude.{List, Bool, false}
+use Rattle.std.specs.List.{list_any}
+use Rattle.world_model.specs.declared.expr.TypeExpr.{TypeExpr}
+use Rattle.world_model.specs.declared.record.AsmRec.{AsmRec}
+use Rattle.link_rules.specs.declared.row_at.RowAt.{RowAt}
+use Rattle.type_rules.specs.Searches.{overrides, accessors_override}
+use Rattle.named_members.specs.declared.kinds.Kind.{Kind}
+use Rattle.named_members.specs.declared.kinds.Kind.TheVariants.{Field, Method, Property, Event}
+
+-- whether one of some methods overrides one of others
+abbrev pub any_overrides : List AsmRec → List TypeExpr → List RowAt → List RowAt → Bool
+any_overrides recs es others methods = list_any (λ m. list_any (overrides recs es m) others) methods
+
+abbrev pub hides : List AsmRec → List TypeExpr → Kind → RowAt → RowAt → Bool
+hides recs es Field x y = false
+hides recs es Method x y = overrides recs es x y
+hides recs es Property x y = accessors_override recs es 0x17 x y
+hides recs es Event x y = accessors_override recs es 0x14 x y

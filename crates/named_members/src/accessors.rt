@@ -1,0 +1,107 @@
+//! The accessors of properties and events, by the rows of MethodSemantics that belong to them.
+
+ghost use Rattle.std.specs.Prelude.{◌≡◌, ◌++◌, IfOk, OnOk, option_to_list};
+ghost use Rattle.std.specs.List.{flat_map, list_any};
+ghost use Rattle.type_rules.specs.Searches.{accessors, method_test, is_public_accessor, is_instance_accessor};
+ghost use Rattle.type_tables.specs.Tables.{IsTables};
+ghost use Rattle.named_members.specs.Accessors.{table_of, method_under};
+
+use crate::kinds::Mapped;
+use il_base::NoMemory;
+use link_rules::RowAt;
+use member_search::params::token_of;
+use std::alloc::Global;
+use type_tables::methods::method_row_at;
+use type_tables::tables::Tables;
+use world_model::{AsmRec, index_in};
+
+/// The table of such rows (II.22).
+fn table_of(mapped: Mapped) -> u8
+    ensures { result ≡ table_of mapped }
+{
+    match mapped {
+        Mapped::Property => 0x17,
+        Mapped::Event => 0x14,
+    }
+}
+
+/// Puts the method that a row, from 0, of MethodSemantics names behind those found.
+fn add_method(rec: &AsmRec, asm: u32, k: u32, found: &mut Vec<RowAt>) -> Result<(), NoMemory>
+    ensures { OnOk result (found.new.items ≡ found.old.items ++ method_under rec.now asm k) }
+{
+    let Some(semantics) = rec.method_semantics.get(k as usize) else {
+        return Ok(());
+    };
+    let Some(row) = index_in(0x06, semantics.method) else {
+        return Ok(());
+    };
+    found.push(RowAt { asm, row })?;
+    Ok(())
+}
+
+/// The methods that these rows, from 0, of MethodSemantics name, in order.
+fn methods_under(
+    alloc: Global,
+    rec: &AsmRec,
+    asm: u32,
+    rows: &[u32],
+) -> Result<Vec<RowAt>, NoMemory>
+    ensures { IfOk result (λ found. found.items ≡ flat_map (method_under rec.now asm) rows.now) }
+{
+    let mut found = Vec::new(alloc);
+    for k in rows {
+        add_method(rec, asm, *k, &mut found)?;
+    }
+    Ok(found)
+}
+
+/// The accessors of a property or an event.
+pub fn accessors(
+    alloc: Global,
+    tables: &Tables<'_>,
+    mapped: Mapped,
+    at: RowAt,
+) -> Result<Vec<RowAt>, NoMemory>
+    requires { IsTables tables.now }
+    ensures { IfOk result (λ found. found.items ≡ accessors tables.now.world.now.recs (table_of mapped) at) }
+{
+    let Some(rows) = tables.rows_at(at.asm) else {
+        return Ok(Vec::new(alloc));
+    };
+    let token = token_of(table_of(mapped), at.row as usize)?;
+    let semantics = rows.tables.semantics.rows_with(token);
+    let found = methods_under(alloc, rows.scope.rec, at.asm, semantics)?;
+    Ok(found)
+}
+
+fn is_public_at(all: &[AsmRec], at: RowAt) -> bool
+    ensures { result ≡ method_test all.now is_public_accessor at }
+{
+    match method_row_at(all, at) {
+        Some(row) => row.flags % 8 == 6,
+        None => false,
+    }
+}
+
+fn is_instance_at(all: &[AsmRec], at: RowAt) -> bool
+    ensures { result ≡ method_test all.now is_instance_accessor at }
+{
+    match method_row_at(all, at) {
+        Some(row) => row.flags / 0x10 % 2 != 1,
+        None => false,
+    }
+}
+
+/// Whether one of these methods is public.
+pub fn any_public(all: &[AsmRec], methods: &[RowAt]) -> bool
+    ensures { result ≡ list_any (method_test all.now is_public_accessor) methods.now }
+{
+    methods.iter().any(|at| is_public_at(all, *at))
+}
+
+/// Whether one of these methods is of instances.
+pub fn any_instance(all: &[AsmRec], methods: &[RowAt]) -> bool
+    ensures { result ≡ list_any (method_test all.now is_instance_accessor) methods.now }
+{
+    methods.iter().any(|at| is_instance_at(all, *at))
+}
