@@ -8,10 +8,11 @@ ghost use Rattle.type_rules.specs.Subtypes.{IsSubtype, is_subtype};
 ghost use Rattle.type_rules.specs.Dispatch.{dispatch};
 ghost use Rattle.type_rules.specs.Texts.{text};
 ghost use Rattle.type_tables.specs.Tables.{IsTables};
-ghost use Rattle.type_rules.specs.Searches.{find_type};
+ghost use Rattle.type_rules.specs.Searches.{find_type, members_named};
 
 use attr_blobs::TypeName;
-use il_base::{AsmId, MethodId, NoMemory, Seq, Text, TypeId};
+use il_base::{AsmId, Item, MethodId, NoMemory, Seq, Text, TypeId};
+use named_members::members::members_named;
 use std::alloc::Global;
 use std::marker::Model;
 use subtypes::relation::is_subtype;
@@ -118,6 +119,15 @@ impl<'w> Types<'w> {
         ensures { IfOk result (λ made. made ≡ subst targs.now margs.now e.now) }
     {
         e.subst(alloc, targs.as_slice(), margs.as_slice())
+    }
+
+    /// The public members of a type that have a name, as reflection finds them: fields, then methods, properties and events,
+    /// each kind in the order of its rows, those of the type before the public instance members of each base. A method,
+    /// property or event that one before it overrides is left out.
+    pub fn members_named(&self, alloc: Global, t: TypeId, name: &[u8]) -> Result<Seq<Item>, NoMemory>
+        ensures { IfOk result (λ items. items ≡ members_named self.now.recs t name.now) }
+    {
+        members_named(alloc, &self.tables, &self.slots, t, name)
     }
 
     /// The type that a name is of: without an assembly's name it is looked for in the assembly that asks and then in the

@@ -83,21 +83,25 @@ fn fill_user(rec: &mut AsmRec, alloc: Global) -> Result<(), NoMemory> {
     mention(rec, alloc, 0x2300_0002, b"", b"T")
 }
 
-/// `App`, `A` and `B`, where `A` forwards `T` to `B` and `B` to a third.
-fn push_forwarding(
-    alloc: Global,
-    recs: &mut Seq<AsmRec>,
-    back_to: &[u8],
-) -> Result<(), NoMemory> {
-    let mut app = no_rows(alloc);
-    fill_user(&mut app, alloc)?;
-    let mut a = no_rows(alloc);
-    fill_forwarding(&mut a, alloc, b"A", b"B")?;
-    let mut b = no_rows(alloc);
-    fill_forwarding(&mut b, alloc, b"B", back_to)?;
-    recs.push(app)?;
-    recs.push(a)?;
-    recs.push(b)
+/// An assembly with a reference to the type `T` of `A`, and nothing else.
+fn user(alloc: Global) -> Result<AsmRec, NoMemory> {
+    let mut rec = no_rows(alloc);
+    fill_user(&mut rec, alloc)?;
+    Ok(rec)
+}
+
+/// An assembly that forwards the type `T` to another, and has nothing else.
+fn forwarding(alloc: Global, own: &[u8], to: &[u8]) -> Result<AsmRec, NoMemory> {
+    let mut rec = no_rows(alloc);
+    fill_forwarding(&mut rec, alloc, own, to)?;
+    Ok(rec)
+}
+
+/// `App`, `A` and `B`, where `A` forwards `T` to `B` and `B` to `A`.
+fn push_forwarding(alloc: Global, recs: &mut Seq<AsmRec>) -> Result<(), NoMemory> {
+    recs.push(user(alloc)?)?;
+    recs.push(forwarding(alloc, b"A", b"B")?)?;
+    recs.push(forwarding(alloc, b"B", b"A")?)
 }
 
 /// Whether the reference of `App` names nothing.
@@ -115,7 +119,7 @@ fn is_unresolved(alloc: Global, recs: Seq<AsmRec>) -> Result<bool, NoMemory> {
 fn assemblies_that_forward_to_each_other(rt: HostRuntime) -> Result<(), Fail> {
     let alloc = rt.alloc();
     let mut recs = Seq::new(alloc);
-    push_forwarding(alloc, &mut recs, b"A")?;
+    push_forwarding(alloc, &mut recs)?;
     assert!(rt; is_unresolved(alloc, recs)?);
     Ok(())
 }
