@@ -53,7 +53,7 @@ impl<'a> Assembly<'a> {
 }
 
 /// The image of a file.
-#[tactic(auto, using(cli_format::proofs::Faults::refused_by, crate::proofs::Demands::mapped))]
+#[tactic(auto, using(cli_format::proofs::Faults::refused_by, cli_format::proofs::Faults::refused_memory, crate::proofs::Demands::mapped))]
 fn open_image(alloc: Global, bytes: &[u8]) -> Result<Image<'_>, TablesError>
     requires { length bytes.now < 2 ^ 32 }
     ensures { Read result (map as_demand (image_demands bytes.now)) bytes.now }
