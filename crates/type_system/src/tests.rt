@@ -5,5 +5,6 @@ mod classes;
 mod generics;
 mod interfaces;
 mod links;
+mod members;
 mod names;
 mod subtyping;

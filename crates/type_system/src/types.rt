@@ -124,7 +124,12 @@ impl<'w> Types<'w> {
     /// The public members of a type that have a name, as reflection finds them: fields, then methods, properties and events,
     /// each kind in the order of its rows, those of the type before the public instance members of each base. A method,
     /// property or event that one before it overrides is left out.
-    pub fn members_named(&self, alloc: Global, t: TypeId, name: &[u8]) -> Result<Seq<Item>, NoMemory>
+    pub fn members_named(
+        &self,
+        alloc: Global,
+        t: TypeId,
+        name: &[u8],
+    ) -> Result<Seq<Item>, NoMemory>
         ensures { IfOk result (λ items. items ≡ members_named self.now.recs t name.now) }
     {
         members_named(alloc, &self.tables, &self.slots, t, name)

@@ -1,0 +1,45 @@
+//! Members by name.
+
+use super::build::*;
+use crate::Types;
+use il_base::{FieldId, Item, MethodId, NoMemory, Seq, Sig, TypeId};
+use std::alloc::Global;
+use std::test::Fail;
+use world_model::AsmRec;
+
+/// Types 1 and 2, field 0 B.F, methods 0 B.M, 1 S.M, 2 S.M(int):
+///
+/// ```text
+/// class B     { public static int F; public virtual void M(); }
+/// class S : B { public override void M(); public virtual void M(int); }
+/// ```
+fn fill_members(rec: &mut AsmRec, alloc: Global) -> Result<(), NoMemory> {
+    begin(rec, alloc, b"App")?;
+    class_with_field(rec, alloc, b"B", OBJECT, 1)?;
+    static_field(rec, alloc, b"F")?;
+    method(rec, alloc, b"M", VIRTUAL)?;
+    class(rec, alloc, b"S", 0x0200_0002, 2)?;
+    method(rec, alloc, b"M", OVERRIDE)?;
+    method_of(rec, alloc, b"M", VIRTUAL, Sig::Prim(0x08))
+}
+
+fn named(alloc: Global, types: &Types<'_>, ty: u32, name: &[u8]) -> Result<Seq<Item>, NoMemory> {
+    types.members_named(alloc, TypeId(ty), name)
+}
+
+/// A member that is overridden isn't found, nor is a static member of a base.
+#[test]
+fn members_by_name(rt: HostRuntime) -> Result<(), Fail> {
+    let alloc = rt.alloc();
+    let mut rec = no_rows(alloc);
+    fill_members(&mut rec, alloc)?;
+    let world = world_of(alloc, rec)?;
+    let types = Types::new(alloc, &world)?;
+    let found = named(alloc, &types, 2, b"M")?;
+    let wanted = [Item::Method(MethodId(1)), Item::Method(MethodId(2))];
+    assert_eq!(rt; found.as_slice(), wanted.as_slice());
+    assert!(rt; named(alloc, &types, 2, b"F")?.is_empty());
+    let found = named(alloc, &types, 1, b"F")?;
+    assert_eq!(rt; found.as_slice(), [Item::Field(FieldId(0))].as_slice());
+    Ok(())
+}
