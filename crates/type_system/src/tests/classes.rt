@@ -1,11 +1,14 @@
 //! Which method a virtual call runs, by the slots of classes.
 
+ghost use Rattle.std.specs.Prelude.{IfOk};
+ghost use Rattle.link_rules.specs.Linked.{IsWorld};
+
 use super::build::*;
 use crate::Types;
 use il_base::{MethodId, NoMemory};
 use std::alloc::Global;
 use std::test::Fail;
-use world_model::AsmRec;
+use world_model::{AsmRec, World};
 
 /// What the type of an id answers a method of a class with.
 fn runs(alloc: Global, types: &Types<'_>, ty: u32, method: u32) -> Result<Option<u32>, NoMemory> {
@@ -15,6 +18,23 @@ fn runs(alloc: Global, types: &Types<'_>, ty: u32, method: u32) -> Result<Option
         Ok(None) => Ok(None),
         Ok(Some(MethodId(id))) => Ok(Some(id)),
     }
+}
+
+/// What types answer methods of a class with. Each question is a type and a method, by their ids.
+fn answers(
+    alloc: Global,
+    world: &World,
+    questions: &[(u32, u32)],
+) -> Result<Vec<Option<u32>>, NoMemory>
+    requires { IsWorld world.now }
+{
+    let types = Types::new(alloc, world)?;
+    let mut found = Vec::new(alloc);
+    for (ty, method) in questions {
+        let answer = runs(alloc, &types, *ty, *method)?;
+        found.push(answer)?;
+    }
+    Ok(found)
 }
 
 /// Types 1 to 3, each with one method, 0 to 2:
@@ -34,17 +54,21 @@ fn fill_hidden(rec: &mut AsmRec, alloc: Global) -> Result<(), NoMemory> {
     method(rec, alloc, b"M", OVERRIDE)
 }
 
+fn hidden_world(alloc: Global) -> Result<World, NoMemory>
+    ensures { IfOk result IsWorld }
+{
+    let mut rec = no_rows(alloc);
+    fill_hidden(&mut rec, alloc)?;
+    world_of(alloc, rec)
+}
+
 /// An override takes the nearest slot, and a slot of the same name further up is another.
 #[test]
 fn hidden_slots(rt: HostRuntime) -> Result<(), Fail> {
     let alloc = rt.alloc();
-    let mut rec = no_rows(alloc);
-    fill_hidden(&mut rec, alloc)?;
-    let world = world_of(alloc, rec)?;
-    let types = Types::new(alloc, &world)?;
-    assert_eq!(rt; runs(alloc, &types, 3, 0)?, Some(0));
-    assert_eq!(rt; runs(alloc, &types, 3, 1)?, Some(2));
-    assert_eq!(rt; runs(alloc, &types, 3, 2)?, Some(2));
+    let world = hidden_world(alloc)?;
+    let found = answers(alloc, &world, &[(3, 0), (3, 1), (3, 2)])?;
+    assert_eq!(rt; found.as_slice(), [Some(0), Some(2), Some(2)].as_slice());
     Ok(())
 }
 
@@ -64,16 +88,21 @@ fn fill_inherited(rec: &mut AsmRec, alloc: Global) -> Result<(), NoMemory> {
     method(rec, alloc, b"M", OVERRIDE)
 }
 
+fn inherited_world(alloc: Global) -> Result<World, NoMemory>
+    ensures { IfOk result IsWorld }
+{
+    let mut rec = no_rows(alloc);
+    fill_inherited(&mut rec, alloc)?;
+    world_of(alloc, rec)
+}
+
 /// A class without the method has that of its base.
 #[test]
 fn inherited_methods(rt: HostRuntime) -> Result<(), Fail> {
     let alloc = rt.alloc();
-    let mut rec = no_rows(alloc);
-    fill_inherited(&mut rec, alloc)?;
-    let world = world_of(alloc, rec)?;
-    let types = Types::new(alloc, &world)?;
-    assert_eq!(rt; runs(alloc, &types, 2, 0)?, Some(0));
-    assert_eq!(rt; runs(alloc, &types, 3, 0)?, Some(1));
+    let world = inherited_world(alloc)?;
+    let found = answers(alloc, &world, &[(2, 0), (3, 0)])?;
+    assert_eq!(rt; found.as_slice(), [Some(0), Some(1)].as_slice());
     Ok(())
 }
 
@@ -95,17 +124,21 @@ fn fill_renamed(rec: &mut AsmRec, alloc: Global) -> Result<(), NoMemory> {
     method(rec, alloc, b"N", OVERRIDE)
 }
 
+fn renamed_world(alloc: Global) -> Result<World, NoMemory>
+    ensures { IfOk result IsWorld }
+{
+    let mut rec = no_rows(alloc);
+    fill_renamed(&mut rec, alloc)?;
+    world_of(alloc, rec)
+}
+
 /// A MethodImpl row gives a slot a body by another name. An override of that body takes the body's own slot alone.
 #[test]
 fn slots_by_method_impl(rt: HostRuntime) -> Result<(), Fail> {
     let alloc = rt.alloc();
-    let mut rec = no_rows(alloc);
-    fill_renamed(&mut rec, alloc)?;
-    let world = world_of(alloc, rec)?;
-    let types = Types::new(alloc, &world)?;
-    assert_eq!(rt; runs(alloc, &types, 2, 0)?, Some(1));
-    assert_eq!(rt; runs(alloc, &types, 3, 0)?, Some(1));
-    assert_eq!(rt; runs(alloc, &types, 3, 1)?, Some(2));
+    let world = renamed_world(alloc)?;
+    let found = answers(alloc, &world, &[(2, 0), (3, 0), (3, 1)])?;
+    assert_eq!(rt; found.as_slice(), [Some(1), Some(1), Some(2)].as_slice());
     Ok(())
 }
 
@@ -125,16 +158,21 @@ fn fill_renamed_base(rec: &mut AsmRec, alloc: Global) -> Result<(), NoMemory> {
     method(rec, alloc, b"M", VIRTUAL)
 }
 
+fn renamed_base_world(alloc: Global) -> Result<World, NoMemory>
+    ensures { IfOk result IsWorld }
+{
+    let mut rec = no_rows(alloc);
+    fill_renamed_base(&mut rec, alloc)?;
+    world_of(alloc, rec)
+}
+
 /// A MethodImpl row of a base is for the base's slot, and for no slot that hides it.
 #[test]
 fn hidden_slots_by_method_impl(rt: HostRuntime) -> Result<(), Fail> {
     let alloc = rt.alloc();
-    let mut rec = no_rows(alloc);
-    fill_renamed_base(&mut rec, alloc)?;
-    let world = world_of(alloc, rec)?;
-    let types = Types::new(alloc, &world)?;
-    assert_eq!(rt; runs(alloc, &types, 2, 0)?, Some(1));
-    assert_eq!(rt; runs(alloc, &types, 2, 2)?, Some(2));
+    let world = renamed_base_world(alloc)?;
+    let found = answers(alloc, &world, &[(2, 0), (2, 2)])?;
+    assert_eq!(rt; found.as_slice(), [Some(1), Some(2)].as_slice());
     Ok(())
 }
 
@@ -152,15 +190,20 @@ fn fill_plain(rec: &mut AsmRec, alloc: Global) -> Result<(), NoMemory> {
     method(rec, alloc, b"M", ABSTRACT)
 }
 
+fn plain_world(alloc: Global) -> Result<World, NoMemory>
+    ensures { IfOk result IsWorld }
+{
+    let mut rec = no_rows(alloc);
+    fill_plain(&mut rec, alloc)?;
+    world_of(alloc, rec)
+}
+
 /// A method that isn't virtual has no slot. An abstract one has, and is what is found there.
 #[test]
 fn plain_and_abstract_methods(rt: HostRuntime) -> Result<(), Fail> {
     let alloc = rt.alloc();
-    let mut rec = no_rows(alloc);
-    fill_plain(&mut rec, alloc)?;
-    let world = world_of(alloc, rec)?;
-    let types = Types::new(alloc, &world)?;
-    assert_eq!(rt; runs(alloc, &types, 1, 0)?, None);
-    assert_eq!(rt; runs(alloc, &types, 2, 1)?, Some(1));
+    let world = plain_world(alloc)?;
+    let found = answers(alloc, &world, &[(1, 0), (2, 1)])?;
+    assert_eq!(rt; found.as_slice(), [None, Some(1)].as_slice());
     Ok(())
 }

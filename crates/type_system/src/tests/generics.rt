@@ -1,19 +1,20 @@
 //! Which method a virtual call runs, by the slots of generic interfaces.
 
+ghost use Rattle.std.specs.Prelude.{IfOk};
+ghost use Rattle.link_rules.specs.Linked.{IsWorld};
+
 use super::build::*;
 use crate::Types;
 use il_base::{MethodId, NoMemory, Seq, Sig, TypeId};
 use std::alloc::Global;
 use std::test::Fail;
-use world_model::{AsmRec, TypeExpr};
+use world_model::{AsmRec, TypeExpr, World};
 
 /// What a type answers the first method of the first interface, which is type 1, at this argument with.
-fn runs(
-    alloc: Global,
-    types: &Types<'_>,
-    ty: TypeExpr,
-    arg: TypeExpr,
-) -> Result<Option<u32>, NoMemory> {
+fn runs(alloc: Global, world: &World, ty: TypeExpr, arg: TypeExpr) -> Result<Option<u32>, NoMemory>
+    requires { IsWorld world.now }
+{
+    let types = Types::new(alloc, world)?;
     let owner = inst(alloc, 1, arg)?;
     match types.dispatch(alloc, &ty, &owner, MethodId(0)) {
         Err(error) => Err(error),
@@ -47,16 +48,21 @@ fn fill_two_rows(rec: &mut AsmRec, alloc: Global) -> Result<(), NoMemory> {
     implement(rec, 0x0200_0003, 0x1b00_0002)
 }
 
+fn two_rows_world(alloc: Global) -> Result<World, NoMemory>
+    ensures { IfOk result IsWorld }
+{
+    let mut rec = no_rows(alloc);
+    fill_two_rows(&mut rec, alloc)?;
+    world_of(alloc, rec)
+}
+
 /// Each instance of an interface has the method of its own argument.
 #[test]
 fn two_instances_of_an_interface(rt: HostRuntime) -> Result<(), Fail> {
     let alloc = rt.alloc();
-    let mut rec = no_rows(alloc);
-    fill_two_rows(&mut rec, alloc)?;
-    let world = world_of(alloc, rec)?;
-    let types = Types::new(alloc, &world)?;
-    assert_eq!(rt; runs(alloc, &types, def(2), int32())?, Some(1));
-    assert_eq!(rt; runs(alloc, &types, def(2), string())?, Some(2));
+    let world = two_rows_world(alloc)?;
+    assert_eq!(rt; runs(alloc, &world, def(2), int32())?, Some(1));
+    assert_eq!(rt; runs(alloc, &world, def(2), string())?, Some(2));
     Ok(())
 }
 
@@ -78,16 +84,21 @@ fn fill_generic_base(rec: &mut AsmRec, alloc: Global) -> Result<(), NoMemory> {
     class(rec, alloc, b"D", 0x1b00_0002, 0)
 }
 
+fn generic_base_world(alloc: Global) -> Result<World, NoMemory>
+    ensures { IfOk result IsWorld }
+{
+    let mut rec = no_rows(alloc);
+    fill_generic_base(&mut rec, alloc)?;
+    world_of(alloc, rec)
+}
+
 /// A generic base implements the interface at the argument that it is given.
 #[test]
 fn generic_bases(rt: HostRuntime) -> Result<(), Fail> {
     let alloc = rt.alloc();
-    let mut rec = no_rows(alloc);
-    fill_generic_base(&mut rec, alloc)?;
-    let world = world_of(alloc, rec)?;
-    let types = Types::new(alloc, &world)?;
-    assert_eq!(rt; runs(alloc, &types, def(3), int32())?, Some(1));
-    assert_eq!(rt; runs(alloc, &types, def(3), string())?, None);
+    let world = generic_base_world(alloc)?;
+    assert_eq!(rt; runs(alloc, &world, def(3), int32())?, Some(1));
+    assert_eq!(rt; runs(alloc, &world, def(3), string())?, None);
     Ok(())
 }
 
@@ -136,17 +147,22 @@ fn pair(alloc: Global, first: TypeExpr, second: TypeExpr) -> Result<TypeExpr, No
     Ok(TypeExpr::Inst(TypeId(2), args))
 }
 
+fn rows_of_parameters_world(alloc: Global) -> Result<World, NoMemory>
+    ensures { IfOk result IsWorld }
+{
+    let mut rec = no_rows(alloc);
+    fill_rows_of_parameters(&mut rec, alloc)?;
+    world_of(alloc, rec)
+}
+
 /// Where two rows become one interface the first counts.
 #[test]
 fn rows_that_become_one(rt: HostRuntime) -> Result<(), Fail> {
     let alloc = rt.alloc();
-    let mut rec = no_rows(alloc);
-    fill_rows_of_parameters(&mut rec, alloc)?;
-    let world = world_of(alloc, rec)?;
-    let types = Types::new(alloc, &world)?;
+    let world = rows_of_parameters_world(alloc)?;
     let same = pair(alloc, int32(), int32())?;
-    assert_eq!(rt; runs(alloc, &types, same, int32())?, Some(1));
+    assert_eq!(rt; runs(alloc, &world, same, int32())?, Some(1));
     let other = pair(alloc, int32(), string())?;
-    assert_eq!(rt; runs(alloc, &types, other, string())?, Some(2));
+    assert_eq!(rt; runs(alloc, &world, other, string())?, Some(2));
     Ok(())
 }

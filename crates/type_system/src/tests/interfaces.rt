@@ -1,11 +1,14 @@
 //! Which method a virtual call runs, by the slots of interfaces.
 
+ghost use Rattle.std.specs.Prelude.{IfOk};
+ghost use Rattle.link_rules.specs.Linked.{IsWorld};
+
 use super::build::*;
 use crate::Types;
 use il_base::{MethodId, NoMemory, Seq};
 use std::alloc::Global;
 use std::test::Fail;
-use world_model::{AsmRec, TypeExpr};
+use world_model::{AsmRec, TypeExpr, World};
 
 /// What a type answers a method of an interface instance with.
 fn answer(
@@ -25,6 +28,19 @@ fn answer(
 /// What the type of an id answers the first method of the first interface with, which is type 1.
 fn runs(alloc: Global, types: &Types<'_>, ty: u32) -> Result<Option<u32>, NoMemory> {
     answer(alloc, types, &def(ty), &def(1), 0)
+}
+
+/// What types, by their ids, answer the first method of the first interface with.
+fn answers(alloc: Global, world: &World, of: &[u32]) -> Result<Vec<Option<u32>>, NoMemory>
+    requires { IsWorld world.now }
+{
+    let types = Types::new(alloc, world)?;
+    let mut found = Vec::new(alloc);
+    for ty in of {
+        let answer = runs(alloc, &types, *ty)?;
+        found.push(answer)?;
+    }
+    Ok(found)
 }
 
 /// Type 1, method 0: `interface I { void M(); }`
@@ -54,17 +70,21 @@ fn fill_implemented_again(rec: &mut AsmRec, alloc: Global) -> Result<(), NoMemor
     implement(rec, 0x0200_0004, 0x0200_0002)
 }
 
+fn implemented_again_world(alloc: Global) -> Result<World, NoMemory>
+    ensures { IfOk result IsWorld }
+{
+    let mut rec = no_rows(alloc);
+    fill_implemented_again(&mut rec, alloc)?;
+    world_of(alloc, rec)
+}
+
 /// A new method is the interface's only where its class lists the interface.
 #[test]
 fn interfaces_that_are_listed_again(rt: HostRuntime) -> Result<(), Fail> {
     let alloc = rt.alloc();
-    let mut rec = no_rows(alloc);
-    fill_implemented_again(&mut rec, alloc)?;
-    let world = world_of(alloc, rec)?;
-    let types = Types::new(alloc, &world)?;
-    assert_eq!(rt; runs(alloc, &types, 2)?, Some(1));
-    assert_eq!(rt; runs(alloc, &types, 3)?, Some(2));
-    assert_eq!(rt; runs(alloc, &types, 4)?, Some(1));
+    let world = implemented_again_world(alloc)?;
+    let found = answers(alloc, &world, &[2, 3, 4])?;
+    assert_eq!(rt; found.as_slice(), [Some(1), Some(2), Some(1)].as_slice());
     Ok(())
 }
 
@@ -86,16 +106,21 @@ fn fill_explicit(rec: &mut AsmRec, alloc: Global) -> Result<(), NoMemory> {
     implement(rec, 0x0200_0004, 0x0200_0002)
 }
 
+fn explicit_world(alloc: Global) -> Result<World, NoMemory>
+    ensures { IfOk result IsWorld }
+{
+    let mut rec = no_rows(alloc);
+    fill_explicit(&mut rec, alloc)?;
+    world_of(alloc, rec)
+}
+
 /// An explicit implementation comes before a method of the same name, also for a class that lists the interface again.
 #[test]
 fn explicit_implementations(rt: HostRuntime) -> Result<(), Fail> {
     let alloc = rt.alloc();
-    let mut rec = no_rows(alloc);
-    fill_explicit(&mut rec, alloc)?;
-    let world = world_of(alloc, rec)?;
-    let types = Types::new(alloc, &world)?;
-    assert_eq!(rt; runs(alloc, &types, 2)?, Some(1));
-    assert_eq!(rt; runs(alloc, &types, 3)?, Some(1));
+    let world = explicit_world(alloc)?;
+    let found = answers(alloc, &world, &[2, 3])?;
+    assert_eq!(rt; found.as_slice(), [Some(1), Some(1)].as_slice());
     Ok(())
 }
 
@@ -118,16 +143,21 @@ fn fill_base_body(rec: &mut AsmRec, alloc: Global) -> Result<(), NoMemory> {
     override_by(rec, 0x0200_0004, 0x0600_0002, 0x0600_0001)
 }
 
+fn base_body_world(alloc: Global) -> Result<World, NoMemory>
+    ensures { IfOk result IsWorld }
+{
+    let mut rec = no_rows(alloc);
+    fill_base_body(&mut rec, alloc)?;
+    world_of(alloc, rec)
+}
+
 /// The body of a MethodImpl row can be a base's, and what overrides it then answers.
 #[test]
 fn bodies_of_bases(rt: HostRuntime) -> Result<(), Fail> {
     let alloc = rt.alloc();
-    let mut rec = no_rows(alloc);
-    fill_base_body(&mut rec, alloc)?;
-    let world = world_of(alloc, rec)?;
-    let types = Types::new(alloc, &world)?;
-    assert_eq!(rt; runs(alloc, &types, 3)?, Some(1));
-    assert_eq!(rt; runs(alloc, &types, 4)?, Some(2));
+    let world = base_body_world(alloc)?;
+    let found = answers(alloc, &world, &[3, 4])?;
+    assert_eq!(rt; found.as_slice(), [Some(1), Some(2)].as_slice());
     Ok(())
 }
 
@@ -147,15 +177,21 @@ fn fill_implied(rec: &mut AsmRec, alloc: Global) -> Result<(), NoMemory> {
     implement(rec, 0x0200_0004, 0x0200_0003)
 }
 
+fn implied_world(alloc: Global) -> Result<World, NoMemory>
+    ensures { IfOk result IsWorld }
+{
+    let mut rec = no_rows(alloc);
+    fill_implied(&mut rec, alloc)?;
+    world_of(alloc, rec)
+}
+
 /// An interface brings those that it lists itself.
 #[test]
 fn interfaces_of_interfaces(rt: HostRuntime) -> Result<(), Fail> {
     let alloc = rt.alloc();
-    let mut rec = no_rows(alloc);
-    fill_implied(&mut rec, alloc)?;
-    let world = world_of(alloc, rec)?;
-    let types = Types::new(alloc, &world)?;
-    assert_eq!(rt; runs(alloc, &types, 3)?, Some(1));
+    let world = implied_world(alloc)?;
+    let found = answers(alloc, &world, &[3])?;
+    assert_eq!(rt; found.as_slice(), [Some(1)].as_slice());
     Ok(())
 }
 
@@ -172,15 +208,21 @@ fn fill_protected(rec: &mut AsmRec, alloc: Global) -> Result<(), NoMemory> {
     implement(rec, 0x0200_0003, 0x0200_0002)
 }
 
+fn protected_world(alloc: Global) -> Result<World, NoMemory>
+    ensures { IfOk result IsWorld }
+{
+    let mut rec = no_rows(alloc);
+    fill_protected(&mut rec, alloc)?;
+    world_of(alloc, rec)
+}
+
 /// By its name a method is an interface's only if it is public.
 #[test]
 fn methods_that_are_not_public(rt: HostRuntime) -> Result<(), Fail> {
     let alloc = rt.alloc();
-    let mut rec = no_rows(alloc);
-    fill_protected(&mut rec, alloc)?;
-    let world = world_of(alloc, rec)?;
-    let types = Types::new(alloc, &world)?;
-    assert_eq!(rt; runs(alloc, &types, 2)?, None);
+    let world = protected_world(alloc)?;
+    let found = answers(alloc, &world, &[2])?;
+    assert_eq!(rt; found.as_slice(), [None].as_slice());
     Ok(())
 }
 
@@ -199,15 +241,21 @@ fn fill_of_base(rec: &mut AsmRec, alloc: Global) -> Result<(), NoMemory> {
     implement(rec, 0x0200_0004, 0x0200_0002)
 }
 
+fn of_base_world(alloc: Global) -> Result<World, NoMemory>
+    ensures { IfOk result IsWorld }
+{
+    let mut rec = no_rows(alloc);
+    fill_of_base(&mut rec, alloc)?;
+    world_of(alloc, rec)
+}
+
 /// A method of a base serves an interface that the base doesn't have.
 #[test]
 fn methods_of_bases(rt: HostRuntime) -> Result<(), Fail> {
     let alloc = rt.alloc();
-    let mut rec = no_rows(alloc);
-    fill_of_base(&mut rec, alloc)?;
-    let world = world_of(alloc, rec)?;
-    let types = Types::new(alloc, &world)?;
-    assert_eq!(rt; runs(alloc, &types, 3)?, Some(1));
+    let world = of_base_world(alloc)?;
+    let found = answers(alloc, &world, &[3])?;
+    assert_eq!(rt; found.as_slice(), [Some(1)].as_slice());
     Ok(())
 }
 
@@ -228,23 +276,32 @@ fn fill_lib(rec: &mut AsmRec, alloc: Global) -> Result<(), NoMemory> {
     method(rec, alloc, b"M", ABSTRACT)
 }
 
-fn with_plugin(alloc: Global) -> Result<Seq<AsmRec>, NoMemory> {
+fn push_plugin(recs: &mut Seq<AsmRec>, alloc: Global) -> Result<(), NoMemory> {
     let mut app = no_rows(alloc);
-    let mut lib = no_rows(alloc);
     fill_plugin(&mut app, alloc)?;
+    recs.push(app)
+}
+
+fn push_lib(recs: &mut Seq<AsmRec>, alloc: Global) -> Result<(), NoMemory> {
+    let mut lib = no_rows(alloc);
     fill_lib(&mut lib, alloc)?;
+    recs.push(lib)
+}
+
+fn plugin_world(alloc: Global) -> Result<World, NoMemory>
+    ensures { IfOk result IsWorld }
+{
     let mut recs = Seq::new(alloc);
-    recs.push(app)?;
-    recs.push(lib)?;
-    Ok(recs)
+    push_plugin(&mut recs, alloc)?;
+    push_lib(&mut recs, alloc)?;
+    world(alloc, recs)
 }
 
 /// An interface of another assembly.
 #[test]
 fn interfaces_of_other_assemblies(rt: HostRuntime) -> Result<(), Fail> {
     let alloc = rt.alloc();
-    let recs = with_plugin(alloc)?;
-    let world = world(alloc, recs)?;
+    let world = plugin_world(alloc)?;
     let types = Types::new(alloc, &world)?;
     assert_eq!(rt; answer(alloc, &types, &def(1), &def(3), 1)?, Some(0));
     Ok(())

@@ -1,11 +1,14 @@
 //! Members by name.
 
+ghost use Rattle.std.specs.Prelude.{IfOk};
+ghost use Rattle.link_rules.specs.Linked.{IsWorld};
+
 use super::build::*;
 use crate::Types;
 use il_base::{FieldId, Item, MethodId, NoMemory, Seq, Sig, TypeId};
 use std::alloc::Global;
 use std::test::Fail;
-use world_model::AsmRec;
+use world_model::{AsmRec, World};
 
 /// Types 1 and 2, field 0 B.F, methods 0 B.M, 1 S.M, 2 S.M(int):
 ///
@@ -27,13 +30,19 @@ fn named(alloc: Global, types: &Types<'_>, ty: u32, name: &[u8]) -> Result<Seq<I
     types.members_named(alloc, TypeId(ty), name)
 }
 
+fn members_world(alloc: Global) -> Result<World, NoMemory>
+    ensures { IfOk result IsWorld }
+{
+    let mut rec = no_rows(alloc);
+    fill_members(&mut rec, alloc)?;
+    world_of(alloc, rec)
+}
+
 /// A member that is overridden isn't found, nor is a static member of a base.
 #[test]
 fn members_by_name(rt: HostRuntime) -> Result<(), Fail> {
     let alloc = rt.alloc();
-    let mut rec = no_rows(alloc);
-    fill_members(&mut rec, alloc)?;
-    let world = world_of(alloc, rec)?;
+    let world = members_world(alloc)?;
     let types = Types::new(alloc, &world)?;
     let found = named(alloc, &types, 2, b"M")?;
     let wanted = [Item::Method(MethodId(1)), Item::Method(MethodId(2))];

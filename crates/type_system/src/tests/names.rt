@@ -1,12 +1,15 @@
 //! Types by name, texts, arguments put in.
 
+ghost use Rattle.std.specs.Prelude.{IfOk};
+ghost use Rattle.link_rules.specs.Linked.{IsWorld};
+
 use super::build::*;
 use crate::Types;
 use attr_blobs::TypeName;
 use il_base::{AsmId, NoMemory, Seq, TypeId};
 use std::alloc::Global;
 use std::test::Fail;
-use world_model::{AsmRec, TypeExpr};
+use world_model::{AsmRec, TypeExpr, World};
 
 /// `class Plain {}` and `class Box<T> {}`. Types: 1 Plain, 2 Box.
 fn fill_boxes(rec: &mut AsmRec, alloc: Global) -> Result<(), NoMemory> {
@@ -26,12 +29,18 @@ fn id_of(alloc: Global, types: &Types<'_>, name: &[u8]) -> Result<Option<u32>, N
     }
 }
 
+fn boxes_world(alloc: Global) -> Result<World, NoMemory>
+    ensures { IfOk result IsWorld }
+{
+    let mut rec = no_rows(alloc);
+    fill_boxes(&mut rec, alloc)?;
+    world_of(alloc, rec)
+}
+
 #[test]
 fn finds_types(rt: HostRuntime) -> Result<(), Fail> {
     let alloc = rt.alloc();
-    let mut app = no_rows(alloc);
-    fill_boxes(&mut app, alloc)?;
-    let world = world_of(alloc, app)?;
+    let world = boxes_world(alloc)?;
     let types = Types::new(alloc, &world)?;
     assert_eq!(rt; id_of(alloc, &types, b"Plain")?, Some(1));
     assert_eq!(rt; id_of(alloc, &types, b"Box`1")?, Some(2));
@@ -54,9 +63,7 @@ fn has_text(
 #[test]
 fn texts(rt: HostRuntime) -> Result<(), Fail> {
     let alloc = rt.alloc();
-    let mut app = no_rows(alloc);
-    fill_boxes(&mut app, alloc)?;
-    let world = world_of(alloc, app)?;
+    let world = boxes_world(alloc)?;
     let types = Types::new(alloc, &world)?;
     assert!(rt; has_text(alloc, &types, def(1), b"Plain")?);
     assert!(rt; has_text(alloc, &types, int32(), b"System.Int32")?);
@@ -83,9 +90,7 @@ fn substituted(alloc: Global, types: &Types<'_>, arg: TypeExpr) -> Result<TypeEx
 #[test]
 fn puts_arguments_in(rt: HostRuntime) -> Result<(), Fail> {
     let alloc = rt.alloc();
-    let mut app = no_rows(alloc);
-    fill_boxes(&mut app, alloc)?;
-    let world = world_of(alloc, app)?;
+    let world = boxes_world(alloc)?;
     let types = Types::new(alloc, &world)?;
     let made = substituted(alloc, &types, def(1))?;
     assert!(rt; made.is_same(&inst(alloc, 2, def(1))?));

@@ -1,25 +1,29 @@
 //! Which types a type can stand for.
 
+ghost use Rattle.std.specs.Prelude.{IfOk};
+ghost use Rattle.link_rules.specs.Linked.{IsWorld};
+
 use super::build::*;
 use crate::Types;
 use il_base::{NoMemory, Sig};
 use std::alloc::Global;
 use std::test::Fail;
-use world_model::{AsmRec, Known, TypeExpr, TypeSpecRow};
+use world_model::{AsmRec, Known, TypeExpr, TypeSpecRow, World};
 
-fn is_below(alloc: Global, types: &Types<'_>, a: TypeExpr, b: TypeExpr) -> Result<bool, NoMemory> {
+fn is_below(alloc: Global, world: &World, a: TypeExpr, b: TypeExpr) -> Result<bool, NoMemory>
+    requires { IsWorld world.now }
+{
+    let types = Types::new(alloc, world)?;
     types.is_subtype(alloc, &a, &b)
 }
 
 /// Whether a vector of the one can stand for a vector of the other.
-fn is_array_below(
-    alloc: Global,
-    types: &Types<'_>,
-    a: TypeExpr,
-    b: TypeExpr,
-) -> Result<bool, NoMemory> {
+fn is_array_below(alloc: Global, world: &World, a: TypeExpr, b: TypeExpr) -> Result<bool, NoMemory>
+    requires { IsWorld world.now }
+{
     let a = array(alloc, a)?;
     let b = array(alloc, b)?;
+    let types = Types::new(alloc, world)?;
     types.is_subtype(alloc, &a, &b)
 }
 
@@ -41,19 +45,24 @@ fn fill_chain(rec: &mut AsmRec, alloc: Global) -> Result<(), NoMemory> {
     implement(rec, 0x0200_0004, 0x0200_0003)
 }
 
+fn chain_world(alloc: Global) -> Result<World, NoMemory>
+    ensures { IfOk result IsWorld }
+{
+    let mut rec = no_rows(alloc);
+    fill_chain(&mut rec, alloc)?;
+    world_of(alloc, rec)
+}
+
 #[test]
 fn interfaces_and_bases(rt: HostRuntime) -> Result<(), Fail> {
     let alloc = rt.alloc();
-    let mut rec = no_rows(alloc);
-    fill_chain(&mut rec, alloc)?;
-    let world = world_of(alloc, rec)?;
-    let types = Types::new(alloc, &world)?;
-    assert!(rt; is_below(alloc, &types, def(3), def(1))?);
-    assert!(rt; is_below(alloc, &types, def(3), def(2))?);
-    assert!(rt; is_below(alloc, &types, def(3), object())?);
-    assert!(rt; is_below(alloc, &types, def(3), def(3))?);
-    assert!(rt; !is_below(alloc, &types, def(1), def(3))?);
-    assert!(rt; !is_below(alloc, &types, def(3), def(4))?);
+    let world = chain_world(alloc)?;
+    assert!(rt; is_below(alloc, &world, def(3), def(1))?);
+    assert!(rt; is_below(alloc, &world, def(3), def(2))?);
+    assert!(rt; is_below(alloc, &world, def(3), object())?);
+    assert!(rt; is_below(alloc, &world, def(3), def(3))?);
+    assert!(rt; !is_below(alloc, &world, def(1), def(3))?);
+    assert!(rt; !is_below(alloc, &world, def(3), def(4))?);
     Ok(())
 }
 
@@ -62,15 +71,12 @@ fn interfaces_and_bases(rt: HostRuntime) -> Result<(), Fail> {
 #[test]
 fn arrays(rt: HostRuntime) -> Result<(), Fail> {
     let alloc = rt.alloc();
-    let mut rec = no_rows(alloc);
-    fill_chain(&mut rec, alloc)?;
-    let world = world_of(alloc, rec)?;
-    let types = Types::new(alloc, &world)?;
-    assert!(rt; is_array_below(alloc, &types, def(3), def(1))?);
-    assert!(rt; is_below(alloc, &types, array(alloc, def(3))?, def(26))?);
-    assert!(rt; is_below(alloc, &types, array(alloc, def(3))?, object())?);
-    assert!(rt; is_array_below(alloc, &types, string(), object())?);
-    assert!(rt; !is_array_below(alloc, &types, int32(), object())?);
+    let world = chain_world(alloc)?;
+    assert!(rt; is_array_below(alloc, &world, def(3), def(1))?);
+    assert!(rt; is_below(alloc, &world, array(alloc, def(3))?, def(26))?);
+    assert!(rt; is_below(alloc, &world, array(alloc, def(3))?, object())?);
+    assert!(rt; is_array_below(alloc, &world, string(), object())?);
+    assert!(rt; !is_array_below(alloc, &world, int32(), object())?);
     Ok(())
 }
 
@@ -88,15 +94,20 @@ fn fill_generic(rec: &mut AsmRec, alloc: Global) -> Result<(), NoMemory> {
     class(rec, alloc, b"D", 0x1b00_0001, 0)
 }
 
+fn generic_world(alloc: Global) -> Result<World, NoMemory>
+    ensures { IfOk result IsWorld }
+{
+    let mut rec = no_rows(alloc);
+    fill_generic(&mut rec, alloc)?;
+    world_of(alloc, rec)
+}
+
 #[test]
 fn generic_bases(rt: HostRuntime) -> Result<(), Fail> {
     let alloc = rt.alloc();
-    let mut rec = no_rows(alloc);
-    fill_generic(&mut rec, alloc)?;
-    let world = world_of(alloc, rec)?;
-    let types = Types::new(alloc, &world)?;
-    assert!(rt; is_below(alloc, &types, def(2), inst(alloc, 1, int32())?)?);
-    assert!(rt; !is_below(alloc, &types, def(2), inst(alloc, 1, string())?)?);
+    let world = generic_world(alloc)?;
+    assert!(rt; is_below(alloc, &world, def(2), inst(alloc, 1, int32())?)?);
+    assert!(rt; !is_below(alloc, &world, def(2), inst(alloc, 1, string())?)?);
     Ok(())
 }
 
@@ -117,14 +128,19 @@ fn fill_parameter_row(rec: &mut AsmRec, alloc: Global) -> Result<(), NoMemory> {
     implement(rec, 0x0200_0003, 0x1b00_0001)
 }
 
+fn parameter_row_world(alloc: Global) -> Result<World, NoMemory>
+    ensures { IfOk result IsWorld }
+{
+    let mut rec = no_rows(alloc);
+    fill_parameter_row(&mut rec, alloc)?;
+    world_of(alloc, rec)
+}
+
 /// A row that names a parameter, which no interface can be, gives nothing.
 #[test]
 fn rows_of_parameters(rt: HostRuntime) -> Result<(), Fail> {
     let alloc = rt.alloc();
-    let mut rec = no_rows(alloc);
-    fill_parameter_row(&mut rec, alloc)?;
-    let world = world_of(alloc, rec)?;
-    let types = Types::new(alloc, &world)?;
-    assert!(rt; !is_below(alloc, &types, inst(alloc, 2, def(1))?, def(1))?);
+    let world = parameter_row_world(alloc)?;
+    assert!(rt; !is_below(alloc, &world, inst(alloc, 2, def(1))?, def(1))?);
     Ok(())
 }
