@@ -144,6 +144,14 @@ pub fn mention(
     })
 }
 
+/// The row, from 1, behind so many.
+fn row_behind(count: usize) -> Result<u32, NoMemory> {
+    match u32::try_from(count) {
+        Ok(count) => Ok(count.saturating_add(1)),
+        Err(_) => Err(NoMemory),
+    }
+}
+
 /// A type whose members are to be pushed next: so many fields, and so many methods.
 fn define(
     rec: &mut AsmRec,
@@ -154,17 +162,17 @@ fn define(
     fields: u32,
     methods: u32,
 ) -> Result<(), NoMemory> {
-    let field = rec.field.len() as u32;
-    let method = rec.method_def.len() as u32;
+    let field = row_behind(rec.field.len())?;
+    let method = row_behind(rec.method_def.len())?;
     rec.type_def.push(TypeDefRow {
         flags,
         name: text(alloc, name)?,
         namespace: Seq::new(alloc),
         extends,
-        field_list_first: field.saturating_add(1),
-        field_list_end: field.saturating_add(fields).saturating_add(1),
-        method_list_first: method.saturating_add(1),
-        method_list_end: method.saturating_add(methods).saturating_add(1),
+        field_list_first: field,
+        field_list_end: field.saturating_add(fields),
+        method_list_first: method,
+        method_list_end: method.saturating_add(methods),
     })
 }
 
