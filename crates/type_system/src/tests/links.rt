@@ -15,11 +15,8 @@ fn named(alloc: Global, name: &[u8]) -> Result<AsmRec, NoMemory> {
     Ok(rec)
 }
 
-/// Why two assemblies don't link: the assembly, the demand and the row.
-fn fault(alloc: Global, first: AsmRec, second: AsmRec) -> Result<Option<(u32, u8, u32)>, NoMemory> {
-    let mut recs = Seq::new(alloc);
-    recs.push(first)?;
-    recs.push(second)?;
+/// Why assemblies don't link: the assembly, the demand and the row.
+fn fault(alloc: Global, recs: Seq<AsmRec>) -> Result<Option<(u32, u8, u32)>, NoMemory> {
     match link(alloc, recs) {
         Ok(_) => Ok(None),
         Err(LinkError::Bad { file, why, token }) => Ok(Some((file, why, token))),
@@ -27,12 +24,17 @@ fn fault(alloc: Global, first: AsmRec, second: AsmRec) -> Result<Option<(u32, u8
     }
 }
 
+fn push_one_name(alloc: Global, recs: &mut Seq<AsmRec>) -> Result<(), NoMemory> {
+    recs.push(named(alloc, b"App")?)?;
+    recs.push(named(alloc, b"App")?)
+}
+
 #[test]
 fn assemblies_of_one_name(rt: HostRuntime) -> Result<(), Fail> {
     let alloc = rt.alloc();
-    let first = named(alloc, b"App")?;
-    let second = named(alloc, b"App")?;
-    assert_eq!(rt; fault(alloc, first, second)?, Some((1, 14, 0)));
+    let mut recs = Seq::new(alloc);
+    push_one_name(alloc, &mut recs)?;
+    assert_eq!(rt; fault(alloc, recs)?, Some((1, 14, 0)));
     Ok(())
 }
 
@@ -53,13 +55,23 @@ fn fill_enclosing(rec: &mut AsmRec, alloc: Global) -> Result<(), NoMemory> {
     nest(rec, 0x0200_0003, 0x0200_0002)
 }
 
+fn enclosing(alloc: Global) -> Result<AsmRec, NoMemory> {
+    let mut rec = no_rows(alloc);
+    fill_enclosing(&mut rec, alloc)?;
+    Ok(rec)
+}
+
+fn push_enclosing(alloc: Global, recs: &mut Seq<AsmRec>) -> Result<(), NoMemory> {
+    recs.push(named(alloc, b"App")?)?;
+    recs.push(enclosing(alloc)?)
+}
+
 #[test]
 fn types_that_enclose_each_other(rt: HostRuntime) -> Result<(), Fail> {
     let alloc = rt.alloc();
-    let first = named(alloc, b"App")?;
-    let mut second = no_rows(alloc);
-    fill_enclosing(&mut second, alloc)?;
-    assert_eq!(rt; fault(alloc, first, second)?, Some((1, 16, 0x2900_0001)));
+    let mut recs = Seq::new(alloc);
+    push_enclosing(alloc, &mut recs)?;
+    assert_eq!(rt; fault(alloc, recs)?, Some((1, 16, 0x2900_0001)));
     Ok(())
 }
 

@@ -26,7 +26,10 @@ fn fill_members(rec: &mut AsmRec, alloc: Global) -> Result<(), NoMemory> {
     method_of(rec, alloc, b"M", VIRTUAL, Sig::Prim(0x08))
 }
 
-fn named(alloc: Global, types: &Types<'_>, ty: u32, name: &[u8]) -> Result<Seq<Item>, NoMemory> {
+fn named(alloc: Global, world: &World, ty: u32, name: &[u8]) -> Result<Seq<Item>, NoMemory>
+    requires { IsWorld world.now }
+{
+    let types = Types::new(alloc, world)?;
     types.members_named(alloc, TypeId(ty), name)
 }
 
@@ -38,17 +41,24 @@ fn members_world(alloc: Global) -> Result<World, NoMemory>
     world_of(alloc, rec)
 }
 
-/// A member that is overridden isn't found, nor is a static member of a base.
+/// A member that is overridden isn't found.
 #[test]
-fn members_by_name(rt: HostRuntime) -> Result<(), Fail> {
+fn methods_by_name(rt: HostRuntime) -> Result<(), Fail> {
     let alloc = rt.alloc();
     let world = members_world(alloc)?;
-    let types = Types::new(alloc, &world)?;
-    let found = named(alloc, &types, 2, b"M")?;
+    let found = named(alloc, &world, 2, b"M")?;
     let wanted = [Item::Method(MethodId(1)), Item::Method(MethodId(2))];
     assert_eq!(rt; found.as_slice(), wanted.as_slice());
-    assert!(rt; named(alloc, &types, 2, b"F")?.is_empty());
-    let found = named(alloc, &types, 1, b"F")?;
+    Ok(())
+}
+
+/// A static member of a base isn't found.
+#[test]
+fn fields_by_name(rt: HostRuntime) -> Result<(), Fail> {
+    let alloc = rt.alloc();
+    let world = members_world(alloc)?;
+    assert!(rt; named(alloc, &world, 2, b"F")?.is_empty());
+    let found = named(alloc, &world, 1, b"F")?;
     assert_eq!(rt; found.as_slice(), [Item::Field(FieldId(0))].as_slice());
     Ok(())
 }

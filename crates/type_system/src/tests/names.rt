@@ -37,25 +37,42 @@ fn boxes_world(alloc: Global) -> Result<World, NoMemory>
     world_of(alloc, rec)
 }
 
+/// The types that names are of.
+fn ids(alloc: Global, world: &World, names: &[&[u8]]) -> Result<Vec<Option<u32>>, NoMemory>
+    requires { IsWorld world.now }
+{
+    let types = Types::new(alloc, world)?;
+    let mut found = Vec::new(alloc);
+    for name in names {
+        let id = id_of(alloc, &types, name)?;
+        found.push(id)?;
+    }
+    Ok(found)
+}
+
 #[test]
 fn finds_types(rt: HostRuntime) -> Result<(), Fail> {
     let alloc = rt.alloc();
     let world = boxes_world(alloc)?;
-    let types = Types::new(alloc, &world)?;
-    assert_eq!(rt; id_of(alloc, &types, b"Plain")?, Some(1));
-    assert_eq!(rt; id_of(alloc, &types, b"Box`1")?, Some(2));
-    assert_eq!(rt; id_of(alloc, &types, b"System.Object")?, Some(4));
-    assert_eq!(rt; id_of(alloc, &types, b"Nowhere")?, None);
+    let names = [
+        b"Plain".as_slice(),
+        b"Box`1".as_slice(),
+        b"System.Object".as_slice(),
+        b"Nowhere".as_slice(),
+    ];
+    let found = ids(alloc, &world, names.as_slice())?;
+    assert_eq!(rt;
+        found.as_slice(),
+        [Some(1), Some(2), Some(4), None].as_slice()
+    );
     Ok(())
 }
 
 /// Whether the text of a type is this.
-fn has_text(
-    alloc: Global,
-    types: &Types<'_>,
-    ty: TypeExpr,
-    expected: &[u8],
-) -> Result<bool, NoMemory> {
+fn has_text(alloc: Global, world: &World, ty: TypeExpr, expected: &[u8]) -> Result<bool, NoMemory>
+    requires { IsWorld world.now }
+{
+    let types = Types::new(alloc, world)?;
     let found = types.text(alloc, &ty)?;
     Ok(found.as_slice() == expected)
 }
@@ -64,18 +81,19 @@ fn has_text(
 fn texts(rt: HostRuntime) -> Result<(), Fail> {
     let alloc = rt.alloc();
     let world = boxes_world(alloc)?;
-    let types = Types::new(alloc, &world)?;
-    assert!(rt; has_text(alloc, &types, def(1), b"Plain")?);
-    assert!(rt; has_text(alloc, &types, int32(), b"System.Int32")?);
-    assert!(rt;
-        has_text(
-            alloc,
-            &types,
-            inst(alloc, 2, string())?,
-            b"Box`1[System.String]"
-        )?
-    );
-    assert!(rt; has_text(alloc, &types, array(alloc, def(1))?, b"Plain[]")?);
+    assert!(rt; has_text(alloc, &world, def(1), b"Plain")?);
+    assert!(rt; has_text(alloc, &world, int32(), b"System.Int32")?);
+    Ok(())
+}
+
+#[test]
+fn texts_of_made_types(rt: HostRuntime) -> Result<(), Fail> {
+    let alloc = rt.alloc();
+    let world = boxes_world(alloc)?;
+    let ty = inst(alloc, 2, string())?;
+    assert!(rt; has_text(alloc, &world, ty, b"Box`1[System.String]")?);
+    let ty = array(alloc, def(1))?;
+    assert!(rt; has_text(alloc, &world, ty, b"Plain[]")?);
     Ok(())
 }
 
