@@ -85,7 +85,13 @@ impl Graphs {
         let Some(id) = type_id(scope.all, file, at) else {
             return Err(NoMemory);
         };
-        if is_on_cycle(alloc, &self.supers, levels.supers.as_slice(), scope.types, id.0)? {
+        if is_on_cycle(
+            alloc,
+            &self.supers,
+            levels.supers.as_slice(),
+            scope.types,
+            id.0,
+        )? {
             return Ok(true);
         }
         is_on_cycle(alloc, &self.held, levels.held.as_slice(), scope.types, id.0)

@@ -150,12 +150,7 @@ fn found_first(alloc: Global, graph: usize, nodes: &[u32]) -> Result<Found, NoMe
 
 /// What some nodes lead to in at most `steps` steps, themselves among it. A step looks only at the nodes that the last one
 /// found, and the search ends as soon as a step finds nothing new.
-fn led_to(
-    alloc: Global,
-    graph: &[Seq<u32>],
-    steps: usize,
-    nodes: &[u32],
-) -> Result<Found, NoMemory>
+fn led_to(alloc: Global, graph: &[Seq<u32>], steps: usize, nodes: &[u32]) -> Result<Found, NoMemory>
     ensures found { IfOk result (λ found. found.nodes ≡ led_to nat_eq (next_in graph.now) steps nodes.now) }
     ensures marked { IfOk result (λ found. AreMarked found.marks.items found.nodes) }
 {
