@@ -1,9 +1,9 @@
 -- Definitions of types, and their ids.
-use Rattle.std.proofs.Common.{◌≡◌, ℕ, zero, suc, ◌+◌, ◌<◌, ◌≤◌, Bool, true, false, nat_eq, nat_lt, ◌&&◌, List, [], ◌∷◌, length, map, Option, Some, None, refl, sym, ap, subst, ◌∙◌, arith}
-use Rattle.std.specs.Prelude.{if◌then◌else◌, slice_get}
+use Rattle.std.proofs.Common.{◌≡◌, ℕ, ◌+◌, ◌<◌, Bool, true, nat_eq, List, length, Option, Some, None, refl, sym, ap, ◌∙◌, arith}
+use Rattle.std.specs.Prelude.{slice_get}
 use Rattle.std.specs.Option.{option_map, option_and_then}
 use Rattle.std.proofs.lemmas.Bool.{lt-ltb, le-ltb, and_parts, and_from, eqb-true, eq-eqb}
-use Rattle.std.proofs.lemmas.Bool.Decides.{same_from_decides, Decides-eqb}
+use Rattle.std.proofs.lemmas.Bool.Decides.{same_from_decides}
 use Rattle.il_base.specs.declared.ids.TypeId.{TypeId}
 use Rattle.world_model.specs.declared.expr.TypeExpr.{TypeExpr}
 use Rattle.world_model.specs.declared.record.AsmRec.{AsmRec}
@@ -14,7 +14,7 @@ use Rattle.link_rules.specs.Members.{home_from, type_home, type_count, owner_of}
 use Rattle.link_rules.specs.Cycles.{same_row, listed, home_of}
 use Rattle.link_faults.specs.Targets.{id_of, id_below, target_of}
 use Rattle.link_faults.proofs.Each.{Each}
-use Rattle.link_faults.proofs.Ids.{Stands, home_at, home_is, below_count, past_count, none_past}
+use Rattle.link_faults.proofs.Ids.{Stands, home_at, home_is, below_count, none_past}
 
 module _ (all : List AsmRec) where
   -- a row that stands for a type

@@ -1,8 +1,7 @@
 -- The graph of value types in fields is that of the tables.
-use Rattle.std.proofs.Common.{◌≡◌, ℕ, zero, suc, ◌≤◌, Bool, true, false, List, [], ◌∷◌, ◌++◌, length, map, Option, Some, None, refl, sym, ap, subst, ◌∙◌, arith}
+use Rattle.std.proofs.Common.{◌≡◌, ℕ, ◌≤◌, Bool, true, false, List, [], ◌∷◌, ◌++◌, length, map, Option, Some, None, refl, sym, ap, subst, ◌∙◌}
 use Rattle.std.specs.Prelude.{if◌then◌else◌, slice_get, unwrap_or}
 use Rattle.std.specs.List.{flat_map}
-use Rattle.std.specs.Option.{option_map, option_and_then}
 use Rattle.std.proofs.lemmas.List.{append-nil, map-append}
 use Rattle.std.proofs.lemmas.Option.{slice_get_past}
 use Rattle.il_base.specs.declared.ids.TypeId.{TypeId}
@@ -16,11 +15,11 @@ use Rattle.world_model.specs.declared.types.TypeDefRow.{TypeDefRow}
 use Rattle.world_model.specs.declared.members.FieldRow.{FieldRow}
 use Rattle.world_model.specs.declared.record.AsmRec.{AsmRec}
 use Rattle.world_model.specs.declared.world.TypeLink.{TypeLink}
-use Rattle.world_model.specs.Worlds.{rows_before, types_in, known_then, sig_expr, names_by}
+use Rattle.world_model.specs.Worlds.{known_then, sig_expr, names_by}
 use Rattle.link_rules.specs.declared.row_at.RowAt.{RowAt}
 use Rattle.link_rules.specs.Signatures.{names_at}
 use Rattle.link_rules.specs.Members.{type_home, good_type, run_of}
-use Rattle.link_rules.specs.Cycles.{listed, is_value_type, value_row, value_rows, instance_rows, values_layer, values_in, is_static_field, values_in_field, values_in_row, field_values}
+use Rattle.link_rules.specs.Cycles.{listed, is_value_type, value_rows, instance_rows, values_layer, values_in, is_static_field, values_in_field, values_in_row, field_values}
 use Rattle.link_rules.specs.Laws.{TellTokens, TellSignatures}
 use Rattle.link_faults.specs.Graphs.{next_in}
 use Rattle.link_faults.specs.Targets.{id_of}

@@ -1,7 +1,9 @@
 pub mod Walks
 pub mod Each
 pub mod Leading
+pub mod Marks
 pub mod Ranked
+pub mod Leveled
 pub mod Taken
 pub mod Nexts
 pub mod Tokens

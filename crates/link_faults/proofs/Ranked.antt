@@ -1,6 +1,5 @@
 -- Where each node leads to smaller ranks alone, none is on a cycle.
-use Rattle.std.proofs.Common.{◌≡◌, ℕ, zero, suc, ◌+◌, ◌<◌, Bool, true, false, ◌&&◌, nat_eq, List, [], ◌∷◌, refl, sym, ap, ◌∙◌, arith}
-use Rattle.std.specs.Prelude.{◌||◌}
+use Rattle.std.proofs.Common.{◌≡◌, ℕ, zero, suc, ◌+◌, ◌<◌, true, false, nat_eq, List, [], ◌∷◌, refl, ap, arith}
 use Rattle.std.specs.List.{list_any, list_all}
 use Rattle.std.proofs.lemmas.Bool.{and_parts, ltb-true, ne_eqb, or_from}
 use Rattle.link_rules.specs.Cycles.{led_to, is_on_cycle}
@@ -8,10 +7,10 @@ use Rattle.link_faults.specs.Graphs.{next_in, rank_of, is_lower, goes_down, IsAc
 use Rattle.link_faults.proofs.Each.{Each, each_led}
 
 module _ (ranks : List ℕ) where
-  abbrev IsBelow : ℕ → ℕ → Type 0
+  abbrev pub IsBelow : ℕ → ℕ → Type 0
   IsBelow rank node = rank_of ranks node < rank
 
-  lower_each : (most rank : ℕ) (nodes : List ℕ) → list_all (is_lower ranks rank) nodes ≡ true → rank < suc most → Each (IsBelow most) nodes
+  pub lower_each : (most rank : ℕ) (nodes : List ℕ) → list_all (is_lower ranks rank) nodes ≡ true → rank < suc most → Each (IsBelow most) nodes
   lower_each most rank [] e le = tt
   lower_each most rank (node ∷ nodes) e le =
       let p = and_parts (is_lower ranks rank node) (list_all (is_lower ranks rank) nodes) e in
@@ -27,7 +26,7 @@ module _ (ranks : List ℕ) where
       let z : k + suc node ≡ suc k + node = omega arith in
       rw z (next_lower (suc k) graph node ((and_parts (list_all (is_lower ranks (rank_of ranks k)) led) (goes_down ranks (suc k) graph) e).1))
 
-  none_same : (node : ℕ) (nodes : List ℕ) → Each (IsBelow (rank_of ranks node)) nodes → list_any (nat_eq node) nodes ≡ false
+  pub none_same : (node : ℕ) (nodes : List ℕ) → Each (IsBelow (rank_of ranks node)) nodes → list_any (nat_eq node) nodes ≡ false
   none_same node [] e = refl
   none_same node (other ∷ nodes) e =
       or_from (nat_eq node other) (list_any (nat_eq node) nodes)

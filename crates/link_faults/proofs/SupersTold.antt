@@ -1,5 +1,5 @@
 -- The graph of supertypes is that of the tables.
-use Rattle.std.proofs.Common.{◌≡◌, ℕ, zero, suc, Bool, true, false, List, [], ◌∷◌, ◌++◌, map, Option, Some, None, refl, sym, ap, ◌∙◌}
+use Rattle.std.proofs.Common.{◌≡◌, ℕ, suc, Bool, true, false, List, [], ◌∷◌, ◌++◌, map, Option, Some, None, refl, sym, ap, ◌∙◌}
 use Rattle.std.specs.Prelude.{if◌then◌else◌, ◌==◌, slice_get, unwrap_or}
 use Rattle.std.specs.List.{flat_map}
 use Rattle.std.specs.Option.{option_map, option_and_then}
@@ -17,7 +17,7 @@ use Rattle.link_rules.specs.Members.{good_type, base_in, base_at}
 use Rattle.link_rules.specs.Cycles.{listed, home_of, is_row_of, interface_of, interfaces_in, interfaces_at, supertypes}
 use Rattle.link_rules.specs.Laws.{TellTokens}
 use Rattle.link_faults.specs.Graphs.{next_in}
-use Rattle.link_faults.specs.Targets.{id_of, linked, target_of, target_at}
+use Rattle.link_faults.specs.Targets.{id_of, target_of, target_at}
 use Rattle.link_faults.specs.Supertypes.{base_target, interfaces_by, supers_of, all_supers}
 use Rattle.link_faults.proofs.Each.{Each, each_flat}
 use Rattle.link_faults.proofs.Renamed.{Leads}

@@ -1,25 +1,23 @@
 -- The flags of value types are those of the tables.
-use Rattle.std.proofs.Common.{◌≡◌, ◌⊎◌, inl, inr, ℕ, zero, suc, ◌+◌, ◌-◌, ◌<◌, ◌≤◌, Bool, true, false, not, nat_eq, ◌&&◌, ◌||◌, ◌==◌, List, [], ◌∷◌, length, map, Option, Some, None, refl, sym, ap, subst, ◌∙◌, arith}
-use Rattle.std.specs.Prelude.{if◌then◌else◌, slice_get, unwrap_or}
+use Rattle.std.proofs.Common.{◌≡◌, inl, inr, ℕ, suc, ◌+◌, ◌-◌, Bool, true, false, not, nat_eq, ◌&&◌, ◌||◌, ◌==◌, List, length, Option, Some, None, refl, sym, ap, ◌∙◌, arith}
+use Rattle.std.specs.Prelude.{slice_get}
 use Rattle.std.specs.List.{list_any}
 use Rattle.std.specs.Option.{option_map, option_and_then}
 use Rattle.std.proofs.lemmas.Bool.{cases_lt, and_parts, and_from, eqb-true, eq-eqb}
 use Rattle.std.proofs.lemmas.Bool.Decides.{same_from_decides, Decides-eqb, Decides-like}
-use Rattle.il_base.specs.declared.ids.TypeId.{TypeId}
 use Rattle.world_model.specs.declared.expr.TypeExpr.{TypeExpr}
-use Rattle.world_model.specs.declared.types.TypeDefRow.{TypeDefRow}
 use Rattle.world_model.specs.declared.record.AsmRec.{AsmRec}
 use Rattle.world_model.specs.declared.world.TypeLink.{TypeLink}
 use Rattle.world_model.specs.Tokens.{token_of}
 use Rattle.world_model.specs.Worlds.{rows_before, types_in}
 use Rattle.core_table.specs.declared.tokens.TheConstants.{VALUE_TYPE, ENUM}
 use Rattle.link_rules.specs.declared.row_at.RowAt.{RowAt}
-use Rattle.link_rules.specs.Members.{base_in, base_at}
+use Rattle.link_rules.specs.Members.{base_at}
 use Rattle.link_rules.specs.Cycles.{listed, home_of, is_core_row_at, extends_core, is_value_type}
 use Rattle.link_rules.specs.Laws.{TellTokens}
 use Rattle.link_faults.specs.Targets.{id_of, target_of}
 use Rattle.link_faults.specs.Supertypes.{base_target}
-use Rattle.link_faults.specs.Values.{core_type, is_core_type, is_enum_itself, is_value, all_values}
+use Rattle.link_faults.specs.Values.{is_core_type, is_value, all_values}
 use Rattle.link_faults.proofs.Each.{Each}
 use Rattle.link_faults.proofs.Ids.{below_next, is_within}
 use Rattle.link_faults.proofs.Defined.{IsType, definition_each}

@@ -1,5 +1,5 @@
 -- What rows are known by, as lists of numbers, with the links of type tokens in place of the tables.
-use Rattle.std.specs.Prelude.{ℕ, suc, List, [], ◌∷◌, ◌++◌, length, map, Option, Some, None, if◌then◌else◌}
+use Rattle.std.specs.Prelude.{ℕ, suc, List, ◌∷◌, ◌++◌, length, map, Option, Some, None, if◌then◌else◌}
 use Rattle.std.specs.List.{flat_map, position_from}
 use Rattle.std.specs.Option.{option_map}
 use Rattle.il_base.specs.declared.sig.Sig.{Sig}
@@ -11,9 +11,7 @@ use Rattle.world_model.specs.declared.members.FieldRow.{FieldRow}
 use Rattle.world_model.specs.declared.members.MethodDefRow.{MethodDefRow}
 use Rattle.world_model.specs.declared.record.AsmRec.{AsmRec}
 use Rattle.world_model.specs.declared.world.TypeLink.{TypeLink}
-use Rattle.world_model.specs.declared.expr.TypeExpr.{TypeExpr}
 use Rattle.world_model.specs.Worlds.{known_then, all_known, sig_expr, names_by}
-use Rattle.link_rules.specs.declared.member_type.MethodType.{MethodType}
 use Rattle.link_rules.specs.Types.{encloser}
 use Rattle.link_rules.specs.Signatures.{method_type}
 use Rattle.link_rules.specs.Cycles.{listed}

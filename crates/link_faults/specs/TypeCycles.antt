@@ -9,6 +9,8 @@ use Rattle.link_rules.specs.Laws.{TellTokens, TellSignatures, TellMethods}
 use Rattle.link_faults.specs.Supertypes.{all_supers}
 use Rattle.link_faults.specs.Values.{all_values, all_held}
 use Rattle.link_faults.specs.declared.cycles.Graphs.{Graphs}
+use Rattle.link_faults.specs.declared.cycles.GraphLevels.{GraphLevels}
+use Rattle.link_faults.specs.Graphs.{AreLevels}
 
 -- what links tell
 pub record Tells (all : List AsmRec) (links : List TypeLink) : Type 0 where
@@ -20,6 +22,11 @@ pub record Tells (all : List AsmRec) (links : List TypeLink) : Type 0 where
 pub record AreGraphs (all : List AsmRec) (links : List TypeLink) (graphs : Graphs) : Type 0 where
   pub supers : graphs.supers.items ≡ all_supers all links
   pub held : graphs.held.items ≡ all_held all links (all_values all links)
+
+-- levels of both graphs
+pub record AreLeveled (graphs : Graphs) (levels : GraphLevels) : Type 0 where
+  pub supers : AreLevels levels.supers.items graphs.supers.items
+  pub held : AreLevels levels.held.items graphs.held.items
 
 -- there is a type in this row of this assembly
 abbrev pub HasType : List AsmRec → ℕ → ℕ → Type 0

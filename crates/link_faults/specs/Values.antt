@@ -1,5 +1,5 @@
 -- Value types in the fields of value types, by their ids, with the links of type tokens in place of the tables.
-use Rattle.std.specs.Prelude.{ℕ, suc, ◌+◌, ◌-◌, ◌/◌, ◌%◌, List, [], ◌∷◌, ◌++◌, length, Option, Some, None, slice_get, unwrap_or, nat_eq, ◌==◌, ◌&&◌, ◌||◌, Bool, true, false, not, if◌then◌else◌}
+use Rattle.std.specs.Prelude.{ℕ, suc, ◌-◌, List, [], ◌∷◌, ◌++◌, length, Option, Some, None, slice_get, unwrap_or, nat_eq, ◌&&◌, ◌||◌, Bool, false, not, if◌then◌else◌}
 use Rattle.std.specs.List.{flat_map}
 use Rattle.world_model.specs.declared.known.Known.{Known}
 use Rattle.il_base.specs.declared.ids.TypeId.{TypeId}

@@ -6,11 +6,11 @@ ghost use Rattle.link_rules.specs.Types.{at_row};
 ghost use Rattle.link_rules.specs.Faults.{first_of, is_cyclic_type, cyclic_type, cyclic_types};
 ghost use Rattle.link_rules.specs.Laws.{AreTypeLinks};
 ghost use Rattle.link_faults.specs.Graphs.{IsAcyclic};
-ghost use Rattle.link_faults.specs.TypeCycles.{Tells, AreGraphs, HasType, HasAssembly};
+ghost use Rattle.link_faults.specs.TypeCycles.{Tells, AreGraphs, AreLeveled, HasType, HasAssembly};
 
 use crate::found::row_fault;
-use crate::graph::is_on_cycle;
 use crate::held::all_held;
+use crate::levels::{is_on_cycle, levels_of};
 use crate::ranks::is_acyclic;
 use crate::scope::Scope;
 use crate::supertypes::all_supers;
@@ -28,6 +28,13 @@ struct Graphs {
     supers: Vec<Seq<u32>>,
     /// The value types in the instance fields of a value type.
     held: Vec<Seq<u32>>,
+}
+
+/// Levels of both graphs.
+#[derive(Drop)]
+struct GraphLevels {
+    supers: Vec<u32>,
+    held: Vec<u32>,
 }
 
 impl Graphs {
@@ -51,27 +58,43 @@ impl Graphs {
         is_acyclic(alloc, &self.held)
     }
 
+    fn levels(&self, alloc: Global) -> Result<GraphLevels, NoMemory>
+        ensures { IfOk result (λ levels. AreLeveled self.now levels) }
+    {
+        let supers = levels_of(alloc, &self.supers)?;
+        let held = levels_of(alloc, &self.held)?;
+        Ok(GraphLevels { supers, held })
+    }
+
     /// Whether the type in this row of an assembly is on a cycle.
     #[tactic(auto, unfolding(link_rules::specs::Faults::is_cyclic_type))]
     fn is_cyclic(
         &self,
         alloc: Global,
         scope: &Scope<'_>,
+        levels: &GraphLevels,
         file: usize,
         at: usize,
     ) -> Result<bool, NoMemory>
         requires told { Tells scope.now.all.now scope.now.links.now }
         requires graphs { AreGraphs scope.now.all.now scope.now.links.now self.now }
+        requires levels { AreLeveled self.now levels.now }
         requires there { HasType scope.now.all.now file at }
         ensures { IfOk result (λ yes. yes ≡ is_cyclic_type scope.now.all.now (at_row file at)) }
     {
         let Some(id) = type_id(scope.all, file, at) else {
             return Err(NoMemory);
         };
-        if is_on_cycle(alloc, &self.supers, scope.types, id.0)? {
+        if is_on_cycle(
+            alloc,
+            &self.supers,
+            levels.supers.as_slice(),
+            scope.types,
+            id.0,
+        )? {
             return Ok(true);
         }
-        is_on_cycle(alloc, &self.held, scope.types, id.0)
+        is_on_cycle(alloc, &self.held, levels.held.as_slice(), scope.types, id.0)
     }
 
     /// The first type of an assembly that is on a cycle, looked for one by one.
@@ -79,16 +102,18 @@ impl Graphs {
         &self,
         alloc: Global,
         scope: &Scope<'_>,
+        levels: &GraphLevels,
         file: usize,
         rec: &AsmRec,
     ) -> Result<Option<LinkError>, NoMemory>
         requires told { Tells scope.now.all.now scope.now.links.now }
         requires graphs { AreGraphs scope.now.all.now scope.now.links.now self.now }
+        requires levels { AreLeveled self.now levels.now }
         requires there { HasAssembly scope.now.all.now file rec.now }
         ensures { IfOk result (λ found. found ≡ first_of (cyclic_type scope.now.all.now file) 0 rec.now.type_def) }
     {
         for (at, _row) in rec.type_def.as_slice().iter().enumerate() {
-            if self.is_cyclic(alloc, scope, file, at)? {
+            if self.is_cyclic(alloc, scope, levels, file, at)? {
                 return Ok(Some(row_fault(file, 15, 0x02, at)?));
             }
         }
@@ -108,9 +133,10 @@ impl Graphs {
         requires inputs { inputs ≤ length scope.now.all.now }
         ensures { IfOk result (λ found. found ≡ cyclic_types scope.now.all.now (take inputs scope.now.all.now)) }
     {
+        let levels = self.levels(alloc)?;
         let recs = &scope.all[..inputs];
         for (file, rec) in recs.iter().enumerate() {
-            let found = self.first_cyclic_in(alloc, scope, file, rec)?;
+            let found = self.first_cyclic_in(alloc, scope, &levels, file, rec)?;
             if found.is_some() {
                 return Ok(found);
             }

@@ -1,9 +1,9 @@
 //! What a node of a graph leads to, step by step. A graph has a list for each node, counted from 0: the nodes that it leads to.
 
-ghost use Rattle.std.specs.Prelude.{◌≡◌, nat_eq, IfOk, OnOk};
+ghost use Rattle.std.specs.Prelude.{◌≡◌, ◌≤◌, [], ◌∷◌, ◌++◌, drop, length, nat_eq, IfOk, OnOk};
 ghost use Rattle.std.specs.List.{flat_map, list_any};
 ghost use Rattle.link_rules.specs.Cycles.{listed, add_new, add_all, led_to, is_on_cycle};
-ghost use Rattle.link_faults.specs.Graphs.{next_in};
+ghost use Rattle.link_faults.specs.Graphs.{next_in, marked, AreMarked};
 
 use il_base::{NoMemory, Seq};
 use std::alloc::Global;
@@ -36,18 +36,72 @@ fn is_among(nodes: &[u32], node: u32) -> bool
     nodes.iter().any(|other| node == *other)
 }
 
-/// Puts a node at the end, where it isn't among them.
-fn add_new(found: &mut Seq<u32>, node: u32) -> Result<(), NoMemory>
-    ensures { OnOk result (found.new ≡ add_new nat_eq found.old node) }
-{
-    if is_among(found.as_slice(), node) {
-        return Ok(());
-    }
-    found.push(node)
+/// Nodes that were found, and for each node of the graph whether it is among them.
+#[derive(Drop)]
+struct Found {
+    nodes: Seq<u32>,
+    marks: Vec<bool>,
 }
 
-fn add_all(found: &mut Seq<u32>, nodes: &[u32]) -> Result<(), NoMemory>
-    ensures { OnOk result (found.new ≡ add_all nat_eq found.old nodes.now) }
+/// No node of a graph of this many.
+fn none_found(alloc: Global, graph: usize) -> Result<Found, NoMemory>
+    ensures empty { IfOk result (λ found. found.nodes ≡ []) }
+    ensures marked { IfOk result (λ found. AreMarked found.marks.items found.nodes) }
+{
+    let marks = vec![in alloc; false; graph]?;
+    Ok(Found {
+        nodes: Seq::new(alloc),
+        marks,
+    })
+}
+
+/// Whether a node was found. One that isn't of the graph is looked for.
+fn was_found(marks: &[bool], nodes: &[u32], node: u32) -> bool
+    requires { AreMarked marks.now nodes.now }
+    ensures { result ≡ list_any (nat_eq node) nodes.now }
+{
+    if (node as usize) < marks.len() {
+        marks[node as usize]
+    } else {
+        is_among(nodes, node)
+    }
+}
+
+/// Marks a node of the graph.
+fn mark(marks: &mut [bool], node: u32)
+    ensures { marks.new ≡ marked marks.old node }
+{
+    if (node as usize) < marks.len() {
+        marks[node as usize] = true;
+    }
+}
+
+/// Puts a node at the end.
+fn put(found: &mut Found, node: u32) -> Result<(), NoMemory>
+    requires { AreMarked found.old.marks.items found.old.nodes }
+    ensures added { OnOk result (found.new.nodes ≡ found.old.nodes ++ node ∷ []) }
+    ensures marked { OnOk result (AreMarked found.new.marks.items found.new.nodes) }
+{
+    mark(&mut found.marks, node);
+    found.nodes.push(node)
+}
+
+/// Puts a node at the end, where it wasn't found before.
+fn add_new(found: &mut Found, node: u32) -> Result<(), NoMemory>
+    requires { AreMarked found.old.marks.items found.old.nodes }
+    ensures added { OnOk result (found.new.nodes ≡ add_new nat_eq found.old.nodes node) }
+    ensures marked { OnOk result (AreMarked found.new.marks.items found.new.nodes) }
+{
+    if was_found(&found.marks, found.nodes.as_slice(), node) {
+        return Ok(());
+    }
+    put(found, node)
+}
+
+fn add_all(found: &mut Found, nodes: &[u32]) -> Result<(), NoMemory>
+    requires { AreMarked found.old.marks.items found.old.nodes }
+    ensures added { OnOk result (found.new.nodes ≡ add_all nat_eq found.old.nodes nodes.now) }
+    ensures marked { OnOk result (AreMarked found.new.marks.items found.new.nodes) }
 {
     for node in nodes {
         add_new(found, *node)?;
@@ -66,31 +120,56 @@ fn led_by(alloc: Global, graph: &[Seq<u32>], nodes: &[u32]) -> Result<Seq<u32>, 
     Ok(led)
 }
 
-/// What some nodes lead to in at most `steps` steps, themselves among it. It ends as soon as a step finds nothing new.
-#[tactic(auto, unfolding(link_rules::specs::Cycles::led_to))]
-fn led_to(
+/// Puts what the nodes from a place on lead to at the end, where it wasn't found before.
+fn add_round(
     alloc: Global,
     graph: &[Seq<u32>],
-    steps: usize,
-    nodes: &[u32],
-) -> Result<Seq<u32>, NoMemory>
-    ensures { IfOk result (λ found. found ≡ led_to nat_eq (next_in graph.now) steps nodes.now) }
+    found: &mut Found,
+    start: usize,
+) -> Result<(), NoMemory>
+    requires marked { AreMarked found.old.marks.items found.old.nodes }
+    requires start { start ≤ length found.old.nodes }
+    ensures added { OnOk result (found.new.nodes ≡ add_all nat_eq found.old.nodes (flat_map (next_in graph.now) (drop start found.old.nodes))) }
+    ensures marked { OnOk result (AreMarked found.new.marks.items found.new.nodes) }
 {
-    let mut found = Seq::from_slice(alloc, nodes)?;
+    let led = led_by(alloc, graph, &found.nodes.as_slice()[start..])?;
+    add_all(found, led.as_slice())
+}
+
+/// These nodes as they are.
+fn found_first(alloc: Global, graph: usize, nodes: &[u32]) -> Result<Found, NoMemory>
+    ensures added { IfOk result (λ found. found.nodes ≡ nodes.now) }
+    ensures marked { IfOk result (λ found. AreMarked found.marks.items found.nodes) }
+{
+    let mut found = none_found(alloc, graph)?;
+    for node in nodes {
+        put(&mut found, *node)?;
+    }
+    Ok(found)
+}
+
+/// What some nodes lead to in at most `steps` steps, themselves among it. A step looks only at the nodes that the last one
+/// found, and the search ends as soon as a step finds nothing new.
+fn led_to(alloc: Global, graph: &[Seq<u32>], steps: usize, nodes: &[u32]) -> Result<Found, NoMemory>
+    ensures found { IfOk result (λ found. found.nodes ≡ led_to nat_eq (next_in graph.now) steps nodes.now) }
+    ensures marked { IfOk result (λ found. AreMarked found.marks.items found.nodes) }
+{
+    let mut found = found_first(alloc, graph.len(), nodes)?;
+    let mut looked_at = 0;
     for step in 0..steps {
-        let before = found.len();
-        let led = led_by(alloc, graph, found.as_slice())?;
-        add_all(&mut found, led.as_slice())?;
-        if found.len() == before {
+        let before = found.nodes.len();
+        add_round(alloc, graph, &mut found, looked_at)?;
+        if found.nodes.len() == before {
             return Ok(found);
         }
+        looked_at = before;
     }
     Ok(found)
 }
 
 /// Whether a node leads to itself over at most `steps` further nodes.
 #[tactic(auto, unfolding(link_rules::specs::Cycles::is_on_cycle))]
-pub(crate) fn is_on_cycle(
+pub(crate) fn leads_to_itself(
     alloc: Global,
     graph: &[Seq<u32>],
     steps: usize,
@@ -99,5 +178,5 @@ pub(crate) fn is_on_cycle(
     ensures { IfOk result (λ yes. yes ≡ is_on_cycle nat_eq (next_in graph.now) steps node) }
 {
     let found = led_to(alloc, graph, steps, next_in(graph, node))?;
-    Ok(is_among(found.as_slice(), node))
+    Ok(was_found(&found.marks, found.nodes.as_slice(), node))
 }

@@ -9,6 +9,7 @@ mod first;
 mod found;
 mod graph;
 mod held;
+mod levels;
 mod member_keys;
 mod names;
 mod nesting;

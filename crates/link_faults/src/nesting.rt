@@ -5,11 +5,12 @@ ghost use Rattle.link_rules.specs.Faults.{first_of, is_cyclic_around, cyclic_nes
 ghost use Rattle.link_rules.specs.Types.{encloser};
 ghost use Rattle.link_rules.specs.Cycles.{listed};
 ghost use Rattle.world_model.specs.Tokens.{index_in};
-ghost use Rattle.link_faults.specs.Graphs.{next_in};
+ghost use Rattle.link_faults.specs.Graphs.{next_in, AreLevels};
 ghost use Rattle.link_faults.specs.Nesting.{IsAround};
 
 use crate::found::row_fault;
-use crate::graph::{is_on_cycle, list_of, next_in};
+use crate::graph::{list_of, next_in};
+use crate::levels::{is_on_cycle, levels_of};
 use crate::ranks::is_acyclic;
 use il_base::{NoMemory, Seq};
 use link_rules::LinkError;
@@ -96,14 +97,16 @@ fn is_cyclic_around(
     alloc: Global,
     rec: &AsmRec,
     graph: &[Seq<u32>],
+    levels: &[u32],
     row: &NestedClassRow,
 ) -> Result<bool, NoMemory>
-    requires { IsAround rec.now.nested_class graph.now }
+    requires around { IsAround rec.now.nested_class graph.now }
+    requires levels { AreLevels levels.now graph.now }
     ensures { IfOk result (λ yes. yes ≡ is_cyclic_around rec.now (index_in 0x02 row.now.nested_class)) }
 {
     match index_in(0x02, row.nested_class) {
         None => Ok(false),
-        Some(nested) => is_on_cycle(alloc, graph, rec.type_def.len(), nested),
+        Some(nested) => is_on_cycle(alloc, graph, levels, rec.type_def.len(), nested),
     }
 }
 
@@ -113,12 +116,14 @@ fn cyclic_row(
     file: usize,
     rec: &AsmRec,
     graph: &[Seq<u32>],
+    levels: &[u32],
 ) -> Result<Option<LinkError>, NoMemory>
-    requires { IsAround rec.now.nested_class graph.now }
+    requires around { IsAround rec.now.nested_class graph.now }
+    requires levels { AreLevels levels.now graph.now }
     ensures { IfOk result (λ found. found ≡ first_of (cyclic_nesting_row rec.now file) 0 rec.now.nested_class) }
 {
     for (at, row) in rec.nested_class.as_slice().iter().enumerate() {
-        if is_cyclic_around(alloc, rec, graph, row)? {
+        if is_cyclic_around(alloc, rec, graph, levels, row)? {
             return Ok(Some(row_fault(file, 16, 0x29, at)?));
         }
     }
@@ -137,7 +142,8 @@ fn cyclic_nesting_in(
     if is_acyclic(alloc, &graph)? {
         return Ok(None);
     }
-    cyclic_row(alloc, file, rec, &graph)
+    let levels = levels_of(alloc, &graph)?;
+    cyclic_row(alloc, file, rec, &graph, &levels)
 }
 
 /// The first row of NestedClass (II.22.32) whose encloser is on a cycle, assembly by assembly.

@@ -76,7 +76,7 @@ fn ranks(alloc: Global, graph: &[Seq<u32>]) -> Result<Vec<u32>, NoMemory> {
 }
 
 /// The rank of a node; 0 where there is no such node.
-fn rank_of(ranks: &[u32], node: usize) -> u32
+pub(crate) fn rank_of(ranks: &[u32], node: usize) -> u32
     ensures { result ≡ rank_of ranks.now node }
 {
     match ranks.get(node) {
@@ -86,7 +86,7 @@ fn rank_of(ranks: &[u32], node: usize) -> u32
 }
 
 /// Whether all of these nodes have smaller ranks.
-fn are_lower(ranks: &[u32], rank: u32, nodes: &[u32]) -> bool
+pub(crate) fn are_lower(ranks: &[u32], rank: u32, nodes: &[u32]) -> bool
     ensures { result ≡ list_all (is_lower ranks.now rank) nodes.now }
 {
     nodes

@@ -1,6 +1,5 @@
 use Rattle.std.proofs.Common.{◌≡◌, ◌++◌, drop}
 use Rattle.std.specs.List.{flat_map}
-use Rattle.link_rules.specs.Members.{run_of}
 use Rattle.link_faults.specs.Values.{held_in_field}
 use Rattle.link_faults.proofs.held.held_by.Given as goal
 

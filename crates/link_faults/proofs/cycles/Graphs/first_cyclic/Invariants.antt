@@ -1,4 +1,4 @@
-use Rattle.std.proofs.Common.{◌≡◌, drop, take}
+use Rattle.std.proofs.Common.{◌≡◌, drop}
 use Rattle.world_model.specs.declared.record.AsmRec.{AsmRec}
 use Rattle.link_rules.specs.Faults.{first_of, cyclic_type, cyclic_types}
 use Rattle.link_faults.proofs.cycles.Graphs.first_cyclic.Given as goal

@@ -1,4 +1,3 @@
-use Rattle.std.proofs.Common.{sym, ◌∙◌}
 use Rattle.std.proofs.lemmas.Result.{IfOk-weaker}
 use Rattle.link_faults.proofs.OnCycles.{cyclic_first, cyclic_second}
 use Rattle.link_faults.proofs.cycles.Graphs.is_cyclic.Goals as goal
