@@ -9,6 +9,7 @@
     files.py needed OUT           that file with the methods alone that the entry needs
     files.py body N OUT           a thin file whose entry is a `ret` and behind it N instructions that are never run
     files.py large OUT            an assembly of about 4 MB with about half a million instructions in 16000 methods
+    files.py shared OUT           200000 rows of one signature of 1 MiB and 50000 methods of one body of 100 kB, both bad at their ends
 
 The same words give the same bytes each time.
 """
@@ -345,7 +346,21 @@ def large():
     return image(bodies, metadata, 0x06000001)
 
 
-FILES = {f.__name__: f for f in (hello, uncalled, mixed, mixed_left, thin, needed, large)}
+def shared():
+    metadata, bodies = begin("Shared"), Bodies()
+    metadata.row(0x02, CLASS, "Program", "", (0x01, 1), 1, 1)
+    count = 1 << 20
+    locals_of = b"\x07" + compressed(count) + bytes([INT]) * (count - 1) + b"\0"  # no type begins with 0
+    for _ in range(200000):
+        metadata.row(0x11, locals_of)
+    rva = bodies.add(fat(b"\0" * 100000 + b"\x24"))  # no instruction has the opcode 24
+    for k in range(50000):
+        metadata.row(0x06, rva, 0, STATIC, "Method%d" % k, static_signature(VOID), 1)
+    end(metadata, "Shared")
+    return image(bodies, metadata, 0x06000001)
+
+
+FILES = {f.__name__: f for f in (hello, uncalled, mixed, mixed_left, thin, needed, large, shared)}
 
 
 def main(words):

@@ -4,3 +4,4 @@ pub mod Fits
 pub mod Marks
 pub mod Units
 pub mod First
+pub mod Kept

@@ -3,8 +3,10 @@
 ghost use Rattle.std.specs.Prelude.{◌≡◌, ◌<◌, ◌^◌, IfOk, Some, length};
 ghost use Rattle.body_grammar.specs.Bodies.{body_at, header_at};
 ghost use Rattle.record_format.specs.Parts as parts;
+ghost use Rattle.world_reader.specs.Faults.{OfBodies};
 
 use crate::assembly::Assembly;
+use crate::faults::{Fault, Faults};
 use body_grammar::{BODY, Header};
 use il_base::{Body, NoMemory};
 use il_code::{BodyError, ReadBody, read_body, read_header};
@@ -61,9 +63,9 @@ fn body_in(alloc: Global, bytes: &[u8]) -> Result<FoundBody, NoMemory>
     }
 }
 
-/// The body at an address.
+/// The body at an address, which is read.
 #[tactic(auto, unfolding(record_format::specs::Parts::body_by, record_format::specs::Parts::bad_offset))]
-pub fn body_by(alloc: Global, file: &Assembly, rva: u32) -> Result<FoundBody, NoMemory>
+fn body_by(alloc: Global, file: &Assembly, rva: u32) -> Result<FoundBody, NoMemory>
     ensures { IfOk result (λ f. (f.body ≡ parts.body_by file.now rva) × (f.bad_at ≡ parts.bad_offset file.now rva)) }
 {
     if rva == 0 {
@@ -79,4 +81,32 @@ pub fn body_by(alloc: Global, file: &Assembly, rva: u32) -> Result<FoundBody, No
             bad_at: 0,
         }),
     }
+}
+
+/// The body at an address. One whose fault is known isn't read again.
+#[tactic(auto)]
+pub fn body_of(
+    alloc: Global,
+    file: &Assembly,
+    faults: &mut Faults,
+    rva: u32,
+) -> Result<FoundBody, NoMemory>
+    requires { OfBodies file.now faults.old }
+    ensures { IfOk result (λ f. (f.body ≡ parts.body_by file.now rva) × (f.bad_at ≡ parts.bad_offset file.now rva) × OfBodies file.now faults.new) }
+{
+    if let Some(fault) = faults.get(rva) {
+        return Ok(FoundBody {
+            body: Some(Known::Bad(fault.why)),
+            bad_at: fault.at,
+        });
+    }
+    let found = body_by(alloc, file, rva)?;
+    if let Some(Known::Bad(why)) = &found.body {
+        let fault = Fault {
+            why: *why,
+            at: found.bad_at,
+        };
+        faults.put(rva, fault)?;
+    }
+    Ok(found)
 }

@@ -2,32 +2,50 @@
 #![tactic(auto, unfolding(cli_format::specs::Tables::column_of, cli_format::specs::Columns::columns_of, cli_format::specs::Columns::schema, record_format::specs::Members::field_row, record_format::specs::Members::method_def_row, record_format::specs::Members::param_row, record_format::specs::Members::member_ref_row, record_format::specs::Members::stand_alone_sig_row, record_format::specs::Members::event_map_row, record_format::specs::Members::event_row, record_format::specs::Members::property_map_row, record_format::specs::Members::property_row, record_format::specs::Members::method_semantics_row, record_format::specs::Members::method_impl_row, record_format::specs::Members::method_spec_row))]
 
 ghost use Rattle.cli_format.specs.Image.{metadata_of};
+ghost use Rattle.blob_grammar.specs.Reading.{field_of_blob, method_of_blob, property_of_blob, locals_of_blob, instance_of_blob};
+ghost use Rattle.record_format.specs.Parts.{known_of, member_of_blob};
 ghost use Rattle.record_format.specs.Members.{field_row, method_def_row, param_row, member_ref_row, stand_alone_sig_row, event_map_row, event_row, property_map_row, property_row, method_semantics_row, method_impl_row, method_spec_row};
 
 use crate::assembly::Assembly;
-use crate::bodies::{FoundBody, body_by};
+use crate::bodies::{FoundBody, body_of};
+use crate::faults::Met;
 use crate::parts::{known, member_signature};
 use crate::row::Row;
-use il_base::NoMemory;
+use crate::signatures::{HasSignature, SignatureRow, signature_of};
+use il_base::{MethodSig, NoMemory, Seq, Sig};
 use sig_blobs::{read_field, read_instance, read_locals, read_method, read_property};
 use std::alloc::Global;
 use world_model::{
-    EventMapRow, EventRow, FieldRow, MemberRefRow, MethodDefRow, MethodImplRow, MethodSemanticsRow,
-    MethodSpecRow, ParamRow, PropertyMapRow, PropertyRow, StandAloneSigRow,
+    EventMapRow, EventRow, FieldRow, Known, MemberRefRow, MemberSig, MethodDefRow, MethodImplRow,
+    MethodSemanticsRow, MethodSpecRow, ParamRow, PropertyMapRow, PropertyRow, StandAloneSigRow,
 };
 
 /// Field (II.22.15).
-impl Row for FieldRow {
+impl HasSignature for FieldRow {
     const TABLE: u8 = 0x04;
+
+    const COLUMN: usize = 2;
+
+    type Signature = Sig;
 
     ghost TABLE = { 0x04 };
 
+    ghost COLUMN = { 2 };
+
+    ghost of_blob = { λ b. known_of (field_of_blob b) };
+
+    fn read_signature(alloc: Global, blob: &[u8]) -> Result<Known<Sig>, NoMemory> {
+        known(read_field(alloc, blob))
+    }
+}
+
+impl SignatureRow for FieldRow {
     ghost row_of = { λ bs r. field_row (metadata_of bs) r };
 
-    fn read(alloc: Global, file: &Assembly, row: u32) -> Result<FieldRow, NoMemory> {
+    fn read(alloc: Global, file: &Assembly, met: &mut Met, row: u32) -> Result<FieldRow, NoMemory> {
         let flags = file.half(0x04, 0, row);
         let name = file.text(alloc, 0x04, 1, row)?;
-        let signature = known(read_field(alloc, file.blob(0x04, 2, row)))?;
+        let signature = signature_of::<FieldRow>(alloc, file, &mut met.signatures, row)?;
         Ok(FieldRow {
             flags,
             name,
@@ -37,22 +55,41 @@ impl Row for FieldRow {
 }
 
 /// MethodDef (II.22.26).
-impl Row for MethodDefRow {
+impl HasSignature for MethodDefRow {
     const TABLE: u8 = 0x06;
+
+    const COLUMN: usize = 4;
+
+    type Signature = MethodSig;
 
     ghost TABLE = { 0x06 };
 
+    ghost COLUMN = { 4 };
+
+    ghost of_blob = { λ b. known_of (method_of_blob b) };
+
+    fn read_signature(alloc: Global, blob: &[u8]) -> Result<Known<MethodSig>, NoMemory> {
+        known(read_method(alloc, blob))
+    }
+}
+
+impl SignatureRow for MethodDefRow {
     ghost row_of = { λ bs r. method_def_row bs (metadata_of bs) r };
 
-    fn read(alloc: Global, file: &Assembly, row: u32) -> Result<MethodDefRow, NoMemory> {
+    fn read(
+        alloc: Global,
+        file: &Assembly,
+        met: &mut Met,
+        row: u32,
+    ) -> Result<MethodDefRow, NoMemory> {
         let rva = file.word(0x06, 0, row);
         let impl_flags = file.half(0x06, 1, row);
         let flags = file.half(0x06, 2, row);
         let name = file.text(alloc, 0x06, 3, row)?;
-        let signature = known(read_method(alloc, file.blob(0x06, 4, row)))?;
+        let signature = signature_of::<MethodDefRow>(alloc, file, &mut met.signatures, row)?;
         let param_list_first = file.word(0x06, 5, row);
         let param_list_end = file.run_end(0x06, 5, 0x08, row);
-        let FoundBody { body, bad_at } = body_by(alloc, file, rva)?;
+        let FoundBody { body, bad_at } = body_of(alloc, file, &mut met.bodies, rva)?;
         Ok(MethodDefRow {
             rva,
             impl_flags,
@@ -88,17 +125,36 @@ impl Row for ParamRow {
 }
 
 /// MemberRef (II.22.25).
-impl Row for MemberRefRow {
+impl HasSignature for MemberRefRow {
     const TABLE: u8 = 0x0a;
+
+    const COLUMN: usize = 2;
+
+    type Signature = MemberSig;
 
     ghost TABLE = { 0x0a };
 
+    ghost COLUMN = { 2 };
+
+    ghost of_blob = { member_of_blob };
+
+    fn read_signature(alloc: Global, blob: &[u8]) -> Result<Known<MemberSig>, NoMemory> {
+        member_signature(alloc, blob)
+    }
+}
+
+impl SignatureRow for MemberRefRow {
     ghost row_of = { λ bs r. member_ref_row (metadata_of bs) r };
 
-    fn read(alloc: Global, file: &Assembly, row: u32) -> Result<MemberRefRow, NoMemory> {
+    fn read(
+        alloc: Global,
+        file: &Assembly,
+        met: &mut Met,
+        row: u32,
+    ) -> Result<MemberRefRow, NoMemory> {
         let class = file.token(0x0a, 0, row);
         let name = file.text(alloc, 0x0a, 1, row)?;
-        let signature = member_signature(alloc, file.blob(0x0a, 2, row))?;
+        let signature = signature_of::<MemberRefRow>(alloc, file, &mut met.signatures, row)?;
         Ok(MemberRefRow {
             class,
             name,
@@ -108,15 +164,34 @@ impl Row for MemberRefRow {
 }
 
 /// StandAloneSig (II.22.36).
-impl Row for StandAloneSigRow {
+impl HasSignature for StandAloneSigRow {
     const TABLE: u8 = 0x11;
+
+    const COLUMN: usize = 0;
+
+    type Signature = Seq<Sig>;
 
     ghost TABLE = { 0x11 };
 
+    ghost COLUMN = { 0 };
+
+    ghost of_blob = { λ b. known_of (locals_of_blob b) };
+
+    fn read_signature(alloc: Global, blob: &[u8]) -> Result<Known<Seq<Sig>>, NoMemory> {
+        known(read_locals(alloc, blob))
+    }
+}
+
+impl SignatureRow for StandAloneSigRow {
     ghost row_of = { λ bs r. stand_alone_sig_row (metadata_of bs) r };
 
-    fn read(alloc: Global, file: &Assembly, row: u32) -> Result<StandAloneSigRow, NoMemory> {
-        let signature = known(read_locals(alloc, file.blob(0x11, 0, row)))?;
+    fn read(
+        alloc: Global,
+        file: &Assembly,
+        met: &mut Met,
+        row: u32,
+    ) -> Result<StandAloneSigRow, NoMemory> {
+        let signature = signature_of::<StandAloneSigRow>(alloc, file, &mut met.signatures, row)?;
         Ok(StandAloneSigRow { signature })
     }
 }
@@ -182,17 +257,36 @@ impl Row for PropertyMapRow {
 }
 
 /// Property (II.22.34).
-impl Row for PropertyRow {
+impl HasSignature for PropertyRow {
     const TABLE: u8 = 0x17;
+
+    const COLUMN: usize = 2;
+
+    type Signature = MethodSig;
 
     ghost TABLE = { 0x17 };
 
+    ghost COLUMN = { 2 };
+
+    ghost of_blob = { λ b. known_of (property_of_blob b) };
+
+    fn read_signature(alloc: Global, blob: &[u8]) -> Result<Known<MethodSig>, NoMemory> {
+        known(read_property(alloc, blob))
+    }
+}
+
+impl SignatureRow for PropertyRow {
     ghost row_of = { λ bs r. property_row (metadata_of bs) r };
 
-    fn read(alloc: Global, file: &Assembly, row: u32) -> Result<PropertyRow, NoMemory> {
+    fn read(
+        alloc: Global,
+        file: &Assembly,
+        met: &mut Met,
+        row: u32,
+    ) -> Result<PropertyRow, NoMemory> {
         let flags = file.half(0x17, 0, row);
         let name = file.text(alloc, 0x17, 1, row)?;
-        let signature = known(read_property(alloc, file.blob(0x17, 2, row)))?;
+        let signature = signature_of::<PropertyRow>(alloc, file, &mut met.signatures, row)?;
         Ok(PropertyRow {
             flags,
             name,
@@ -242,16 +336,35 @@ impl Row for MethodImplRow {
 }
 
 /// MethodSpec (II.22.29).
-impl Row for MethodSpecRow {
+impl HasSignature for MethodSpecRow {
     const TABLE: u8 = 0x2b;
+
+    const COLUMN: usize = 1;
+
+    type Signature = Seq<Sig>;
 
     ghost TABLE = { 0x2b };
 
+    ghost COLUMN = { 1 };
+
+    ghost of_blob = { λ b. known_of (instance_of_blob b) };
+
+    fn read_signature(alloc: Global, blob: &[u8]) -> Result<Known<Seq<Sig>>, NoMemory> {
+        known(read_instance(alloc, blob))
+    }
+}
+
+impl SignatureRow for MethodSpecRow {
     ghost row_of = { λ bs r. method_spec_row (metadata_of bs) r };
 
-    fn read(alloc: Global, file: &Assembly, row: u32) -> Result<MethodSpecRow, NoMemory> {
+    fn read(
+        alloc: Global,
+        file: &Assembly,
+        met: &mut Met,
+        row: u32,
+    ) -> Result<MethodSpecRow, NoMemory> {
         let method = file.token(0x2b, 0, row);
-        let instantiation = known(read_instance(alloc, file.blob(0x2b, 1, row)))?;
+        let instantiation = signature_of::<MethodSpecRow>(alloc, file, &mut met.signatures, row)?;
         Ok(MethodSpecRow {
             method,
             instantiation,

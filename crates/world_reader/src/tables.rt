@@ -8,6 +8,7 @@ use crate::descriptor::descriptor_of;
 use crate::field_data::field_rva_rows;
 use crate::layouts::Layouts;
 use crate::row::all_rows;
+use crate::signatures::signature_rows;
 use crate::user_texts::texts_of;
 use il_base::{NoMemory, Seq, Text};
 use std::alloc::Global;
@@ -158,7 +159,7 @@ fn type_tables(alloc: Global, file: &Assembly) -> Result<TypeTables, NoMemory>
     let type_ref = all_rows(alloc, file)?;
     let type_def = all_rows(alloc, file)?;
     let interface_impl = all_rows(alloc, file)?;
-    let type_spec = all_rows(alloc, file)?;
+    let type_spec = signature_rows(alloc, file)?;
     let nested_class = all_rows(alloc, file)?;
     let generic_param = all_rows(alloc, file)?;
     let generic_param_constraint = all_rows(alloc, file)?;
@@ -178,7 +179,7 @@ fn type_tables(alloc: Global, file: &Assembly) -> Result<TypeTables, NoMemory>
 fn field_tables(alloc: Global, file: &Assembly) -> Result<FieldTables, NoMemory>
     ensures { IfOk result (λ t. t ≡ tables.field_tables file.now) }
 {
-    let field = all_rows(alloc, file)?;
+    let field = signature_rows(alloc, file)?;
     let layouts = Layouts::of(alloc, all_rows(alloc, file)?)?;
     let field_rva = field_rva_rows(alloc, file, &layouts, field.as_slice())?;
     let field_layout = all_rows(alloc, file)?;
@@ -197,11 +198,11 @@ fn field_tables(alloc: Global, file: &Assembly) -> Result<FieldTables, NoMemory>
 fn method_tables(alloc: Global, file: &Assembly) -> Result<MethodTables, NoMemory>
     ensures { IfOk result (λ t. t ≡ tables.method_tables file.now) }
 {
-    let method_def = all_rows(alloc, file)?;
+    let method_def = signature_rows(alloc, file)?;
     let param = all_rows(alloc, file)?;
     let method_impl = all_rows(alloc, file)?;
-    let method_spec = all_rows(alloc, file)?;
-    let stand_alone_sig = all_rows(alloc, file)?;
+    let method_spec = signature_rows(alloc, file)?;
+    let stand_alone_sig = signature_rows(alloc, file)?;
     let user = texts_of(alloc, file, method_def.as_slice())?;
     Ok(MethodTables {
         method_def,
@@ -221,7 +222,7 @@ fn property_tables(alloc: Global, file: &Assembly) -> Result<PropertyTables, NoM
     let event_map = all_rows(alloc, file)?;
     let event = all_rows(alloc, file)?;
     let property_map = all_rows(alloc, file)?;
-    let property = all_rows(alloc, file)?;
+    let property = signature_rows(alloc, file)?;
     let method_semantics = all_rows(alloc, file)?;
     Ok(PropertyTables {
         event_map,
@@ -237,7 +238,7 @@ fn property_tables(alloc: Global, file: &Assembly) -> Result<PropertyTables, NoM
 fn extra_tables(alloc: Global, file: &Assembly) -> Result<ExtraTables, NoMemory>
     ensures { IfOk result (λ t. t ≡ tables.extra_tables file.now) }
 {
-    let member_ref = all_rows(alloc, file)?;
+    let member_ref = signature_rows(alloc, file)?;
     let constant = all_rows(alloc, file)?;
     let custom_attribute = all_rows(alloc, file)?;
     let decl_security = all_rows(alloc, file)?;

@@ -2,17 +2,21 @@
 #![tactic(auto, unfolding(cli_format::specs::Tables::column_of, cli_format::specs::Columns::columns_of, cli_format::specs::Columns::schema, record_format::specs::Types::type_ref_row, record_format::specs::Types::type_def_row, record_format::specs::Types::interface_impl_row, record_format::specs::Types::class_layout_row, record_format::specs::Types::type_spec_row, record_format::specs::Types::nested_class_row, record_format::specs::Types::generic_param_row, record_format::specs::Types::generic_param_constraint_row))]
 
 ghost use Rattle.cli_format.specs.Image.{metadata_of};
+ghost use Rattle.blob_grammar.specs.Reading.{type_of_blob};
+ghost use Rattle.record_format.specs.Parts.{known_of};
 ghost use Rattle.record_format.specs.Types.{type_ref_row, type_def_row, interface_impl_row, class_layout_row, type_spec_row, nested_class_row, generic_param_row, generic_param_constraint_row};
 
 use crate::assembly::Assembly;
+use crate::faults::Met;
 use crate::parts::known;
 use crate::row::Row;
-use il_base::NoMemory;
+use crate::signatures::{HasSignature, SignatureRow, signature_of};
+use il_base::{NoMemory, Sig};
 use sig_blobs::read_type;
 use std::alloc::Global;
 use world_model::{
-    ClassLayoutRow, GenericParamConstraintRow, GenericParamRow, InterfaceImplRow, NestedClassRow,
-    TypeDefRow, TypeRefRow, TypeSpecRow,
+    ClassLayoutRow, GenericParamConstraintRow, GenericParamRow, InterfaceImplRow, Known,
+    NestedClassRow, TypeDefRow, TypeRefRow, TypeSpecRow,
 };
 
 /// TypeRef (II.22.38).
@@ -101,15 +105,34 @@ impl Row for ClassLayoutRow {
 }
 
 /// TypeSpec (II.22.39).
-impl Row for TypeSpecRow {
+impl HasSignature for TypeSpecRow {
     const TABLE: u8 = 0x1b;
+
+    const COLUMN: usize = 0;
+
+    type Signature = Sig;
 
     ghost TABLE = { 0x1b };
 
+    ghost COLUMN = { 0 };
+
+    ghost of_blob = { λ b. known_of (type_of_blob b) };
+
+    fn read_signature(alloc: Global, blob: &[u8]) -> Result<Known<Sig>, NoMemory> {
+        known(read_type(alloc, blob))
+    }
+}
+
+impl SignatureRow for TypeSpecRow {
     ghost row_of = { λ bs r. type_spec_row (metadata_of bs) r };
 
-    fn read(alloc: Global, file: &Assembly, row: u32) -> Result<TypeSpecRow, NoMemory> {
-        let signature = known(read_type(alloc, file.blob(0x1b, 0, row)))?;
+    fn read(
+        alloc: Global,
+        file: &Assembly,
+        met: &mut Met,
+        row: u32,
+    ) -> Result<TypeSpecRow, NoMemory> {
+        let signature = signature_of::<TypeSpecRow>(alloc, file, &mut met.signatures, row)?;
         Ok(TypeSpecRow { signature })
     }
 }
