@@ -87,7 +87,7 @@ class Checks:
         return self.here.folder
 
     def copies(self):
-        for length in range(1, len(self.example)):
+        for length in range(len(self.example)):
             yield "cut to %d" % length, self.example[:length], length
         for at in range(len(self.example)):
             for value in (0x00, 0xFF):

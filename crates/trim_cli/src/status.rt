@@ -12,7 +12,8 @@ pub enum Status {
     /// The words aren't a command's: the place of the first bad word, counted from 0, or the number of words where one
     /// is missing.
     BadWords { place: u32 },
-    /// A file, counted from 0, has no record: the first demand of II.22 to II.25 that fails, at its offset.
+    /// A file, counted from 0, has no record: the first demand of II.22 to II.25 that fails, at its offset. Or it doesn't
+    /// link: 0 for an assembly that is there twice, else the offset of the row.
     BadFile { file: u32, at: BadAt },
     /// An operand of a method that `trim` keeps names nothing.
     Unresolved { place: Place },

@@ -3,6 +3,7 @@ use il_base::{NoMemory, Seq};
 use il_outside::{Folder, MemFolder, MemSink, MemSource, NamedFile};
 use std::alloc::{AllocError, Global};
 use std::test::*;
+use trim_core::{EndKind, exec, trim};
 
 /// Puts a part at a place, behind zeros.
 fn put(bytes: &mut Vec<u8>, at: usize, part: &[u8]) -> Result<(), AllocError> {
@@ -272,5 +273,28 @@ fn a_file_without_leftovers_trims_to_itself(rt: HostRuntime) -> Result<(), Fail>
         b"bad words 2\n",
     );
     assert!(rt; missing.ok().ok_or("memory")?);
+    Ok(())
+}
+
+/// Whether `exec` and `trim` of the bytes of `hello.exe` alone give what it prints, how it ends, and itself.
+fn calls_answer(alloc: Global) -> Result<bool, NoMemory> {
+    let mut files = Seq::new(alloc);
+    files.push(Seq::from_vec(hello(alloc)?))?;
+    let printed = match exec(alloc, &files, &[], 1000) {
+        Err(_) => false,
+        Ok(ending) => ending.output.as_slice() == b"Hi\n".as_slice()
+            && ending.end == EndKind::Ended { code: 0 },
+    };
+    let whole = hello(alloc)?;
+    match trim(alloc, &files) {
+        Err(_) => Ok(false),
+        Ok(trimmed) => Ok(printed && trimmed.bytes.as_slice() == whole.as_slice()),
+    }
+}
+
+#[test]
+fn the_calls_of_the_core_answer(rt: HostRuntime) -> Result<(), Fail> {
+    let both = calls_answer(rt.alloc());
+    assert!(rt; both.ok().ok_or("memory")?);
     Ok(())
 }

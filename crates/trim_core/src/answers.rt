@@ -3,7 +3,8 @@ use il_base::{BadAt, NoMemory, Place, Text};
 /// Why a call gave no result. Files are counted from 0.
 #[derive(Clone, Copy, Debug, PartialEq, Eq)]
 pub enum Refusal {
-    /// The file has no record: the first demand of II.22 to II.25 that fails, at its offset in the file.
+    /// The file has no record: the first demand of II.22 to II.25 that fails, at its offset in the file. Or it doesn't link:
+    /// the first demand of linking that fails, at 0 for an assembly that is there twice, else at the offset of the row.
     BadFile { file: u32, at: BadAt },
     /// More than a limit allows. Limit 2: a file has at most 67108864 bytes. Limit 5: a table has at most 1048576 rows.
     /// Limit 7: a file that is written has at most 268435456 bytes, and its `#US` at most 16777216. `found` is the number above it.
