@@ -7,6 +7,7 @@
     files.py mixed_left OUT       what a trim leaves of it
     files.py thin OUT             a thin file of about 1 MiB with 2047 methods, of which the entry needs every other one
     files.py needed OUT           that file with the methods alone that the entry needs
+    files.py text N OUT           the example with a text of N letters
     files.py body N OUT           a thin file whose entry is a `ret` and behind it N instructions that are never run
     files.py large OUT            an assembly of about 4 MB with about half a million instructions in 16000 methods
     files.py shared OUT           200000 rows of one signature of 1 MiB and 50000 methods of one body of 100 kB, both bad at their ends
@@ -75,6 +76,10 @@ HELLO = ("Main", lambda metadata: load_text(metadata, "Hi") + PRINT_TEXT + b"\x2
 
 def hello():
     return small_program([HELLO])
+
+
+def text(count):
+    return small_program([("Main", lambda metadata: load_text(metadata, "A" * count) + PRINT_TEXT + b"\x2a")])
 
 
 def uncalled():
@@ -364,8 +369,8 @@ FILES = {f.__name__: f for f in (hello, uncalled, mixed, mixed_left, thin, neede
 
 
 def main(words):
-    if words[:1] == ["body"] and len(words) == 3:
-        data = body(int(words[1]))
+    if words[:1] in (["body"], ["text"]) and len(words) == 3:
+        data = {"body": body, "text": text}[words[0]](int(words[1]))
     elif len(words) == 2 and words[0] in FILES:
         data = FILES[words[0]]()
     else:
