@@ -1,15 +1,13 @@
 -- The look-up among stretches in order, and the stretches of sections.
-use Rattle.std.proofs.Common.{◌≡◌, ℕ, zero, suc, ◌+◌, ◌-◌, ◌<◌, ◌≤◌, Bool, true, false, cond, List, [], ◌∷◌, length, Option, Some, None, refl, sym, ◌∙◌, ap, arith, get_or}
-use Rattle.std.specs.Prelude.{nat_le, nat_lt, ◌&&◌, IfSome}
+use Rattle.std.proofs.Common.{◌≡◌, ℕ, zero, suc, ◌+◌, ◌-◌, ◌<◌, ◌≤◌, Bool, true, false, cond, List, [], ◌∷◌, length, Option, Some, None, refl, ◌∙◌, ap, arith, get_or}
+use Rattle.std.specs.Prelude.{nat_le, nat_lt, ◌&&◌}
 use Rattle.std.specs.Option.{option_or}
 use Rattle.std.specs.List.Sorted.{IsNonDecreasingBy}
 use Rattle.std.proofs.lemmas.Bool.Decides.{nat_tests}
 use Rattle.cli_format.specs.declared.section.Section.{Section}
-use Rattle.cli_format.specs.Demand.{first_fault}
-use Rattle.cli_format.specs.Image.{nth_section, sections_from, section_of, sections_of, section_count, sections_demands, covers}
+use Rattle.cli_format.specs.Image.{nth_section, sections_from, section_of, sections_of, section_count, covers}
 use Rattle.pe_image.specs.declared.stretches.Stretch.{Stretch}
-use Rattle.pe_image.specs.Stretches.{found, AreAscending, AreOf, Show, overlay}
-use Rattle.pe_image.proofs.Finding.{raw_within, covered_from}
+use Rattle.pe_image.specs.Stretches.{found, AreAscending, AreOf, overlay}
 use Rattle.pe_image.proofs.Layers.{overlay_found, overlay_order}
 
 -- ---- stretches in order
@@ -111,23 +109,6 @@ of_both bs n h i xs ys all l p q e = rw e (both_of bs n h i xs ys l p q)
 
 -- ---- the section that is found
 
-abbrev Lies : List ℕ → ℕ → Section → Type 0
-Lies bs r s = (s.rva ≤ r) × (s.raw + s.raw_size ≤ length bs)
-
-lies_step : (bs : List ℕ) (i r : ℕ) (b : Bool) (rest : Option Section) → covers (nth_section bs i) r ≡ b → first_fault (sections_demands bs) ≡ None → i < section_count bs
-    → IfSome rest (Lies bs r) → IfSome (cond b (Some (nth_section bs i)) rest) (Lies bs r)
-lies_step bs i r true rest e held l h = (covered_from (nth_section bs i) r e, raw_within bs i held l)
-lies_step bs i r false rest e held l h = h
-
-lies : (bs : List ℕ) (n i r : ℕ) → first_fault (sections_demands bs) ≡ None → i + n ≤ section_count bs → IfSome (section_of (sections_from bs n i) r) (Lies bs r)
-unfolding sections_from section_of
-lies bs zero i r held l = tt
-lies bs (suc n) i r held l = lies_step bs i r (covers (nth_section bs i) r) _ refl held (omega arith) (lies bs n (i + 1) r held (omega arith))
-
-pub found_lies : (bs : List ℕ) (r : ℕ) (o : Option Section) → first_fault (sections_demands bs) ≡ None → o ≡ section_of (sections_of bs) r → IfSome o (Lies bs r)
-unfolding sections_of
-found_lies bs r o held e = rw e (lies bs (section_count bs) 0 r held (omega arith))
-
 pub shown_all : (bs : List ℕ) (xs : List Stretch) (r : ℕ) → AreOf bs (section_count bs) 0 xs → found None xs r ≡ section_of (sections_of bs) r
 unfolding sections_of
 shown_all bs xs r h = h.shown r
@@ -135,4 +116,4 @@ shown_all bs xs r h = h.shown r
 pub order_of : (bs : List ℕ) (n i : ℕ) (xs : List Stretch) → AreOf bs n i xs → AreAscending 0 xs
 order_of bs n i xs h = h.order
 
-pub ruleset looking = (one_shown, one_order, of_none, of_one, of_both, found_lies, shown_all, order_of)
+pub ruleset looking = (one_shown, one_order, of_none, of_one, of_both, shown_all, order_of)

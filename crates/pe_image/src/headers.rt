@@ -1,6 +1,6 @@
 ghost use Rattle.std.specs.Prelude.{◌≡◌, ◌+◌, ◌<◌, ◌^◌, ◌==◌, ◌||◌, ◌≤◌, length, None, IfOk};
 ghost use Rattle.cli_format.specs.Demand.{Checked, first_fault};
-ghost use Rattle.pe_image.specs.Opened.{headers_of};
+ghost use Rattle.pe_image.specs.Headers.{headers_of};
 ghost use Rattle.cli_format.specs.Image.{signature_place, signature_demands, optional_place, magic_demands, directory_place, directory_demands, directory_count_place, is_wide, header_demands, sections_demands, subsystem_of, sections_place, section_count};
 
 use crate::sections::check_sections;

@@ -2,14 +2,11 @@ ghost use Rattle.std.specs.Prelude.{◌≡◌, ◌+◌, ◌<◌, ◌≤◌, ◌^
 ghost use Rattle.std.specs.Option.{option_map};
 ghost use Rattle.cli_format.specs.Demand.{Checked, demand, bad};
 ghost use Rattle.cli_format.specs.Image.{image_demands, image_at, image_place, image_tail, metadata_of, metadata_place_of, entry_token_of, cli_flags_of, subsystem_of, resources_of, sections_place, section_count, cli_place, directory_place, cli_demands, il_only_demands, metadata_demands, metadata_place_in, metadata_size, mapped};
-ghost use Rattle.pe_image.specs.Opened.{Opened};
 
-use crate::error::ImageError;
 use crate::headers::read_headers;
 use crate::sections::{Sections, part};
 use cli_format::{BAD_RVA, NATIVE, NO_CLI, NOT_IL_ONLY, need, u32_in, u64_in};
 use il_base::BadAt;
-use std::alloc::Global;
 use std::marker::Model;
 
 /// The PE image of a file (II.25). Contracts see the bytes of the file.
@@ -35,12 +32,12 @@ impl<'a> Model for Image<'a> {
 impl<'a> Image<'a> {
     /// The image of a file. A refusal is that of the first demand that fails.
     #[tactic(auto, using(cli_format::proofs::Faults::faults), unfolding(cli_format::specs::Image::image_demands))]
-    pub fn read(alloc: Global, bytes: &'a [u8]) -> Result<Image<'a>, ImageError>
+    pub fn read(bytes: &'a [u8]) -> Result<Image<'a>, BadAt>
         requires { length bytes.now < 2 ^ 32 }
-        ensures { Opened result (image_demands bytes.now) bytes.now }
+        ensures { Checked result (image_demands bytes.now) bytes.now }
     {
         let headers = read_headers(bytes)?;
-        let sections = Sections::new(alloc, bytes, headers.sections, headers.count)?;
+        let sections = Sections::new(bytes, headers.sections, headers.count);
         let cli = find_cli(&sections, headers.directory)?;
         check_il_only(bytes, cli)?;
         let metadata = find_metadata(&sections, cli)?;
@@ -52,15 +49,18 @@ impl<'a> Image<'a> {
         })
     }
 
+    /// The sections of the file.
+    pub(crate) fn sections(&self) -> &Sections<'a>
+        ensures { result.now ≡ self.now }
+    {
+        &self.sections
+    }
+
     /// The `len` bytes that an RVA names: in the first section that it lies in, within its raw bytes (II.25.3).
-    #[tactic(auto, unfolding(cli_format::specs::Image::image_at))]
     pub fn at(&self, rva: u32, len: u32) -> Option<&'a [u8]>
         ensures { option_map (λ b. b.now) result ≡ image_at self.now rva len }
     {
-        match self.sections.map(rva, len) {
-            None => None,
-            Some(at) => Some(part(self.sections.bytes(), at as usize, len as usize)),
-        }
+        self.sections.at_in(self.sections.find(rva), rva, len)
     }
 
     /// The place in the file of the byte that an RVA names.
@@ -75,7 +75,7 @@ impl<'a> Image<'a> {
         ensures value { option_map (λ b. b.now) result ≡ image_tail self.now rva }
         ensures within { IfSome result (λ b. length b.now < 2 ^ 32) }
     {
-        self.sections.tail(rva)
+        self.sections.tail_in(self.sections.find(rva), rva)
     }
 
     /// The bytes of the metadata (II.24).

@@ -1,10 +1,10 @@
 ghost use Rattle.std.specs.Prelude.{◌≡◌, ◌+◌, ◌*◌, ◌-◌, ◌<◌, ◌≤◌, ◌^◌, length, take, drop, IfSome, IfOk, None};
 ghost use Rattle.std.specs.Option.{option_map, option_and_then};
 ghost use Rattle.cli_format.specs.Demand.{Checked, first_fault};
-ghost use Rattle.cli_format.specs.Image.{section_demands, sections_demands, section_at, nth_section, section_of, sections_of, sections_place, section_count, covers, place_in, mapped, image_tail, tail_in};
+ghost use Rattle.cli_format.specs.Image.{section_demands, sections_demands, section_at, nth_section, section_of, sections_of, sections_place, section_count, covers, place_in, mapped, image_at, image_tail, tail_in};
 ghost use Rattle.pe_image.specs.Stretches.{AreOf};
 
-use crate::stretches::{Stretch, find, overlay, stretches_of};
+use crate::stretches::{Stretch, overlay, stretches_of};
 use cli_format::{Section, need_bytes, u32_in};
 use il_base::{BadAt, NoMemory};
 use std::alloc::Global;
@@ -14,40 +14,38 @@ use std::marker::Model;
 #[derive(Debug, Drop)]
 pub struct Sections<'a> {
     bytes: &'a [u8],
-    /// The memory of all sections.
-    stretches: Vec<Stretch>,
+    /// The place of the first section header.
+    place: usize,
+    count: u16,
 }
 
 impl<'a> Model for Sections<'a> {
     ghost use Rattle.std.specs.Prelude.{◌≡◌, ℕ, ◌<◌, ◌^◌, List, length, None};
     ghost use Rattle.cli_format.specs.Demand.{first_fault};
-    ghost use Rattle.cli_format.specs.Image.{sections_demands, section_count};
-    ghost use Rattle.pe_image.specs.Stretches.{AreOf};
+    ghost use Rattle.cli_format.specs.Image.{sections_demands, sections_place, section_count};
 
     ghost Value = { List ℕ };
 
     ghost view = { λ s. s.bytes.now };
 
-    ghost invariant = { λ s. (length s.bytes.now < 2 ^ 32) × (first_fault (sections_demands s.bytes.now) ≡ None) × AreOf s.bytes.now (section_count s.bytes.now) 0 s.stretches.items };
+    ghost invariant = { λ s. (s.place ≡ sections_place s.bytes.now) × (s.place < 2 ^ 33) × (s.count ≡ section_count s.bytes.now) × (length s.bytes.now < 2 ^ 32) × (first_fault (sections_demands s.bytes.now) ≡ None) };
 }
 
 impl<'a> Sections<'a> {
     /// The sections whose headers begin at a place.
-    pub fn new(
-        alloc: Global,
-        bytes: &'a [u8],
-        place: usize,
-        count: u16,
-    ) -> Result<Sections<'a>, NoMemory>
+    pub fn new(bytes: &'a [u8], place: usize, count: u16) -> Sections<'a>
         requires small { length bytes.now < 2 ^ 32 }
         requires place { place ≡ sections_place bytes.now }
         requires count { count ≡ section_count bytes.now }
         requires reach { place < 2 ^ 33 }
         requires demands { first_fault (sections_demands bytes.now) ≡ None }
-        ensures { IfOk result (λ s. s ≡ bytes.now) }
+        ensures { result ≡ bytes.now }
     {
-        let stretches = stretches_from(alloc, bytes, place, 0, count)?;
-        Ok(Sections { bytes, stretches })
+        Sections {
+            bytes,
+            place,
+            count,
+        }
     }
 
     /// The bytes of the file.
@@ -58,38 +56,72 @@ impl<'a> Sections<'a> {
         self.bytes
     }
 
-    /// The first section in which an RVA lies.
-    #[tactic(auto, using(crate::proofs::Looking::looking))]
+    /// The first section in which an RVA lies. It is looked for from the first section on.
+    #[tactic(auto, using(crate::proofs::Finding::finding))]
     pub fn find(&self, rva: u32) -> Option<Section>
-        ensures value { result ≡ section_of (sections_of self.now) rva }
-        ensures within { IfSome result (λ s. (s.rva ≤ rva) × (s.raw + s.raw_size ≤ length self.now)) }
+        ensures { result ≡ section_of (sections_of self.now) rva }
     {
-        find(&self.stretches, rva)
+        for i in 0..self.count {
+            let section = nth(self.bytes, self.place, i);
+            if is_covered(&section, rva) {
+                return Some(section);
+            }
+        }
+        None
     }
 
     /// The place in the file of `len` bytes from an RVA, where they lie in the raw bytes of its section.
-    #[tactic(auto, unfolding(cli_format::specs::Image::mapped))]
     pub fn map(&self, rva: u32, len: u32) -> Option<u32>
         ensures value { result ≡ mapped self.now rva len }
         ensures within { IfSome result (λ at. at + len ≤ length self.now) }
     {
+        self.map_in(self.find(rva), rva, len)
+    }
+
+    /// The place in the file of `len` bytes from an RVA whose first section is known.
+    #[tactic(auto, using(crate::proofs::Finding::lying), unfolding(cli_format::specs::Image::mapped))]
+    fn map_in(&self, section: Option<Section>, rva: u32, len: u32) -> Option<u32>
+        requires { section ≡ section_of (sections_of self.now) rva }
+        ensures value { result ≡ mapped self.now rva len }
+        ensures within { IfSome result (λ at. at + len ≤ length self.now) }
+    {
         let _small = self.bytes;
-        match self.find(rva) {
+        match section {
             None => None,
             Some(section) => place_within(&section, rva, len),
         }
     }
 
-    /// The bytes from an RVA to the end of its section's raw bytes.
-    #[tactic(auto, unfolding(cli_format::specs::Image::image_tail))]
-    pub fn tail(&self, rva: u32) -> Option<&'a [u8]>
+    /// The `len` bytes from an RVA whose first section is known.
+    #[tactic(auto, unfolding(cli_format::specs::Image::image_at))]
+    pub fn at_in(&self, section: Option<Section>, rva: u32, len: u32) -> Option<&'a [u8]>
+        requires { section ≡ section_of (sections_of self.now) rva }
+        ensures { option_map (λ b. b.now) result ≡ image_at self.now rva len }
+    {
+        match self.map_in(section, rva, len) {
+            None => None,
+            Some(at) => Some(part(self.bytes(), at as usize, len as usize)),
+        }
+    }
+
+    /// The bytes from an RVA whose first section is known to the end of the section's raw bytes.
+    #[tactic(auto, using(crate::proofs::Finding::lying), unfolding(cli_format::specs::Image::image_tail))]
+    pub fn tail_in(&self, section: Option<Section>, rva: u32) -> Option<&'a [u8]>
+        requires { section ≡ section_of (sections_of self.now) rva }
         ensures value { option_map (λ b. b.now) result ≡ image_tail self.now rva }
         ensures within { IfSome result (λ b. length b.now < 2 ^ 32) }
     {
-        match self.find(rva) {
+        match section {
             None => None,
             Some(section) => tail_within(self.bytes, &section, rva),
         }
+    }
+
+    /// The stretches of all sections.
+    pub fn stretches(&self, alloc: Global) -> Result<Vec<Stretch>, NoMemory>
+        ensures { IfOk result (λ all. AreOf self.now (section_count self.now) 0 all.items) }
+    {
+        stretches_from(alloc, self.bytes, self.place, 0, self.count)
     }
 }
 
@@ -112,25 +144,25 @@ pub fn check_sections(bytes: &[u8], place: usize, count: u16) -> Result<(), BadA
 {
     for i in 0..count {
         match check_section(bytes, place, i) {
-            Ok(_) => {}
+            Ok(()) => {}
             Err(e) => return Err(e),
         }
     }
     Ok(())
 }
 
-/// The section with a number, from 0, whose header and raw bytes are within the file.
+/// A section's header and its raw bytes are within the file.
 #[tactic(auto, using(cli_format::proofs::Faults::faults), unfolding(cli_format::specs::Image::section_demands, cli_format::specs::Image::section_place))]
-fn check_section(bytes: &[u8], place: usize, i: u16) -> Result<Section, BadAt>
+fn check_section(bytes: &[u8], place: usize, i: u16) -> Result<(), BadAt>
     requires small { length bytes.now < 2 ^ 32 }
     requires place { place ≡ sections_place bytes.now }
     requires reach { place < 2 ^ 33 }
-    ensures { Checked result (section_demands bytes.now i) (nth_section bytes.now i) }
+    ensures { Checked result (section_demands bytes.now i) tt }
 {
     need_bytes(bytes, place + 40 * i as usize, 40)?;
     let section = nth(bytes, place, i);
     need_bytes(bytes, section.raw as usize, section.raw_size as usize)?;
-    Ok(section)
+    Ok(())
 }
 
 /// The section with a number, from 0.
@@ -184,6 +216,14 @@ fn section_in(bytes: &[u8], at: usize) -> Section
         raw_size: u32_in(bytes, at + 16),
         raw: u32_in(bytes, at + 20),
     }
+}
+
+/// Whether an RVA lies in the section.
+#[tactic(auto, unfolding(cli_format::specs::Image::covers))]
+fn is_covered(section: &Section, rva: u32) -> bool
+    ensures { result ≡ covers section.now rva }
+{
+    section.rva <= rva && u64::from(rva) < u64::from(section.rva) + u64::from(section.size)
 }
 
 /// The place of `len` bytes from an RVA in its section, where they lie in its raw bytes.

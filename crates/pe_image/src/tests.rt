@@ -43,13 +43,13 @@ fn sample(alloc: Global) -> Result<Vec<u8>, AllocError> {
     Ok(file)
 }
 
-fn refusal(alloc: Global, bytes: &[u8]) -> Option<BadAt> {
+fn refusal(bytes: &[u8]) -> Option<BadAt> {
     if bytes.len() > 2048 {
         return None;
     }
-    match Image::read(alloc, bytes) {
-        Ok(_) | Err(ImageError::NoMemory) => None,
-        Err(ImageError::Bad(bad)) => Some(bad),
+    match Image::read(bytes) {
+        Ok(_) => None,
+        Err(bad) => Some(bad),
     }
 }
 
@@ -57,7 +57,7 @@ fn refusal(alloc: Global, bytes: &[u8]) -> Option<BadAt> {
 fn reads_an_image(rt: HostRuntime) -> Result<(), Fail> {
     let file = sample(rt.alloc())?;
     assert!(rt; file.len() < 4096);
-    let image = Image::read(rt.alloc(), &file).ok().ok_or("an image")?;
+    let image = Image::read(&file).ok().ok_or("an image")?;
     assert_eq!(rt; image.entry_token(), 0x0600_0001);
     assert_eq!(rt; image.cli_flags(), 1);
     assert_eq!(rt; image.subsystem(), 3);
@@ -79,7 +79,7 @@ fn refuses(rt: HostRuntime) -> Result<(), Fail> {
     let mut file = sample(rt.alloc())?;
     put(&mut file, 536, &[0]);
     assert!(rt;
-        refusal(rt.alloc(), &file)
+        refusal(&file)
             == Some(BadAt {
                 offset: 536,
                 why: NOT_IL_ONLY
@@ -87,14 +87,14 @@ fn refuses(rt: HostRuntime) -> Result<(), Fail> {
     );
     file.truncate(1000);
     assert!(rt;
-        refusal(rt.alloc(), &file)
+        refusal(&file)
             == Some(BadAt {
                 offset: 1000,
                 why: TRUNCATED
             })
     );
     assert!(rt;
-        refusal(rt.alloc(), &[])
+        refusal(&[])
             == Some(BadAt {
                 offset: 0,
                 why: NOT_PE
@@ -103,23 +103,65 @@ fn refuses(rt: HostRuntime) -> Result<(), Fail> {
     Ok(())
 }
 
-/// A third section, from 0x1f00 to 0x2700, whose raw bytes are the file's.
-#[test]
-fn finds_the_first_of_sections_that_overlap(rt: HostRuntime) -> Result<(), Fail> {
-    let mut file = sample(rt.alloc())?;
+/// The sample with a third section, from 0x1f00 to 0x2700, whose raw bytes are the file's.
+fn overlapping(alloc: Global) -> Result<Vec<u8>, AllocError> {
+    let mut file = sample(alloc)?;
     put(&mut file, 0x86, &[3]);
     put(
         &mut file,
         0x1d0,
         &[0, 8, 0, 0, 0, 0x1f, 0, 0, 0, 8, 0, 0, 0, 0],
     );
+    Ok(file)
+}
+
+#[test]
+fn finds_the_first_of_sections_that_overlap(rt: HostRuntime) -> Result<(), Fail> {
+    let file = overlapping(rt.alloc())?;
     assert!(rt; file.len() < 4096);
-    let image = Image::read(rt.alloc(), &file).ok().ok_or("an image")?;
+    let image = Image::read(&file).ok().ok_or("an image")?;
     assert_eq!(rt; image.place(0x1eff), None);
     assert_eq!(rt; image.place(0x1f10), Some(0x10));
     assert_eq!(rt; image.place(0x2050), Some(0x250));
     assert_eq!(rt; image.place(0x2260), Some(0x360));
     assert_eq!(rt; image.place(0x2700), None);
     assert_eq!(rt; image.place(0x4000), Some(0x600));
+    Ok(())
+}
+
+/// The same RVAs and the ends of sections, in a map and in the image that it has.
+#[test]
+fn a_map_gives_what_its_image_gives(rt: HostRuntime) -> Result<(), Fail> {
+    let file = overlapping(rt.alloc())?;
+    assert!(rt; file.len() < 4096);
+    let image = Image::read(&file).ok().ok_or("an image")?;
+    let map = ImageMap::of(rt.alloc(), image).ok().ok_or("a map")?;
+    for rva in [
+        0,
+        0x1eff,
+        0x1f00,
+        0x1f10,
+        0x1fff,
+        0x2000,
+        0x2050,
+        0x225f,
+        0x2260,
+        0x26ff,
+        0x2700,
+        0x3fff,
+        0x4000,
+        0x400b,
+        0x400c,
+        0xffff_ffff,
+    ] {
+        assert_eq!(rt; map.at(rva, 3), map.image().at(rva, 3));
+        assert_eq!(rt; map.tail(rva), map.image().tail(rva));
+    }
+    assert_eq!(rt;
+        map.at(0x2050, 3).ok_or("mapped")?,
+        [0x2e, 0x72, 1].as_slice()
+    );
+    assert_eq!(rt; map.tail(0x2260).ok_or("mapped")?.len(), 0x4a0);
+    assert!(rt; map.at(0x2700, 0).is_none());
     Ok(())
 }

@@ -4,16 +4,17 @@ ghost use Rattle.cli_format.specs.Metadata.{Read};
 ghost use Rattle.record_format.specs.Record.{as_demand, record_demands, place_by};
 
 use cli_format::TablesError;
+use il_base::NoMemory;
 use meta_tables::Tables;
-use pe_image::{Image, ImageError};
+use pe_image::{Image, ImageMap};
 use std::alloc::Global;
 use std::marker::Model;
 
-/// A file that meets the demands on an assembly (II.22 to II.25): its image and its tables. Contracts see the bytes of the
-/// file.
+/// A file that meets the demands on an assembly (II.22 to II.25): the map of its image, and its tables. Contracts see the bytes
+/// of the file.
 #[derive(Drop)]
 pub struct Assembly<'a> {
-    pub(crate) image: Image<'a>,
+    pub(crate) map: ImageMap<'a>,
     pub(crate) tables: Tables<'a>,
 }
 
@@ -25,9 +26,9 @@ impl<'a> Model for Assembly<'a> {
 
     ghost Value = { List ℕ };
 
-    ghost view = { λ a. a.image };
+    ghost view = { λ a. a.map };
 
-    ghost invariant = { λ a. (a.tables ≡ metadata_of a.image) × (first_fault (tables_demands (metadata_of a.image) (metadata_place_of a.image)) ≡ None) × (metadata_place_of a.image + length (metadata_of a.image) < 2 ^ 32) };
+    ghost invariant = { λ a. (a.tables ≡ metadata_of a.map) × (first_fault (tables_demands (metadata_of a.map) (metadata_place_of a.map)) ≡ None) × (metadata_place_of a.map + length (metadata_of a.map) < 2 ^ 32) };
 }
 
 impl<'a> Assembly<'a> {
@@ -37,30 +38,34 @@ impl<'a> Assembly<'a> {
         requires { length bytes.now < 2 ^ 32 }
         ensures { Read result (record_demands bytes.now) bytes.now }
     {
-        let image = open_image(alloc, bytes)?;
+        let map = open_image(alloc, bytes)?;
+        let image = map.image();
         let tables = Tables::read(alloc, image.metadata(), image.metadata_place())?;
-        Ok(Assembly { image, tables })
+        Ok(Assembly { map, tables })
     }
 
     /// The place in the file of the row that a token names (II.22). None where there is no such row.
     pub fn row_place(&self, token: u32) -> Option<u32>
         ensures { result ≡ place_by self.now (metadata_of self.now) (token / 16777216) (token % 16777216) }
     {
-        let base = self.image.metadata_place();
+        let base = self.map.image().metadata_place();
         self.tables
             .row_offset(base, (token / 0x100_0000) as u8, token % 0x100_0000)
     }
 }
 
-/// The image of a file.
+/// The image of a file, with its look-up.
 #[tactic(auto, using(cli_format::proofs::Faults::refused_by, cli_format::proofs::Faults::refused_memory, crate::proofs::Demands::mapped))]
-fn open_image(alloc: Global, bytes: &[u8]) -> Result<Image<'_>, TablesError>
+fn open_image(alloc: Global, bytes: &[u8]) -> Result<ImageMap<'_>, TablesError>
     requires { length bytes.now < 2 ^ 32 }
     ensures { Read result (map as_demand (image_demands bytes.now)) bytes.now }
 {
-    match Image::read(alloc, bytes) {
-        Ok(image) => Ok(image),
-        Err(ImageError::Bad(bad)) => Err(TablesError::Bad(bad)),
-        Err(ImageError::NoMemory) => Err(TablesError::NoMemory),
+    let image = match Image::read(bytes) {
+        Ok(image) => image,
+        Err(bad) => return Err(TablesError::Bad(bad)),
+    };
+    match ImageMap::of(alloc, image) {
+        Ok(map) => Ok(map),
+        Err(NoMemory) => Err(TablesError::NoMemory),
     }
 }

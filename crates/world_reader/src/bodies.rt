@@ -74,7 +74,7 @@ fn body_by(alloc: Global, file: &Assembly, rva: u32) -> Result<FoundBody, NoMemo
             bad_at: 0,
         });
     }
-    match file.image.tail(rva) {
+    match file.map.tail(rva) {
         Some(bytes) => body_in(alloc, bytes),
         None => Ok(FoundBody {
             body: Some(Known::Bad(BadKind::Outside(BODY))),

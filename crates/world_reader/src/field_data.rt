@@ -89,7 +89,7 @@ fn bytes_at<'a>(file: &Assembly<'a>, rva: u32, size: Option<u32>) -> Option<&'a 
 {
     match size {
         None => None,
-        Some(size) => file.image.at(rva, size),
+        Some(size) => file.map.at(rva, size),
     }
 }
 

@@ -27,9 +27,9 @@ fn assembled(file: &Assembly, tables: AllTables) -> AsmRec
         extras,
     } = tables;
     AsmRec {
-        bits: file.image.cli_flags(),
-        subsystem: file.image.subsystem(),
-        entry: file.image.entry_token(),
+        bits: file.map.image().cli_flags(),
+        subsystem: file.map.image().subsystem(),
+        entry: file.map.image().entry_token(),
         descriptor: files.descriptor,
         module: assemblies.module,
         type_ref: types.type_ref,

@@ -142,7 +142,11 @@ fn file_tables(alloc: Global, file: &Assembly) -> Result<FileTables, NoMemory>
     let file_rows = all_rows(alloc, file)?;
     let exported_type = all_rows(alloc, file)?;
     let manifest_resource = all_rows(alloc, file)?;
-    let descriptor = descriptor_of(alloc, manifest_resource.as_slice(), file.image.resources())?;
+    let descriptor = descriptor_of(
+        alloc,
+        manifest_resource.as_slice(),
+        file.map.image().resources(),
+    )?;
     Ok(FileTables {
         file: file_rows,
         exported_type,

@@ -1,5 +1,5 @@
 -- The stretches of both halves are those of all.
-use Rattle.std.proofs.Common.{◌≡◌, ◌/◌, arith}
+use Rattle.std.proofs.Common.{◌/◌, arith}
 use Rattle.pe_image.proofs.Looking.{of_none, of_both}
 use Rattle.pe_image.proofs.sections.+stretches_from.Goals as goal
 

@@ -1,5 +1,5 @@
 -- The stretches that begin at the RVA or before it stand before the others.
-use Rattle.std.proofs.Common.{◌≡◌, ◌-◌, ◌+◌, ◌<◌, leb, leb-true, sym, arith, rules, get_or}
+use Rattle.std.proofs.Common.{◌-◌, leb, leb-true, sym, arith, rules}
 use Rattle.std.proofs.lemmas.Bool.{leb-false}
 use Rattle.std.proofs.lemmas.List.Sorted.{IsPartitionPoint-from_clause, IsPartitionedBy-leb}
 use Rattle.pe_image.specs.declared.stretches.Stretch.{Stretch}

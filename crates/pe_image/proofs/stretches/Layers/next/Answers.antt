@@ -1,5 +1,5 @@
 -- The test says of which list the next stretch is, and that this list isn't passed, or that both are.
-use Rattle.std.proofs.Common.{◌≡◌, sym, ◌∙◌}
+use Rattle.std.proofs.Common.{sym, ◌∙◌}
 use Rattle.pe_image.proofs.Layers.{upper_given, lower_given, upper_there, none_next}
 use Rattle.pe_image.proofs.stretches.Layers.next.Goals as goal
 

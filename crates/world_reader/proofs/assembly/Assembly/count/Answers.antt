@@ -8,7 +8,7 @@ use Rattle.world_reader.proofs.assembly.Assembly.count.Goals as goal
 
 pub returns-clause-few : goal.returns-clause-few
 returns-clause-few c =
-    let held : first_fault (tables_demands (metadata_of c.self.inside.image) (metadata_place_of c.self.inside.image)) ≡ None = c.self.invariant.1 in
-    let tables : c.self.inside.tables ≡ metadata_of c.self.inside.image = c.self.invariant.0 in
+    let held : first_fault (tables_demands (metadata_of c.self.inside.map) (metadata_place_of c.self.inside.map)) ≡ None = c.self.invariant.1 in
+    let tables : c.self.inside.tables ≡ metadata_of c.self.inside.map = c.self.invariant.0 in
     let rows : c.rows.result ≡ rows_of (tables_stream c.self.inside.tables) c.args.table = c.rows.ensures in
-    rw (rows, tables) (rows_few (metadata_of c.self.inside.image) (metadata_place_of c.self.inside.image) c.args.table held)
+    rw (rows, tables) (rows_few (metadata_of c.self.inside.map) (metadata_place_of c.self.inside.map) c.args.table held)
