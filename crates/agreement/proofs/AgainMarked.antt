@@ -21,7 +21,7 @@ use Rattle.restriction.specs.Numbering.{rank}
 use Rattle.restriction.specs.References.{kept_methods}
 use Rattle.restriction.specs.Moved.{moved_instr, moved_known, moved_methods}
 use Rattle.restriction.specs.Restricted.{kept_rvas, restricted}
-use Rattle.agreement.specs.Premises.{CanRestrict, CallsHaveForm, Settled, all_flags}
+use Rattle.agreement.specs.Premises.{CanRestrict, Settled, all_flags}
 use Rattle.agreement.proofs.Keep.{each_set, HasRank, ranked}
 use Rattle.agreement.proofs.Members.{same_some, In, in_at, in_flat_map}
 use Rattle.agreement.proofs.ThinParts.{thin_parts}
@@ -167,9 +167,9 @@ module _ (rec : AsmRec) (flags : List Bool) (can : CanRestrict rec flags) where
     complete = λ m h. each_set (length (restricted rec flags).method_def) m (marked_has_row (restricted rec flags) m h);
   }
 
-  pub all_settled : CallsHaveForm rec → Settled (restricted rec flags)
-  all_settled formed = record {
-    thin = left_is_thin rec flags can formed;
+  pub all_settled : Settled (restricted rec flags)
+  all_settled = record {
+    thin = left_is_thin rec flags can;
     marking = marking_left;
     good = none_bad_left;
     same = same_record rec flags can;

@@ -3,6 +3,7 @@ use Rattle.std.proofs.Common.{◌≡◌, ◌<◌, ◌≤◌, ◌+◌, ◌-◌, �
 use Rattle.std.specs.Prelude.{IsTrue, slice_get, is_some, codes, ◌==◌, if◌then◌else◌}
 use Rattle.std.specs.List.{flat_map, list_all, list_any}
 use Rattle.il_base.specs.declared.body.Body.{Body}
+use Rattle.il_base.specs.declared.body.Form.{Form}
 use Rattle.il_base.specs.declared.body.Form.TheVariants as form
 use Rattle.il_base.specs.declared.body.Instr.{Instr}
 use Rattle.il_base.specs.declared.body.Operand.{Operand}
@@ -15,18 +16,16 @@ use Rattle.world_model.specs.declared.assemblies.AssemblyRow.{AssemblyRow}
 use Rattle.world_model.specs.declared.assemblies.AssemblyRefRow.{AssemblyRefRow}
 use Rattle.world_model.specs.declared.record.AsmRec.{AsmRec}
 use Rattle.world_model.specs.Tokens.{table_of, index_in, row_index}
-use Rattle.world_model.specs.Opcodes.{thin_opcode}
 use Rattle.world_model.specs.Core.{same_name, is_core_name, is_system_type, is_type_token, core_member}
-use Rattle.world_model.specs.Thin.{no_rows, has_no_other_rows, is_own_name, is_module_type, is_only_class, are_two_types, is_thin_type_ref, is_thin_flags, begins_with_dot, has_thin_sig, has_thin_body, is_thin_method, is_thin_body, has_thin_locals, is_call_token, is_call_operand, is_thin_instr, same_method, all_differ, is_entry_method, is_entry_at, is_thin}
+use Rattle.world_model.specs.Thin.{no_rows, has_no_other_rows, is_own_name, is_module_type, is_only_class, are_two_types, is_thin_type_ref, is_thin_flags, begins_with_dot, has_thin_sig, has_thin_body, is_thin_method, is_thin_body, has_thin_locals, is_call_token, is_call_operand, is_token, is_thin_opcode, is_thin_operand, is_thin_instr, same_method, all_differ, is_entry_method, is_entry_at, is_thin}
 use Rattle.cil_values.specs.World.{own_place, ref_place, callee_of}
-use Rattle.trim_rules.specs.Marked.{code_in, code_of}
 use Rattle.restriction.specs.Numbering.{keep, rank}
 use Rattle.restriction.specs.References.{one_or_none, kept_methods, object_name, console_name, core_type_of, types_met, members_met, assemblies_met, scope_of_type, same_assembly, bare_ref}
 use Rattle.restriction.specs.Moved.{type_token_by, moved_type, moved_locals, moved_callee, moved_operand, moved_instr, moved_body, moved_known, moved_method, moved_methods, moved_run, moved_type_def, new_type_ref, new_member_ref, moved_assembly}
 use Rattle.restriction.specs.Restricted.{kept_rvas, entry_token, restricted}
-use Rattle.agreement.specs.Premises.{CanRestrict, CallsHaveForm}
+use Rattle.agreement.specs.Premises.{CanRestrict}
 use Rattle.agreement.proofs.Keep.{rank_below, rank_at_most}
-use Rattle.agreement.proofs.Members.{same_some, In, in_at, Place, place_in, in_flat_map_from, Comes, option_from, list_all_in, list_all_map, and_left, and_right, both}
+use Rattle.agreement.proofs.Members.{same_some, In, in_at, in_flat_map_from, Comes, option_from, list_all_in, list_all_map, and_left, and_right, both}
 use Rattle.agreement.proofs.FirstMet.{or_left, or_right, was_in}
 use Rattle.agreement.proofs.Tokens.{index_of_token}
 use Rattle.agreement.proofs.ThinParts.{thin_parts}
@@ -91,14 +90,6 @@ has_token (operand.Slot k) e = cc
 has_token (operand.Target k) e = cc
 has_token (operand.Targets k) e = cc
 
-then_true : (b c : Bool) → (b ≡ true → c ≡ true) → (if b then c else true) ≡ true
-then_true true c h = h refl
-then_true false c h = refl
-
-then_part : (b c : Bool) → (if b then c else true) ≡ true → b ≡ true → c ≡ true
-then_part true c e h = e
-then_part false c e h = cc
-
 -- ---- methods that differ
 
 second_false : (a b : Bool) → (a || b) ≡ false → b ≡ false
@@ -161,11 +152,20 @@ nine_true : (a b c d e f g h i : Bool) → a ≡ true → b ≡ true → c ≡ t
     → (a && b && c && d && e && f && g && h && i) ≡ true
 nine_true a b c d e f g h i a' b' c' d' e' f' g' h' i' = rw (a', b', c', d', e', f', g', h', i') refl
 
+-- an operand of `ldstr`
+text_operand : (rec : AsmRec) (flags : List Bool) (o : Operand) → is_token o ≡ true → is_token (moved_operand rec flags form.LdStr o) ≡ true
+text_operand rec flags (operand.Token token) e = refl
+text_operand rec flags operand.None e = e
+text_operand rec flags (operand.Number n) e = e
+text_operand rec flags (operand.Slot k) e = e
+text_operand rec flags (operand.Target to) e = e
+text_operand rec flags (operand.Targets ts) e = e
+
 -- a body by what is thin in it
 abbrev thin_part : AsmRec → Option (Known Body) → Bool
 thin_part rec b = elim b as (λ k. Bool) [ None ↦ false | Some (Good c) ↦ is_thin_body rec c | Some (Bad why) ↦ false ]
 
-module _ (rec : AsmRec) (flags : List Bool) (can : CanRestrict rec flags) (formed : CallsHaveForm rec) where
+module _ (rec : AsmRec) (flags : List Bool) (can : CanRestrict rec flags) where
   base_named : (t : TypeDefRow) → In t rec.type_def → is_type_token rec object_name t.extends ≡ true → is_type_token (restricted rec flags) object_name (moved_type rec flags t.extends) ≡ true
   base_named t h e =
       let c : core_type_of rec t.extends ≡ Some object_name = is_first rec t.extends e in
@@ -239,25 +239,23 @@ module _ (rec : AsmRec) (flags : List Bool) (can : CanRestrict rec flags) (forme
 
   -- ---- methods
 
-  call_operand : (i : Instr) → GoodInstr rec flags i → i.form ≡ form.Call → is_call_operand i.operand ≡ true → is_call_operand (moved_operand rec flags i.form i.operand) ≡ true
+  call_operand : (i : Instr) → GoodInstr rec flags i → i.form ≡ form.Call → is_call_operand i.operand ≡ true → is_call_operand (moved_operand rec flags form.Call i.operand) ≡ true
   call_operand i g e h =
       let t : (token : ℕ) × (i.operand ≡ operand.Token token) = has_token i.operand h in
       let c : CallMoved rec flags can t.0 = call_moved rec flags can i t.0 g e t.1 in
-      ap₂ (λ f o. is_call_operand (moved_operand rec flags f o)) e t.1 ∙ good_table (restricted rec flags) (moved_callee rec flags t.0) _ c.moved
+      ap (λ o. is_call_operand (moved_operand rec flags form.Call o)) t.1 ∙ good_table (restricted rec flags) (moved_callee rec flags t.0) _ c.moved
 
-  instr_thin : (i : Instr) → GoodInstr rec flags i → (i.opcode ≡ 0x28 → i.form ≡ form.Call) → is_thin_instr i ≡ true → is_thin_instr (moved_instr rec flags i) ≡ true
+  -- a token stays a token, and all other operands stay
+  operand_thin : (i : Instr) (f : Form) → i.form ≡ f → GoodInstr rec flags i → is_thin_operand f i.operand ≡ true → is_thin_operand f (moved_operand rec flags f i.operand) ≡ true
+  operand_thin i form.Call e g h = call_operand i g e h
+  operand_thin i form.LdStr e g h = text_operand rec flags i.operand h
+  operand_thin i _ e g h = h
+
+  instr_thin : (i : Instr) → GoodInstr rec flags i → is_thin_instr i ≡ true → is_thin_instr (moved_instr rec flags i) ≡ true
   unfolding moved_instr
-  instr_thin i g f e =
-      let a : is_some (thin_opcode i.opcode) ≡ true = and_left (is_some (thin_opcode i.opcode)) (if i.opcode == 0x28 then is_call_operand i.operand else true) e in
-      let b : (if i.opcode == 0x28 then is_call_operand i.operand else true) ≡ true = and_right (is_some (thin_opcode i.opcode)) (if i.opcode == 0x28 then is_call_operand i.operand else true) e in
-      both (is_some (thin_opcode i.opcode)) (if i.opcode == 0x28 then is_call_operand (moved_operand rec flags i.form i.operand) else true) a
-      (then_true (i.opcode == 0x28) (is_call_operand (moved_operand rec flags i.form i.operand))
-      (λ o. call_operand i g (f (eqb-true i.opcode 0x28 o)) (then_part (i.opcode == 0x28) (is_call_operand i.operand) b o)))
-
-  form_of : (row : MethodDefRow) (k : KeptRow rec flags can row) (i : Instr) → In i k.thin.body.code → i.opcode ≡ 0x28 → i.form ≡ form.Call
-  form_of row k i w e =
-      let p : Place k.thin.body.code i = place_in k.thin.body.code i w in
-      formed k.place p.index i (ap (λ o. slice_get (code_of o) p.index) k.is ∙ ap (λ b. slice_get (code_in b) p.index) k.thin.body_is ∙ p.is) e
+  instr_thin i g e =
+      both (is_thin_opcode i.form i.opcode) (is_thin_operand i.form (moved_operand rec flags i.form i.operand)) (and_left (is_thin_opcode i.form i.opcode) (is_thin_operand i.form i.operand) e)
+      (operand_thin i i.form refl g (and_right (is_thin_opcode i.form i.opcode) (is_thin_operand i.form i.operand) e))
 
   body_thin : (row : MethodDefRow) (k : KeptRow rec flags can row) → is_thin_body (restricted rec flags) (moved_body rec flags k.thin.body) ≡ true
   unfolding moved_body
@@ -268,7 +266,7 @@ module _ (rec : AsmRec) (flags : List Bool) (can : CanRestrict rec flags) (forme
       both (no_rows k.thin.body.handlers && has_thin_locals (restricted rec flags) (moved_locals rec flags k.thin.body.locals)) _
       (both (no_rows k.thin.body.handlers) _ h (left_thin_locals rec flags can row k))
       (list_all_map is_thin_instr (moved_instr rec flags) k.thin.body.code (λ i w.
-      instr_thin i (good_in rec flags can k.place row k.thin.body i k.is_set k.is k.thin.body_is w) (form_of row k i w) (list_all_in is_thin_instr k.thin.body.code i c w)))
+      instr_thin i (good_in rec flags can k.place row k.thin.body i k.is_set k.is k.thin.body_is w) (list_all_in is_thin_instr k.thin.body.code i c w)))
 
   has_body : (row : MethodDefRow) (rva : ℕ) (k : KeptRow rec flags can row) → has_thin_body (restricted rec flags) (moved_method rec flags rva row) ≡ true
   has_body row rva k = ap (λ b. thin_part (restricted rec flags) (moved_known rec flags b)) k.thin.body_is ∙ body_thin row k

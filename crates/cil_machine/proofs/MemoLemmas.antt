@@ -1,10 +1,10 @@
 -- An object of a text stays its object while the heap and the texts grow at their ends.
-use Rattle.std.proofs.Common.{◌≡◌, ℕ, zero, suc, ◌+◌, ◌<◌, Bool, true, false, cond, eqb, List, [], ◌∷◌, ◌++◌, length, Option, Some, None, refl, sym, ap, subst, ◌∙◌, inl, inr, ◌⊎◌, arith, length-append}
+use Rattle.std.proofs.Common.{◌≡◌, ℕ, zero, suc, ◌+◌, ◌<◌, ◌≤◌, Bool, true, false, cond, eqb, List, [], ◌∷◌, ◌++◌, length, Option, Some, None, refl, sym, ap, subst, ◌∙◌, inl, inr, ◌⊎◌, arith, length-append}
 use Rattle.std.specs.Prelude.{slice_get, find, nat_eq}
 use Rattle.std.specs.Option.{option_or}
 use Rattle.std.specs.Cmp.Lexicographic.{pointwise, other_text}
 use Rattle.std.proofs.lemmas.List.Folds.{find-append}
-use Rattle.std.proofs.lemmas.Bool.{cases_eq, ne_eqb, eq-eqb}
+use Rattle.std.proofs.lemmas.Bool.{cases_eq, ne_eqb, eq-eqb, le-leb}
 use Rattle.il_base.specs.declared.body.Operand.{Operand}
 use Rattle.il_base.specs.declared.body.Form.TheVariants as form
 use Rattle.world_model.specs.declared.known.Known.{Known}
@@ -16,8 +16,8 @@ use Rattle.cil_values.specs.declared.value.Obj.{Obj}
 use Rattle.cil_values.specs.declared.value.Obj.TheVariants.{Str}
 use Rattle.cil_values.specs.declared.state.State.{State}
 use Rattle.cil_values.specs.World.{text_of, use_of}
-use Rattle.cil_values.specs.Words.{goes, given, known}
-use Rattle.cil_values.specs.Text.{holds_text, object_of, with_object, load_text}
+use Rattle.cil_values.specs.Words.{goes, stopped, given, known}
+use Rattle.cil_values.specs.Text.{holds_text, object_of, with_object, text_limit, load_text}
 use Rattle.cil_machine.specs.declared.memo.Memo.{Memo}
 use Rattle.cil_machine.specs.Memo.{object_in, AreThere, IsObjectOf, IsMemo, Gives}
 use Rattle.cil_values.specs.Step.{load_str}
@@ -96,7 +96,9 @@ gives_new s t units a there e at made =
 
 -- a token whose object is known
 known_goes : (t : Known (List ℕ)) (next : ℕ) (s : State) (a : ℕ) → IsObjectOf t s.heap s.texts a → known t s (load_text next s) ≡ goes next (Object a ∷ s.top.stack) s
-known_goes (Good units) next s a e = ap (λ (o : Option ℕ). with_object next s units o) e
+known_goes (Good units) next s a e =
+    ap (λ (b : Bool). cond b (with_object next s units (object_of s.heap s.texts units)) (stopped s)) (le-leb (length units) text_limit e.0)
+    ∙ ap (λ (o : Option ℕ). with_object next s units o) e.1
 known_goes (Bad why) next s a e = absurd e
 
 pub load_known : (next : ℕ) (rec : AsmRec) (s : State) (o : Operand) (token a : ℕ) (stack : List Value) → Some token ≡ token_in o → IsObjectOf (text_of rec token) s.heap s.texts a → stack ≡ Object a ∷ s.top.stack
@@ -108,12 +110,12 @@ load_known next rec s o token a stack named is pushed =
 -- the memo with one token more
 is_kept : (t : Known (List ℕ)) (s u : State) (a : ℕ) → ((others : List ℕ) (b : ℕ) → object_of s.heap s.texts others ≡ Some b → object_of u.heap u.texts others ≡ Some b)
     → IsObjectOf t s.heap s.texts a → IsObjectOf t u.heap u.texts a
-is_kept (Good units) s u a kept e = kept units a e
+is_kept (Good units) s u a kept e = (e.0, kept units a e.1)
 is_kept (Bad why) s u a kept e = absurd e
 
-pub memo_put : (rec : AsmRec) (old new : Memo) (s u v : State) (token a : ℕ) (units : List ℕ) → IsMemo rec old s → text_of rec token ≡ Good units → Gives s units a u
+pub memo_put : (rec : AsmRec) (old new : Memo) (s u v : State) (token a : ℕ) (units : List ℕ) → IsMemo rec old s → text_of rec token ≡ Good units → length units ≤ text_limit → Gives s units a u
     → ((q : ℕ) → object_in new q ≡ cond (eqb q token) (Some a) (object_in old q)) → v.heap ≡ u.heap → v.texts ≡ u.texts → IsMemo rec new v
-memo_put rec old new s u v token a units is names gives put heap texts =
+memo_put rec old new s u v token a units is names within gives put heap texts =
     subst (λ (h : List Obj). IsMemo rec new (record v { heap = h })) (sym heap)
     (subst (λ (t : List ℕ). IsMemo rec new (record v { heap = u.heap; texts = t })) (sym texts)
     (record { there = gives.there; objects = λ q b e. each q b (cases_eq q token) (sym (put q) ∙ e) }))
@@ -121,7 +123,7 @@ memo_put rec old new s u v token a units is names gives put heap texts =
     each : (q b : ℕ) → (q ≡ token) ⊎ (q ≡ token → ⊥) → cond (eqb q token) (Some a) (object_in old q) ≡ Some b → IsObjectOf (text_of rec q) u.heap u.texts b
     each q b (inl same) e =
         let here : Some a ≡ Some b = ap (λ (t : Bool). cond t (Some a) (object_in old q)) (sym (eq-eqb q token same)) ∙ e in
-        subst (λ (t : Known (List ℕ)). IsObjectOf t u.heap u.texts b) (sym (ap (λ (t : ℕ). text_of rec t) same ∙ names)) (gives.object ∙ here)
+        subst (λ (t : Known (List ℕ)). IsObjectOf t u.heap u.texts b) (sym (ap (λ (t : ℕ). text_of rec t) same ∙ names)) (within, gives.object ∙ here)
     each q b (inr ne) e =
         let before : object_in old q ≡ Some b = ap (λ (t : Bool). cond t (Some a) (object_in old q)) (sym (ne_eqb q token ne)) ∙ e in
         is_kept (text_of rec q) s u b gives.kept (is.objects q b before)

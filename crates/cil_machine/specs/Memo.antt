@@ -1,5 +1,5 @@
 -- What the machine keeps beside a state, so that `ldstr` searches once for each token.
-use Rattle.std.specs.Prelude.{◌≡◌, ℕ, ◌<◌, List, ◌∷◌, length, Option, Some, slice_get, nat_eq}
+use Rattle.std.specs.Prelude.{◌≡◌, ℕ, ◌<◌, ◌≤◌, List, ◌∷◌, length, Option, Some, slice_get, nat_eq}
 use Rattle.std.specs.HashMap.{get}
 use Rattle.world_model.specs.declared.known.Known.{Known}
 use Rattle.world_model.specs.declared.known.Known.TheVariants.{Good, Bad}
@@ -9,7 +9,7 @@ use Rattle.cil_values.specs.declared.value.Obj.{Obj}
 use Rattle.cil_values.specs.declared.state.State.{State}
 use Rattle.cil_values.specs.World.{text_of}
 use Rattle.cil_values.specs.Words.{goes}
-use Rattle.cil_values.specs.Text.{object_of, load_text}
+use Rattle.cil_values.specs.Text.{object_of, with_object, text_limit}
 use Rattle.cil_machine.specs.declared.memo.Memo.{Memo}
 use Rattle.cil_machine.specs.declared.step_out.StepOut.{StepOut}
 use Rattle.cil_machine.specs.declared.step_out.StepOut.TheVariants.{Went, Over}
@@ -21,9 +21,9 @@ object_in memo token = get nat_eq memo.map token
 abbrev pub AreThere : List Obj → List ℕ → Type 0
 AreThere heap texts = (k a : ℕ) → slice_get texts k ≡ Some a → a < length heap
 
--- a text that has a reading has its object at a
+-- a text that has a reading and is within the limit has its object at a
 abbrev pub IsObjectOf : Known (List ℕ) → List Obj → List ℕ → ℕ → Type 0
-IsObjectOf (Good units) heap texts a = object_of heap texts units ≡ Some a
+IsObjectOf (Good units) heap texts a = (length units ≤ text_limit) × (object_of heap texts units ≡ Some a)
 IsObjectOf (Bad why) heap texts a = ⊥
 
 -- what is kept of each token is the object of its text
@@ -38,7 +38,7 @@ MemoAfter rec memo (Over e) s = Unit {0}
 
 -- the object of a text is at a in the state t, which has the objects of the state s and no other but this
 pub record Gives (s : State) (units : List ℕ) (a : ℕ) (t : State) : Type 0 where
-  pub loads : (next : ℕ) → load_text next s units ≡ goes next (Object a ∷ t.top.stack) t
+  pub loads : (next : ℕ) → with_object next s units (object_of s.heap s.texts units) ≡ goes next (Object a ∷ t.top.stack) t
   pub object : object_of t.heap t.texts units ≡ Some a
   pub there : AreThere t.heap t.texts
   pub kept : (others : List ℕ) (b : ℕ) → object_of s.heap s.texts others ≡ Some b → object_of t.heap t.texts others ≡ Some b

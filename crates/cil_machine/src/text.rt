@@ -18,6 +18,9 @@ use cil_values::{Obj, State, Value};
 use il_base::{NoMemory, Operand, Seq, Units};
 use std::alloc::Global;
 
+/// The most units that a text has (UTF-16).
+const TEXT_LIMIT: usize = 16_777_216;
+
 fn holds_text(heap: &Seq<Obj>, at: u32, units: &Units) -> bool
     ensures { result ≡ holds_text units.now (slice_get heap.now at) }
 {
@@ -68,7 +71,7 @@ fn object_for(alloc: Global, st: &mut State, units: &Units) -> Result<u32, NoMem
     }
 }
 
-/// The first load of a token, whose text is this.
+/// The first load of a token, whose text is this: a text beyond the limit takes no memory and ends the run.
 fn load_text(
     alloc: Global,
     program: &Program,
@@ -83,6 +86,9 @@ fn load_text(
     ensures out { IfOk result (λ out. next_of out st.new [] ≡ load_text next st.old units.now) }
     ensures memo { IfOk result (λ out. MemoAfter program.now.rec.now memo.new out st.new) }
 {
+    if units.len() > TEXT_LIMIT {
+        return Ok(stopped(st));
+    }
     let at = object_for(alloc, st, units)?;
     memo.put(token, at)?;
     st.top.stack.push(Value::Object(at))?;

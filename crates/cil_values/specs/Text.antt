@@ -1,11 +1,11 @@
 -- The objects of texts (III.4.16): `ldstr` gives one object for each text.
-use Rattle.std.specs.Prelude.{ℕ, List, [], ◌∷◌, ◌++◌, length, Bool, false, Option, Some, None, slice_get, find, nat_eq}
+use Rattle.std.specs.Prelude.{ℕ, List, [], ◌∷◌, ◌++◌, length, Bool, false, Option, Some, None, slice_get, find, nat_eq, nat_le, if◌then◌else◌}
 use Rattle.std.specs.Cmp.Lexicographic.{pointwise}
 use Rattle.cil_values.specs.declared.value.Value.TheVariants.{Object}
 use Rattle.cil_values.specs.declared.value.Obj.{Obj}
 use Rattle.cil_values.specs.declared.value.Obj.TheVariants.{Str}
 use Rattle.cil_values.specs.declared.state.State.{State}
-use Rattle.cil_values.specs.Words.{Next, goes}
+use Rattle.cil_values.specs.Words.{Next, goes, stopped}
 
 -- whether an object is the string of these units
 abbrev pub holds_text : List ℕ → Option Obj → Bool
@@ -21,6 +21,10 @@ with_object next s units (Some a) = goes next (Object a ∷ s.top.stack) s
 with_object next s units None =
     goes next (Object (length s.heap) ∷ s.top.stack) (record s { heap = s.heap ++ Str units ∷ []; texts = s.texts ++ length s.heap ∷ [] })
 
--- the text's object on the stack, made now where it wasn't there
+-- a text has at most this many units
+abbrev pub text_limit : ℕ
+text_limit = 16777216
+
+-- the text's object on the stack, made now where it wasn't there; a longer text has none and ends the run
 abbrev pub load_text : ℕ → State → List ℕ → Next
-load_text next s units = with_object next s units (object_of s.heap s.texts units)
+load_text next s units = if nat_le (length units) text_limit then with_object next s units (object_of s.heap s.texts units) else stopped s

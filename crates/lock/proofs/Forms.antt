@@ -1,6 +1,6 @@
 -- One lemma for each form of instruction.
-use Rattle.std.proofs.Common.{◌≡◌, ℕ, List, ◌∷◌, Bool, Option, Some, None, refl}
-use Rattle.std.specs.Prelude.{IsTrue, slice_get, if◌then◌else◌}
+use Rattle.std.proofs.Common.{◌≡◌, ℕ, List, ◌∷◌, length, Bool, true, false, Option, Some, None, refl}
+use Rattle.std.specs.Prelude.{IsTrue, nat_le, slice_get, if◌then◌else◌}
 use Rattle.il_base.specs.declared.body.Form.{Form}
 use Rattle.il_base.specs.declared.body.Form.TheVariants as form
 use Rattle.world_model.specs.declared.known.Known.TheVariants.{Good, Bad}
@@ -8,8 +8,8 @@ use Rattle.cil_values.specs.declared.value.Value.{Value}
 use Rattle.cil_values.specs.declared.value.Value.TheVariants.{I4}
 use Rattle.cil_values.specs.declared.state.State.{State}
 use Rattle.cil_values.specs.Queries.{Queries, Method, Instruction, Use, number, slot, target, callee, text}
-use Rattle.cil_values.specs.Words.{stores}
-use Rattle.cil_values.specs.Text.{object_of, with_object}
+use Rattle.cil_values.specs.Words.{stopped, stores}
+use Rattle.cil_values.specs.Text.{object_of, with_object, text_limit}
 use Rattle.cil_values.specs.Step.{load, keep_local, store_local, int32_of, load_int, load_str, branch, branches_on, branch_if, binary_of, binary, pop, call_use, execute}
 use Rattle.lock.specs.Move.{move_state, move_method, move_instruction, move_use}
 use Rattle.lock.specs.Agree.{Agree}
@@ -45,10 +45,16 @@ module _ (keeps : ℕ → Bool) (rho : ℕ → ℕ) where
   with_object_lock next s units (Some a) c = goes_lock keeps rho next _ s c
   with_object_lock next s units None c = record { same = refl; kept = record { top = c.top; below = c.below } }
 
+  load_text_lock : (next : ℕ) (s : State) (units : List ℕ) (within : Bool) → Covered keeps s
+      → Lock keeps rho (if within then with_object next (move_state rho s) units (object_of s.heap s.texts units) else stopped (move_state rho s))
+      (if within then with_object next s units (object_of s.heap s.texts units) else stopped s)
+  load_text_lock next s units true c = with_object_lock next s units (object_of s.heap s.texts units) c
+  load_text_lock next s units false c = stopped_lock keeps rho s
+
   load_str_lock : (next : ℕ) (s : State) (u : Use) → Covered keeps s
       → Lock keeps rho (load_str next (move_state rho s) (move_use rho u)) (load_str next s u)
   load_str_lock next s (text units) c =
-      known_lock keeps rho units s _ _ (λ known_units. with_object_lock next s known_units (object_of s.heap s.texts known_units) c)
+      known_lock keeps rho units s _ _ (λ known_units. load_text_lock next s known_units (nat_le (length known_units) text_limit) c)
   load_str_lock next s _ c = stuck_lock keeps rho s
 
   branch_lock : (s : State) (u : Use) → Covered keeps s

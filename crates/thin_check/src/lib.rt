@@ -5,6 +5,7 @@
 mod elements;
 mod methods;
 mod opcodes;
+mod operands;
 mod other_tables;
 mod thin;
 

@@ -1,15 +1,13 @@
 ghost use Rattle.std.specs.Prelude.{◌≡◌, not};
 ghost use Rattle.std.specs.List.{list_all, list_any};
 ghost use Rattle.std.specs.Cmp.Lexicographic.{pointwise};
-ghost use Rattle.world_model.specs.Thin.{is_slot_type, is_return_type, is_thin_sig, is_slots_at, has_thin_locals, is_call_operand, is_thin_instr, is_thin_body, begins_with_dot, is_thin_flags, has_thin_sig, has_thin_body, is_thin_method, same_type, same_sig, same_method, all_differ};
+ghost use Rattle.world_model.specs.Thin.{is_slot_type, is_return_type, is_thin_sig, is_slots_at, has_thin_locals, is_thin_instr, is_thin_body, begins_with_dot, is_thin_flags, has_thin_sig, has_thin_body, is_thin_method, same_type, same_sig, same_method, all_differ};
 
 use crate::elements::{I4, STRING, VOID, is_prim};
 use crate::opcodes::is_thin_opcode;
-use il_base::{Body, Instr, MethodSig, Operand, Sig};
+use crate::operands::is_thin_operand;
+use il_base::{Body, Instr, MethodSig, Sig};
 use world_model::{AsmRec, Known, MethodDefRow, index_in};
-
-/// `call`.
-const CALL: u16 = 0x28;
 
 /// Whether a type is int32 or string.
 fn is_slot_type(t: &Sig) -> bool
@@ -57,20 +55,10 @@ fn has_thin_locals(rec: &AsmRec, token: u32) -> bool
     }
 }
 
-/// Whether an operand is a token of MethodDef or MemberRef.
-fn is_call_operand(operand: &Operand) -> bool
-    ensures { result ≡ is_call_operand operand.now }
-{
-    match operand {
-        Operand::Token(token) => token / 0x100_0000 == 0x06 || token / 0x100_0000 == 0x0a,
-        _ => false,
-    }
-}
-
 fn is_thin_instr(i: &Instr) -> bool
     ensures { result ≡ is_thin_instr i.now }
 {
-    is_thin_opcode(i.opcode) && (i.opcode != CALL || is_call_operand(&i.operand))
+    is_thin_opcode(i.form, i.opcode) && is_thin_operand(i.form, &i.operand)
 }
 
 fn are_thin_instrs(code: &[Instr]) -> bool

@@ -1,79 +1,32 @@
-ghost use Rattle.std.specs.Prelude.{◌≡◌, is_some};
-ghost use Rattle.thin_check.specs.Opcodes.{later_opcode, two_byte_opcode};
-ghost use Rattle.world_model.specs.Opcodes.{thin_opcode};
+ghost use Rattle.std.specs.Prelude.{◌≡◌};
+ghost use Rattle.world_model.specs.Opcodes.{is_in};
+ghost use Rattle.world_model.specs.Thin.{is_thin_opcode};
 
-/// Whether an opcode is one of the twelve thin forms (III.3, III.4).
-#[tactic(auto, unfolding(world_model::specs::Opcodes::thin_opcode))]
-pub fn is_thin_opcode(op: u16) -> bool
-    ensures { result ≡ is_some (thin_opcode op) }
+use il_base::Form;
+
+fn is_in(low: u16, high: u16, op: u16) -> bool
+    ensures { result ≡ is_in low high op }
 {
-    if op == 0x00 {
-        true
-    } else if 0x02 <= op && op <= 0x05 {
-        true
-    } else if 0x06 <= op && op <= 0x09 {
-        true
-    } else if 0x0a <= op && op <= 0x0d {
-        true
-    } else if op == 0x0e {
-        true
-    } else if op == 0x11 {
-        true
-    } else if op == 0x13 {
-        true
-    } else if op == 0x15 {
-        true
-    } else if 0x16 <= op && op <= 0x1e {
-        true
-    } else if op == 0x1f {
-        true
-    } else if op == 0x20 {
-        true
-    } else {
-        is_later_opcode(op)
-    }
+    low <= op && op <= high
 }
 
-/// The opcodes from 26 on.
-fn is_later_opcode(op: u16) -> bool
-    ensures { result ≡ is_some (later_opcode op) }
+/// Whether an opcode is one of a thin form (III.3, III.4).
+pub fn is_thin_opcode(form: Form, op: u16) -> bool
+    ensures { result ≡ is_thin_opcode form op }
 {
-    if op == 0x26 {
-        true
-    } else if op == 0x28 {
-        true
-    } else if op == 0x2a {
-        true
-    } else if op == 0x2b {
-        true
-    } else if 0x2c <= op && op <= 0x2d {
-        true
-    } else if op == 0x38 {
-        true
-    } else if 0x39 <= op && op <= 0x3a {
-        true
-    } else if 0x58 <= op && op <= 0x5a {
-        true
-    } else if op == 0x72 {
-        true
-    } else {
-        is_two_byte_opcode(op)
-    }
-}
-
-/// The opcodes of two bytes.
-fn is_two_byte_opcode(op: u16) -> bool
-    ensures { result ≡ is_some (two_byte_opcode op) }
-{
-    if op == 0xfe01 {
-        true
-    } else if op == 0xfe09 {
-        true
-    } else if op == 0xfe0c {
-        true
-    } else if op == 0xfe0e {
-        true
-    } else {
-        false
+    match form {
+        Form::Nop => op == 0x00,
+        Form::LdArg => is_in(0x02, 0x05, op) || op == 0x0e || op == 0xfe09,
+        Form::LdLoc => is_in(0x06, 0x09, op) || op == 0x11 || op == 0xfe0c,
+        Form::StLoc => is_in(0x0a, 0x0d, op) || op == 0x13 || op == 0xfe0e,
+        Form::LdI4 => is_in(0x15, 0x20, op),
+        Form::LdStr => op == 0x72,
+        Form::Pop => op == 0x26,
+        Form::Br => op == 0x2b || op == 0x38,
+        Form::BrIf => is_in(0x2c, 0x2d, op) || is_in(0x39, 0x3a, op),
+        Form::Binary => is_in(0x58, 0x5a, op) || op == 0xfe01,
+        Form::Call => op == 0x28,
+        Form::Ret => op == 0x2a,
+        _ => false,
     }
 }

@@ -6,6 +6,8 @@ use Rattle.std.specs.Cmp.Lexicographic.{pointwise}
 use Rattle.il_base.specs.declared.sig.Sig.{Sig, Prim}
 use Rattle.il_base.specs.declared.sig.MethodSig.{MethodSig}
 use Rattle.il_base.specs.declared.body.Body.{Body}
+use Rattle.il_base.specs.declared.body.Form.{Form}
+use Rattle.il_base.specs.declared.body.Form.TheVariants as form
 use Rattle.il_base.specs.declared.body.Instr.{Instr}
 use Rattle.il_base.specs.declared.body.Operand.{Operand}
 use Rattle.il_base.specs.declared.body.Operand.TheVariants as operand
@@ -18,7 +20,7 @@ use Rattle.world_model.specs.declared.members.StandAloneSigRow.{StandAloneSigRow
 use Rattle.world_model.specs.declared.assemblies.AssemblyRow.{AssemblyRow}
 use Rattle.world_model.specs.declared.record.AsmRec.{AsmRec}
 use Rattle.world_model.specs.Tokens.{table_of, index_in}
-use Rattle.world_model.specs.Opcodes.{thin_opcode}
+use Rattle.world_model.specs.Opcodes.{is_in}
 use Rattle.world_model.specs.Core.{same_name, is_core_name, is_system_type, is_type_token, is_prim, core_member}
 
 abbrev pub no_rows : {A : Type 0} → List A → Bool
@@ -63,8 +65,61 @@ abbrev pub is_call_operand : Operand → Bool
 is_call_operand (operand.Token token) = is_call_token token
 is_call_operand _ = false
 
+abbrev pub is_nothing : Operand → Bool
+is_nothing operand.None = true
+is_nothing _ = false
+
+abbrev pub is_number : Operand → Bool
+is_number (operand.Number n) = true
+is_number _ = false
+
+abbrev pub is_slot : Operand → Bool
+is_slot (operand.Slot k) = true
+is_slot _ = false
+
+abbrev pub is_token : Operand → Bool
+is_token (operand.Token token) = true
+is_token _ = false
+
+abbrev pub is_target : Operand → Bool
+is_target (operand.Target to) = true
+is_target _ = false
+
+-- the opcodes of the twelve thin forms (III.3, III.4); of those of Br, BrIf, Binary and Call a few
+abbrev pub is_thin_opcode : Form → ℕ → Bool
+is_thin_opcode form.Nop op = op == 0x00
+is_thin_opcode form.LdArg op = is_in 0x02 0x05 op || op == 0x0e || op == 0xfe09
+is_thin_opcode form.LdLoc op = is_in 0x06 0x09 op || op == 0x11 || op == 0xfe0c
+is_thin_opcode form.StLoc op = is_in 0x0a 0x0d op || op == 0x13 || op == 0xfe0e
+is_thin_opcode form.LdI4 op = is_in 0x15 0x20 op
+is_thin_opcode form.LdStr op = op == 0x72
+is_thin_opcode form.Pop op = op == 0x26
+is_thin_opcode form.Br op = op == 0x2b || op == 0x38
+is_thin_opcode form.BrIf op = is_in 0x2c 0x2d op || is_in 0x39 0x3a op
+is_thin_opcode form.Binary op = is_in 0x58 0x5a op || op == 0xfe01
+is_thin_opcode form.Call op = op == 0x28
+is_thin_opcode form.Ret op = op == 0x2a
+is_thin_opcode _ op = false
+
+-- the operands that each has
+abbrev pub is_thin_operand : Form → Operand → Bool
+is_thin_operand form.Nop o = is_nothing o
+is_thin_operand form.LdArg o = is_slot o
+is_thin_operand form.LdLoc o = is_slot o
+is_thin_operand form.StLoc o = is_slot o
+is_thin_operand form.LdI4 o = is_number o
+is_thin_operand form.LdStr o = is_token o
+is_thin_operand form.Pop o = is_nothing o
+is_thin_operand form.Br o = is_target o
+is_thin_operand form.BrIf o = is_target o
+is_thin_operand form.Binary o = is_nothing o
+is_thin_operand form.Call o = is_call_operand o
+is_thin_operand form.Ret o = is_nothing o
+is_thin_operand _ o = false
+
+-- an opcode and an operand of its form
 abbrev pub is_thin_instr : Instr → Bool
-is_thin_instr i = is_some (thin_opcode i.opcode) && (if i.opcode == 0x28 then is_call_operand i.operand else true)
+is_thin_instr i = is_thin_opcode i.form i.opcode && is_thin_operand i.form i.operand
 
 abbrev pub is_thin_body : AsmRec → Body → Bool
 is_thin_body rec b = no_rows b.handlers && has_thin_locals rec b.locals && list_all is_thin_instr b.code

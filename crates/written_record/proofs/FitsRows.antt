@@ -19,6 +19,7 @@ use Rattle.record_format.specs.Members.{method_def_row, stand_alone_sig_row}
 use Rattle.record_format.specs.Texts.{text_offsets}
 use Rattle.record_format.specs.Record.{record_demands, methods_of, record_at, HasRecord}
 use Rattle.written_tables.specs.Written.{IsText}
+use Rattle.agreement.specs.Premises.{BodiesHaveSpelling}
 use Rattle.written_record.specs.Fits.{IsGuid, Each, FitsModule, FitsTypeDef, FitsMethodDef, FitsLocals, FitsAssembly, FitsAssemblyRef, Fits}
 use Rattle.written_record.proofs.FitsCells.{heap_bytes, metadata_bytes, number_below, text_is, BlobIs, blob_is, guid_is}
 use Rattle.written_record.proofs.FitsDemands.{tables_met, not_native, one_module, length_rows, each_row, no_type_specs}
@@ -148,6 +149,14 @@ module _ (bs : List ℕ) (bytes : AreBytes bs) (meets : first_fault (record_dema
     assembly_refs = each_row FitsAssemblyRef (assembly_ref_row m) (rows_of ts 0x23) (λ k h. assembly_ref_fits (suc k));
     texts = texts_fit (heap m UserStrings) (methods_of bs) (heap_bytes m UserStrings m_bytes) (text_offsets (heap m UserStrings));
   }
+
+-- the bodies of a file, thin or not
+pub bodies_law : (bs : List ℕ) (rec : AsmRec) → AreBytes bs → HasRecord bs rec → BodiesHaveSpelling rec
+unfolding record_at count_of
+bodies_law bs rec bytes h =
+    let m : List ℕ = metadata_of bs in
+    subst BodiesHaveSpelling (sym h.is)
+    (λ k row e. (each_row FitsMethodDef (method_def_row bs m) (rows_of (tables_stream m) 0x06) (λ n lt. method_fits bs bytes h.meets (suc n)) k row e).body)
 
 specs_read : (bs : List ℕ) → length (record_at bs).type_spec ≡ rows_of (tables_stream (metadata_of bs)) 0x1b
 unfolding record_at count_of

@@ -3,6 +3,7 @@ pub mod FitsDemands
 pub mod FitsBodies
 pub mod FitsTokens
 pub mod FitsRows
+pub mod FitsOpcodes
 pub mod StandsLists
 pub mod StandsNumbers
 pub mod StandsCode

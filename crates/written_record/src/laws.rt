@@ -1,11 +1,16 @@
-ghost use Rattle.std.specs.Prelude.{◌≡◌, ◌≤◌, ◌^◌, ℕ, List, Bool, length, IsTrue};
+ghost use Rattle.std.specs.Prelude.{◌≡◌, ◌≤◌, ◌^◌, ℕ, List, Bool, length, slice_get, IsTrue};
+ghost use Rattle.std.specs.List.{list_all};
+ghost use Rattle.il_base.specs.declared.body.Body.{Body};
 ghost use Rattle.blob_grammar.specs.Laws.{AreBytes};
+ghost use Rattle.world_model.specs.declared.known.Known.TheVariants.{Good};
+ghost use Rattle.world_model.specs.declared.members.MethodDefRow.{MethodDefRow};
 ghost use Rattle.world_model.specs.declared.record.AsmRec.{AsmRec};
 ghost use Rattle.record_format.specs.Record.{HasRecord};
 ghost use Rattle.file_layout.specs.Laid.{streams_of, laid, laid_length};
-ghost use Rattle.world_model.specs.Thin.{is_thin};
+ghost use Rattle.world_model.specs.Thin.{is_thin, is_thin_instr};
 ghost use Rattle.restriction.specs.Restricted.{restricted};
 ghost use Rattle.agreement.specs.Premises.{CanRestrict};
+ghost use Rattle.written_record.specs.ByOpcode.{has_thin_opcode};
 ghost use Rattle.written_record.specs.Fits.{Fits};
 ghost use Rattle.written_record.specs.LaidOut.{LaidOut};
 
@@ -18,6 +23,13 @@ use written_tables::laws::{each_once, heaps, tables};
 /// The rows of a file's record, where it is thin, have what a file can hold.
 pub fn fits()
     ensures { (bs : List ℕ) (rec : AsmRec) → AreBytes bs → HasRecord bs rec → IsTrue (is_thin rec) → Fits rec }
+{}
+
+/// Whether the code of a file's body is thin shows in its opcodes, and in the tokens of its calls: each instruction has its
+/// opcode's form, and an operand of that form's kind (III.1.2).
+pub fn opcodes_tell()
+    ensures { (bs : List ℕ) (rec : AsmRec) → AreBytes bs → HasRecord bs rec → (m : ℕ) (row : MethodDefRow) (b : Body)
+        → slice_get rec.method_def m ≡ Some row → row.body ≡ Some (Good b) → list_all is_thin_instr b.code ≡ list_all has_thin_opcode b.code }
 {}
 
 /// What is left of such a record stands as the layout has it.
