@@ -20,4 +20,3 @@ pub mod AgainTypes
 pub mod AgainRows
 pub mod AgainThin
 pub mod AgainMarked
-pub mod Spelled

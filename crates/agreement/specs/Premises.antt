@@ -1,18 +1,12 @@
 -- When a thin record can be restricted, and how a run of what is left stands to a run of the whole.
-use Rattle.std.specs.Prelude.{◌≡◌, ℕ, ◌+◌, ◌≤◌, ◌^◌, Bool, true, false, List, length, replicate, slice_get, get_or, nat_lt, Some, None, IsTrue, if◌then◌else◌}
-use Rattle.il_base.specs.declared.body.Body.{Body}
-use Rattle.il_base.specs.declared.body.Form.TheVariants as form
-use Rattle.il_base.specs.declared.body.Instr.{Instr}
-use Rattle.body_grammar.specs.BodySpelling.{HasSpelling}
-use Rattle.world_model.specs.declared.known.Known.TheVariants.{Good}
-use Rattle.world_model.specs.declared.members.MethodDefRow.{MethodDefRow}
+use Rattle.std.specs.Prelude.{◌≡◌, ℕ, ◌+◌, ◌≤◌, ◌^◌, Bool, true, false, List, length, replicate, get_or, nat_lt, Some, None, IsTrue, if◌then◌else◌}
 use Rattle.world_model.specs.declared.record.AsmRec.{AsmRec}
 use Rattle.world_model.specs.Thin.{is_thin}
 use Rattle.cil_values.specs.World.{queries_of, entry_of}
 use Rattle.cil_values.specs.Run.{run_from}
 use Rattle.lock.specs.Agree.{Agree}
 use Rattle.lock.specs.Move.{move_outcome}
-use Rattle.trim_rules.specs.Marked.{code_at, IsMarking}
+use Rattle.trim_rules.specs.Marked.{IsMarking}
 use Rattle.trim_rules.specs.BadOperands.{first_bad}
 use Rattle.file_layout.specs.Heaps.{users_heap}
 use Rattle.restriction.specs.Numbering.{new_place}
@@ -46,14 +40,6 @@ pub record RunsAlike (rec : AsmRec) (flags : List Bool) : Type 0 where
   pub before : entry_of rec ≡ Some entry
   pub after : entry_of (restricted rec flags) ≡ Some (rho rec flags entry)
   pub runs : (n : ℕ) → run_from (queries_of (restricted rec flags)) (rho rec flags entry) n ≡ move_outcome (rho rec flags) (run_from (queries_of rec) entry n)
-
--- Each instruction with the opcode of `call` (28) has its form, as in a record that was read (III.3.19).
-abbrev pub CallsHaveForm : AsmRec → Type 0
-CallsHaveForm rec = (m k : ℕ) (i : Instr) → slice_get (code_at rec m) k ≡ Some i → i.opcode ≡ 0x28 → i.form ≡ form.Call
-
--- each body has a spelling, as in a record that was read
-abbrev pub BodiesHaveSpelling : AsmRec → Type 0
-BodiesHaveSpelling rec = (m : ℕ) (row : MethodDefRow) → slice_get rec.method_def m ≡ Some row → (b : Body) → row.body ≡ Some (Good b) → HasSpelling b
 
 -- a flag for each method, each set
 abbrev pub all_flags : AsmRec → List Bool

@@ -11,7 +11,7 @@ ghost use Rattle.restriction.specs.Restricted.{restricted};
 ghost use Rattle.assembly_writer.specs.CanWrite.{CanWrite};
 ghost use Rattle.trim_laws.specs.Headline.{Headline};
 
-use agreement::laws::{calls_have_form, runs_alike, settles};
+use agreement::laws::{runs_alike, settles};
 use blob_grammar::laws::values;
 use thin_links::laws::stays_linked;
 use written_record::laws::{fits, restricted_record};
@@ -33,8 +33,6 @@ pub fn headline()
         → first_bad rec flags ≡ None → laid_length (restricted rec flags) ≤ 268435456 → length (streams_of (restricted rec flags)).users ≤ 16777216
         → Headline rec flags }
 {
-    fits();
-    calls_have_form();
     restricted_record();
     runs_alike();
     settles();

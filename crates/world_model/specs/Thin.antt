@@ -1,5 +1,5 @@
 -- Thin records: one class of static methods over int32 and string, in twelve forms of instruction, that prints through
--- `Console.WriteLine`. Everything that is read, run and trimmed so far is a thin record.
+-- `Console.WriteLine`. Every record that is run or trimmed so far is thin.
 use Rattle.std.specs.Prelude.{ℕ, ◌+◌, ◌/◌, ◌%◌, List, [], ◌∷◌, length, Bool, true, false, Option, Some, None, codes, slice_get, is_some, not, nat_le, ◌&&◌, ◌||◌, ◌==◌, if◌then◌else◌}
 use Rattle.std.specs.List.{list_all, list_any}
 use Rattle.std.specs.Cmp.Lexicographic.{pointwise}

@@ -1,6 +1,7 @@
 -- The rows of a thin file's record have what a file can hold.
-use Rattle.std.proofs.Common.{◌≡◌, ℕ, suc, ◌+◌, ◌^◌, ◌<◌, ◌≤◌, true, List, length, None, refl, sym, ap, subst, ◌∙◌, arith}
-use Rattle.std.specs.Prelude.{IsTrue, ◌==◌, ◌||◌}
+use Rattle.std.proofs.Common.{◌≡◌, ℕ, suc, ◌+◌, ◌^◌, ◌<◌, ◌≤◌, true, List, length, Some, None, refl, sym, ap, subst, ◌∙◌, arith}
+use Rattle.std.specs.Prelude.{IsTrue, slice_get, ◌==◌, ◌||◌}
+use Rattle.il_base.specs.declared.body.Body.{Body}
 use Rattle.blob_grammar.specs.Laws.{AreBytes}
 use Rattle.cli_format.specs.declared.column.CodedIndex.TheVariants.{TypeDefOrRef}
 use Rattle.cli_format.specs.declared.stream.StreamName.TheVariants.{Tables, Strings, Blobs, Guids, UserStrings}
@@ -11,6 +12,9 @@ use Rattle.cli_format.specs.Streams.{heap}
 use Rattle.cli_format.specs.Tables.{rows_of, cell_number, column_of, width, names_coded}
 use Rattle.cli_format.specs.Metadata.{tables_stream, names_item, most_rows}
 use Rattle.cli_format.proofs.Plain.{cells_law, few_law}
+use Rattle.body_grammar.specs.BodySpelling.{HasSpelling}
+use Rattle.world_model.specs.declared.known.Known.TheVariants.{Good}
+use Rattle.world_model.specs.declared.members.MethodDefRow.{MethodDefRow}
 use Rattle.world_model.specs.declared.record.AsmRec.{AsmRec}
 use Rattle.world_model.specs.Thin.{is_thin}
 use Rattle.record_format.specs.Cells.{number_in, text_in, blob_in, guid_in, token_in, count_of, all_rows}
@@ -19,7 +23,6 @@ use Rattle.record_format.specs.Members.{method_def_row, stand_alone_sig_row}
 use Rattle.record_format.specs.Texts.{text_offsets}
 use Rattle.record_format.specs.Record.{record_demands, methods_of, record_at, HasRecord}
 use Rattle.written_tables.specs.Written.{IsText}
-use Rattle.agreement.specs.Premises.{BodiesHaveSpelling}
 use Rattle.written_record.specs.Fits.{IsGuid, Each, FitsModule, FitsTypeDef, FitsMethodDef, FitsLocals, FitsAssembly, FitsAssemblyRef, Fits}
 use Rattle.written_record.proofs.FitsCells.{heap_bytes, metadata_bytes, number_below, text_is, BlobIs, blob_is, guid_is}
 use Rattle.written_record.proofs.FitsDemands.{tables_met, not_native, one_module, length_rows, each_row, no_type_specs}
@@ -149,6 +152,10 @@ module _ (bs : List ℕ) (bytes : AreBytes bs) (meets : first_fault (record_dema
     assembly_refs = each_row FitsAssemblyRef (assembly_ref_row m) (rows_of ts 0x23) (λ k h. assembly_ref_fits (suc k));
     texts = texts_fit (heap m UserStrings) (methods_of bs) (heap_bytes m UserStrings m_bytes) (text_offsets (heap m UserStrings));
   }
+
+-- each body has a spelling
+abbrev pub BodiesHaveSpelling : AsmRec → Type 0
+BodiesHaveSpelling rec = (m : ℕ) (row : MethodDefRow) → slice_get rec.method_def m ≡ Some row → (b : Body) → row.body ≡ Some (Good b) → HasSpelling b
 
 -- the bodies of a file, thin or not
 pub bodies_law : (bs : List ℕ) (rec : AsmRec) → AreBytes bs → HasRecord bs rec → BodiesHaveSpelling rec

@@ -14,7 +14,7 @@ ghost use Rattle.written_record.specs.ByOpcode.{has_thin_opcode};
 ghost use Rattle.written_record.specs.Fits.{Fits};
 ghost use Rattle.written_record.specs.LaidOut.{LaidOut};
 
-use agreement::laws::{calls_have_form, settles};
+use agreement::laws::settles;
 use blob_grammar::laws::{locals, methods, values};
 use body_grammar::written_body_is_read;
 use written_image::laws::{images, metadata};
@@ -36,7 +36,6 @@ pub fn opcodes_tell()
 pub fn stands()
     ensures { (rec : AsmRec) (flags : List Bool) → Fits rec → CanRestrict rec flags → LaidOut (restricted rec flags) }
 {
-    calls_have_form();
     settles();
 }
 

@@ -1,14 +1,11 @@
 -- The parts, where what is left of a file's record is short enough that the record can be restricted.
 use Rattle.std.proofs.Common.{arith}
-use Rattle.agreement.specs.Premises.{CanRestrict, CallsHaveForm}
-use Rattle.written_record.specs.Fits.{Fits}
+use Rattle.agreement.specs.Premises.{CanRestrict}
 use Rattle.trim_laws.proofs.Limits.{few_methods, texts_left}
 use Rattle.trim_laws.proofs.laws.headline.Goals as goal
 
 pub returns : goal.returns
 returns c = λ bs rec flags bytes has thin linked marking good few texts.
-    let fits : Fits rec = c.fits.ensures bs rec bytes has thin in
-    let formed : CallsHaveForm rec = c.calls_have_form.ensures rec (λ m row e. (fits.methods m row e).body) in
     let can : CanRestrict rec flags = record {
       thin = thin;
       few_methods = few_methods bs rec has;
@@ -20,5 +17,5 @@ returns c = λ bs rec flags bytes has thin linked marking good few texts.
       loads = c.restricted_record.ensures bs rec flags bytes has can (omega (arith, few)) (omega (arith, texts));
       links = c.stays_linked.ensures rec flags thin linked;
       runs = c.runs_alike.ensures rec flags can;
-      settled = c.settles.ensures rec flags can formed;
+      settled = c.settles.ensures rec flags can;
     }
