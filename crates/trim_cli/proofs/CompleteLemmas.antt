@@ -11,16 +11,20 @@ use Rattle.trim_core.specs.Trim.{Trims}
 use Rattle.trim_cli.specs.declared.command.Command.{Command}
 use Rattle.trim_cli.specs.declared.command.Command.TheVariants.{Exec, Trim}
 use Rattle.trim_cli.specs.declared.status.Status.{Status}
-use Rattle.trim_cli.specs.declared.status.Status.TheVariants.{Done, BadWords, NoMemory}
-use Rattle.trim_cli.specs.Answer.{SinkFailed, Reports, IsDue, FileAnswer, ExecCaused, IsTrimDue, TrimAnswer, TrimCaused, CausedBy, word_at, capped, assembly_of, refused}
+use Rattle.trim_cli.specs.declared.status.Status.TheVariants.{Done, BadWords, WriteFault, NoMemory}
+use Rattle.trim_cli.specs.Answer.{SinkFailed, starved_status, Reports, IsDue, FileAnswer, ExecCaused, IsTrimDue, TrimAnswer, TrimCaused, CausedBy, word_at, capped, assembly_of, refused}
 use Rattle.trim_cli.specs.Lines.{line_of}
 use Rattle.trim_cli.specs.Complete.{IsQuiet, file_status, trim_status, WantsRun, WantsTrim, Wants, IsAnswered}
+
+starved_is : (s : Status) → (starved_status s ≡ s) ⊎ (starved_status s ≡ NoMemory)
+starved_is WriteFault = inl refl
+starved_is _ = inr refl
 
 -- what was due was answered, or memory ran out
 reported : (line : List ℕ) (s : Status) (out0 out1 err0 err1 : SinkState) (status : Status) → (SinkFailed out0 out1 err0 err1 → ⊥) → Reports line s err0 err1 status → (status ≡ s) ⊎ (status ≡ NoMemory)
 reported line s out0 out1 err0 err1 status quiet (inl x) = inl x.0
 reported line s out0 out1 err0 err1 status quiet (inr (inl x)) = absurd (quiet (inr x.2))
-reported line s out0 out1 err0 err1 status quiet (inr (inr x)) = inr x.0
+reported line s out0 out1 err0 err1 status quiet (inr (inr x)) = elim (starved_is s) [ inl e ↦ inl (x.0 ∙ e) | inr e ↦ inr (x.0 ∙ e) ]
 
 only_memory : (status : Status) → (status ≡ NoMemory) ⊎ (status ≡ NoMemory) → status ≡ NoMemory
 only_memory status (inl e) = e

@@ -44,12 +44,17 @@ assembly_of bytes = unwrap_or (name_of (told_alone bytes)) []
 
 -- ---- a status and its line
 
+-- the answer where memory ran out before the line of a status was written: a write that failed stays one
+abbrev pub starved_status : Status → Status
+starved_status WriteFault = WriteFault
+starved_status s = NoMemory
+
 -- The line of a status was written; or the writing failed, or memory ran out, and a prefix of it was.
 abbrev pub Reports : List ℕ → Status → SinkState → SinkState → Status → Type 0
 Reports line status old new answer =
     ((answer ≡ status) × Appends old.held new.held line × (new.faults ≡ old.faults))
     ⊎ ((answer ≡ WriteFault) × AppendsPrefix old.held new.held line × Rose old.faults new.faults)
-    ⊎ ((answer ≡ NoMemory) × AppendsPrefix old.held new.held line × (new.faults ≡ old.faults))
+    ⊎ ((answer ≡ starved_status status) × AppendsPrefix old.held new.held line × (new.faults ≡ old.faults))
 
 -- a sink failed in this call
 abbrev pub SinkFailed : SinkState → SinkState → SinkState → SinkState → Type 0

@@ -1,12 +1,12 @@
 -- What a trim of files gives, and when it refuses.
-use Rattle.std.specs.Prelude.{◌≡◌, ℕ, Bool, List, Some, None, Result, Ok, Err}
+use Rattle.std.specs.Prelude.{◌≡◌, ◌≤◌, ℕ, Bool, List, Some, None, Result, Ok, Err}
 use Rattle.il_base.specs.declared.ids.Place.{Place}
 use Rattle.world_model.specs.declared.record.AsmRec.{AsmRec}
 use Rattle.trim_rules.specs.declared.bad_operand.BadOperand.{BadOperand}
 use Rattle.trim_rules.specs.Marked.{IsMarking}
 use Rattle.trim_rules.specs.BadOperands.{first_bad}
-use Rattle.file_layout.specs.Laid.{laid}
-use Rattle.assembly_writer.specs.Written.{PassesLimit}
+use Rattle.file_layout.specs.Laid.{laid, laid_length}
+use Rattle.assembly_writer.specs.Written.{PassesLimit, users_length, most_users, most_bytes}
 use Rattle.trim_laws.specs.Headline.{Headline}
 use Rattle.restriction.specs.Restricted.{restricted}
 use Rattle.trim_core.specs.declared.answers.Refusal.{Refusal}
@@ -16,13 +16,15 @@ use Rattle.trim_core.specs.Exec.{place_in}
 use Rattle.trim_core.specs.Told.{RefusedBy}
 
 -- The flags mark exactly the methods that the entry point leads to, and no operand of theirs names nothing. The bytes are
--- those that what is left is laid out in: they load as what is left, which prints, ends, stops or goes on as the whole for
+-- those that what is left is laid out in, and pass no limit: they load as what is left, which prints, ends, stops or goes on as the whole for
 -- every number of steps.
 pub record TrimmedTo (rec : AsmRec) (t : Trimmed) : Type 0 where
   pub flags : List Bool
   pub marking : IsMarking rec flags
   pub good : first_bad rec flags ≡ None
   pub bytes : t.bytes ≡ laid (restricted rec flags)
+  pub users : users_length (restricted rec flags) ≤ most_users
+  pub short : laid_length (restricted rec flags) ≤ most_bytes
   pub headline : Headline rec flags
 
 -- the first operand of a marked method that names nothing

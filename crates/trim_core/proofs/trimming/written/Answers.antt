@@ -19,5 +19,7 @@ returns c =
       marking = c.requires.marking;
       good = c.requires.good;
       bytes = c.from_vec.ensures ∙ c.in-Ok-write.ensures.written ∙ ap (λ (bs : List ℕ). bs ++ laid c.in-Ok.left) c.new-bytes.ensures.items ∙ ap (λ (r : AsmRec). laid r) left;
+      users = users;
+      short = short;
       headline = c.headline.ensures c.args.file.now rec flags fits c.requires.record c.requires.thin c.requires.linked c.requires.marking c.requires.good short users;
     }
