@@ -32,10 +32,13 @@ def blob_item(blob):
     return compressed(len(blob)) + blob
 
 
+SPECIAL = {*range(0x01, 0x09), *range(0x0E, 0x20), 0x27, 0x2D, 0x7F}
+
+
 def text_item(text):
     """A text of `#US` with its last byte (II.24.2.4)."""
     units = text.encode("utf-16-le")
-    special = any(c > "~" or c in "'-" or c < " " for c in text)
+    special = any(high or low in SPECIAL for low, high in zip(units[::2], units[1::2]))
     return compressed(len(units) + 1) + units + bytes([special])
 
 
