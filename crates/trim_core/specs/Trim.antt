@@ -16,8 +16,8 @@ use Rattle.trim_core.specs.Exec.{place_in}
 use Rattle.trim_core.specs.Told.{RefusedBy}
 
 -- The flags mark exactly the methods that the entry point leads to, and no operand of theirs names nothing. The bytes are
--- those that what is left is laid out in, and pass no limit: they load as what is left, which prints, ends, stops or goes on as the whole for
--- every number of steps.
+-- those that what is left is laid out in, and pass no limit: they load as what is left, which prints, ends, stops or goes on
+-- as the whole for every number of steps.
 pub record TrimmedTo (rec : AsmRec) (t : Trimmed) : Type 0 where
   pub flags : List Bool
   pub marking : IsMarking rec flags

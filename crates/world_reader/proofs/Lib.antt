@@ -4,4 +4,3 @@ pub mod Fits
 pub mod Marks
 pub mod Units
 pub mod First
-pub mod Kept
