@@ -1,11 +1,10 @@
 -- What references to members name (II.22.25, II.22.29): a member is found by its name and signature in its parent and then
 -- in the bases, the nearest first.
-use Rattle.std.specs.Prelude.{ℕ, zero, suc, ◌+◌, ◌-◌, List, [], ◌∷◌, length, map, take, drop, Option, Some, None, slice_get, nat_lt, nat_le, ◌==◌, ◌&&◌, Bool, false, if◌then◌else◌}
+use Rattle.std.specs.Prelude.{ℕ, zero, suc, ◌+◌, ◌-◌, List, [], ◌∷◌, length, map, take, drop, Option, Some, None, slice_get, nat_lt, nat_le, ◌==◌, ◌&&◌, Bool, true, false, if◌then◌else◌}
 use Rattle.std.specs.List.{position_from, count_by, range_with_len}
 use Rattle.std.specs.Option.{option_map, option_and_then}
 use Rattle.il_base.specs.declared.ids.TypeId.{TypeId}
 use Rattle.il_base.specs.declared.sig.Sig.{Sig}
-use Rattle.il_base.specs.declared.sig.MethodSig.{MethodSig}
 use Rattle.world_model.specs.declared.known.Known.{Known}
 use Rattle.world_model.specs.declared.known.Known.TheVariants.{Good, Bad}
 use Rattle.world_model.specs.declared.known.BadKind.TheVariants.{Unresolved, Outside}
@@ -26,7 +25,7 @@ use Rattle.world_model.specs.declared.record.AsmRec.{AsmRec}
 use Rattle.world_model.specs.Tokens.{token_of, table_of, index_in}
 use Rattle.world_model.specs.Core.{same_name}
 use Rattle.world_model.specs.Exprs.{subst, levels, same_expr}
-use Rattle.world_model.specs.Worlds.{Names, known_map, known_then, known_or, all_known, rows_before, row_below, types_in, type_id, prim_type, sig_expr}
+use Rattle.world_model.specs.Worlds.{Names, known_map, known_then, all_known, rows_before, row_below, types_in, type_id, prim_type, sig_expr}
 use Rattle.core_table.specs.declared.tokens.TheConstants.{ARRAY}
 use Rattle.link_rules.specs.declared.row_at.RowAt.{RowAt}
 use Rattle.link_rules.specs.declared.member_type.MethodType.{MethodType}
@@ -266,14 +265,26 @@ field_in_parent recs a rec row parent (member.Field s) =
     known_then (λ (wanted : TypeExpr). field_use recs (find_field recs parent row.name wanted)) (sig_expr (names_at recs a rec) s)
 field_in_parent recs a rec row parent (member.Method s) = Bad Unresolved
 
--- why the parent is bad comes before why the signature is
+abbrev pub is_field_sig : Known MemberSig → Bool
+is_field_sig (Good (member.Field s)) = true
+is_field_sig (Good (member.Method s)) = false
+is_field_sig (Bad why) = false
+
+abbrev pub is_method_sig : Known MemberSig → Bool
+is_method_sig (Good (member.Method s)) = true
+is_method_sig (Good (member.Field s)) = false
+is_method_sig (Bad why) = false
+
+-- in the list of the kind that it isn't a reference is unresolved; else why the parent is bad comes before why the signature is
 unfoldable pub method_ref_use : List AsmRec → ℕ → AsmRec → MemberRefRow → Known MethodUse
 method_ref_use recs a rec row =
-    known_then (λ (parent : TypeExpr). known_then (method_in_parent recs a rec row parent) row.signature) (parent_of recs a rec row)
+    if is_field_sig row.signature then Bad Unresolved
+    else known_then (λ (parent : TypeExpr). known_then (method_in_parent recs a rec row parent) row.signature) (parent_of recs a rec row)
 
 unfoldable pub field_ref_use : List AsmRec → ℕ → AsmRec → MemberRefRow → Known FieldUse
 field_ref_use recs a rec row =
-    known_then (λ (parent : TypeExpr). known_then (field_in_parent recs a rec row parent) row.signature) (parent_of recs a rec row)
+    if is_method_sig row.signature then Bad Unresolved
+    else known_then (λ (parent : TypeExpr). known_then (field_in_parent recs a rec row parent) row.signature) (parent_of recs a rec row)
 
 -- ---- method instances (II.22.29)
 

@@ -102,14 +102,16 @@ pub(crate) fn method_ref_use(
     requires { IsScope scope.now }
     ensures { IfOk result (λ u. u ≡ method_ref_use scope.now.linked.all.now scope.now.asm scope.now.rec.now row.now) }
 {
-    let parent = match scope.token_type(row.class) {
-        Ok(parent) => parent,
-        Err(why) => return Ok(Known::Bad(why)),
-    };
     match &row.signature {
-        Known::Good(MemberSig::Method(sig)) => method_of_parent(alloc, scope, row, parent, sig),
         Known::Good(MemberSig::Field(_)) => Ok(Known::Bad(BadKind::Unresolved)),
-        Known::Bad(why) => Ok(Known::Bad(*why)),
+        Known::Good(MemberSig::Method(sig)) => match scope.token_type(row.class) {
+            Ok(parent) => method_of_parent(alloc, scope, row, parent, sig),
+            Err(why) => Ok(Known::Bad(why)),
+        },
+        Known::Bad(why) => match scope.token_type(row.class) {
+            Ok(_) => Ok(Known::Bad(*why)),
+            Err(why) => Ok(Known::Bad(why)),
+        },
     }
 }
 
@@ -123,13 +125,15 @@ pub(crate) fn field_ref_use(
     requires { IsScope scope.now }
     ensures { IfOk result (λ u. u ≡ field_ref_use scope.now.linked.all.now scope.now.asm scope.now.rec.now row.now) }
 {
-    let parent = match scope.token_type(row.class) {
-        Ok(parent) => parent,
-        Err(why) => return Ok(Known::Bad(why)),
-    };
     match &row.signature {
-        Known::Good(MemberSig::Field(sig)) => field_of_parent(alloc, scope, row, parent, sig),
         Known::Good(MemberSig::Method(_)) => Ok(Known::Bad(BadKind::Unresolved)),
-        Known::Bad(why) => Ok(Known::Bad(*why)),
+        Known::Good(MemberSig::Field(sig)) => match scope.token_type(row.class) {
+            Ok(parent) => field_of_parent(alloc, scope, row, parent, sig),
+            Err(why) => Ok(Known::Bad(why)),
+        },
+        Known::Bad(why) => match scope.token_type(row.class) {
+            Ok(_) => Ok(Known::Bad(*why)),
+            Err(why) => Ok(Known::Bad(why)),
+        },
     }
 }

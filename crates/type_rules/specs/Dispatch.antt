@@ -1,5 +1,5 @@
 -- Which method a virtual call runs (II.10.3.4, II.12.2): the search for a class slot, and for a slot of an interface instance.
-use Rattle.std.specs.Prelude.{◌≡◌, ℕ, zero, suc, ◌+◌, ◌-◌, List, [], ◌∷◌, ◌++◌, length, map, Option, Some, None, slice_get, find, ◌==◌, ◌&&◌, Bool, true, false, not, if◌then◌else◌}
+use Rattle.std.specs.Prelude.{ℕ, suc, ◌+◌, ◌-◌, List, [], ◌∷◌, length, Option, Some, None, slice_get, find, ◌==◌, ◌&&◌, Bool, false, not, if◌then◌else◌}
 use Rattle.std.specs.List.{list_any, flat_map, range_with_len}
 use Rattle.std.specs.Option.{option_map, option_and_then}
 use Rattle.il_base.specs.declared.ids.MethodId.{MethodId}
@@ -127,26 +127,33 @@ declares_in recs slot instance targs d = declares_slot recs slot d && same_expr 
 abbrev pub is_public_virtual : MethodDefRow → Bool
 is_public_virtual m = is_public m && is_virtual m
 
+-- a public virtual method of a name and a signature; of a bad signature there is none
+abbrev pub public_match_in : List AsmRec → List ℕ → Option MethodType → TypeExpr → Option RowAt
+public_match_in recs name None e = None
+public_match_in recs name (Some wanted) e = match_in recs is_public_virtual name wanted e
+
 -- what a type has for a slot of this name and signature in an interface instance
-abbrev pub interface_method_in : List AsmRec → RowAt → TypeExpr → List ℕ → MethodType → TypeExpr → Option RowAt
+abbrev pub interface_method_in : List AsmRec → RowAt → TypeExpr → List ℕ → Option MethodType → TypeExpr → Option RowAt
 interface_method_in recs slot instance name wanted e =
-    or_else (impl_in recs (declares_in recs slot instance (args_of e)) e) (match_in recs is_public_virtual name wanted e)
+    or_else (impl_in recs (declares_in recs slot instance (args_of e)) e) (public_match_in recs name wanted e)
+
+abbrev pub good_signature : Option (Known MethodType) → Option MethodType
+good_signature None = None
+good_signature (Some (Bad why)) = None
+good_signature (Some (Good signature)) = Some signature
 
 -- from the type that chooses upwards, its own parameters left open
-abbrev pub from_choice : List AsmRec → RowAt → MethodDefRow → MethodType → Choice → Option RowAt
+abbrev pub from_choice : List AsmRec → RowAt → MethodDefRow → Option (Known MethodType) → Choice → Option RowAt
 from_choice recs slot m signature c =
-    nearest (interface_method_in recs slot c.instance m.name (subst_method (args_of c.instance) signature)) (with_bases recs (open_parent recs c.of))
+    nearest (interface_method_in recs slot c.instance m.name (option_map (subst_method (args_of c.instance)) (good_signature signature))) (with_bases recs (open_parent recs c.of))
+
+abbrev pub interface_method_by : List AsmRec → TypeExpr → TypeExpr → RowAt → MethodDefRow → Option RowAt
+interface_method_by recs t instance slot m =
+    option_and_then (from_choice recs slot m (type_of_row recs slot)) (nearest (choice_in recs instance) (with_bases recs t))
 
 -- the method that the search for an interface slot finds first
-abbrev pub interface_method_by : List AsmRec → TypeExpr → TypeExpr → RowAt → MethodDefRow → Option (Known MethodType) → Option RowAt
-interface_method_by recs t instance slot m None = None
-interface_method_by recs t instance slot m (Some (Bad why)) = None
-interface_method_by recs t instance slot m (Some (Good signature)) =
-    option_and_then (from_choice recs slot m signature) (nearest (choice_in recs instance) (with_bases recs t))
-
 unfoldable pub interface_method : List AsmRec → TypeExpr → TypeExpr → RowAt → Option RowAt
-interface_method recs t instance slot =
-    option_and_then (λ (m : MethodDefRow). interface_method_by recs t instance slot m (type_of_row recs slot)) (method_row_at recs slot)
+interface_method recs t instance slot = option_and_then (interface_method_by recs t instance slot) (method_row_at recs slot)
 
 -- that method is dispatched as a class slot
 unfoldable pub interface_dispatch : List AsmRec → TypeExpr → TypeExpr → RowAt → Option RowAt

@@ -1,5 +1,6 @@
 -- A virtual method by name and signature is what the search of members looks for.
-use Rattle.std.proofs.Common.{◌≡◌, ℕ, List, Option, refl, ap}
+use Rattle.std.proofs.Common.{◌≡◌, ℕ, List, Option, Some, None, refl, ap}
+use Rattle.std.specs.Option.{option_map}
 use Rattle.world_model.specs.declared.expr.TypeExpr.{TypeExpr}
 use Rattle.world_model.specs.declared.record.AsmRec.{AsmRec}
 use Rattle.link_rules.specs.declared.row_at.RowAt.{RowAt}
@@ -11,7 +12,7 @@ use Rattle.member_search.specs.declared.members.Among.TheVariants.{Virtual, Publ
 use Rattle.member_search.specs.Wanted.{look_for, member_in}
 use Rattle.type_rules.specs.Slots.{is_virtual, match_in, nearest}
 use Rattle.type_rules.specs.Dispatch.{is_public_virtual, impl_in, declares_in, interface_method_in}
-use Rattle.virtual_calls.specs.Interfaces.{interface_look}
+use Rattle.virtual_calls.specs.Interfaces.{interface_look, public_method}
 
 virtual : (recs : List AsmRec) (name : List ℕ) (wanted : MethodType) (e : TypeExpr) → look_for recs name (Method Virtual wanted) e ≡ match_in recs is_virtual name wanted e
 unfolding look_for member_in match_in
@@ -25,8 +26,12 @@ pub nearest_virtual : (recs : List AsmRec) (name : List ℕ) (wanted : MethodTyp
     → nearest (look_for recs name (Method Virtual wanted)) es ≡ nearest (match_in recs is_virtual name wanted) es
 nearest_virtual recs name wanted es = ap (λ (look : TypeExpr → Option RowAt). nearest look es) (λ i e. virtual recs name wanted e i)
 
-pub nearest_public : (recs : List AsmRec) (slot : RowAt) (instance : TypeExpr) (name : List ℕ) (wanted : MethodType) (es : List TypeExpr)
-    → nearest (interface_look recs slot instance name (Method PublicVirtual wanted)) es ≡ nearest (interface_method_in recs slot instance name wanted) es
+public_look : (recs : List AsmRec) (slot : RowAt) (instance : TypeExpr) (name : List ℕ) (wanted : Option MethodType) (e : TypeExpr)
+    → interface_look recs slot instance name (option_map public_method wanted) e ≡ interface_method_in recs slot instance name wanted e
+public_look recs slot instance name None e = refl
+public_look recs slot instance name (Some wanted) e = ap (or_else (impl_in recs (declares_in recs slot instance (args_of e)) e)) (public_virtual recs name wanted e)
+
+pub nearest_public : (recs : List AsmRec) (slot : RowAt) (instance : TypeExpr) (name : List ℕ) (wanted : Option MethodType) (es : List TypeExpr)
+    → nearest (interface_look recs slot instance name (option_map public_method wanted)) es ≡ nearest (interface_method_in recs slot instance name wanted) es
 nearest_public recs slot instance name wanted es =
-    ap (λ (look : TypeExpr → Option RowAt). nearest look es)
-    (λ i e. or_else (impl_in recs (declares_in recs slot instance (args_of e)) e) (public_virtual recs name wanted e i))
+    ap (λ (look : TypeExpr → Option RowAt). nearest look es) (λ i e. public_look recs slot instance name wanted e i)

@@ -7,10 +7,10 @@ ghost use Rattle.world_model.specs.Exprs.{subst};
 ghost use Rattle.link_rules.specs.Signatures.{subst_method};
 ghost use Rattle.link_rules.specs.Members.{with_bases};
 ghost use Rattle.type_rules.specs.Slots.{nearest};
-ghost use Rattle.type_rules.specs.Dispatch.{implied, is_closed_to, chosen, choice_in, from_choice, interface_method_by, interface_method, interface_dispatch};
+ghost use Rattle.type_rules.specs.Dispatch.{implied, is_closed_to, chosen, choice_in, good_signature, from_choice, interface_method, interface_dispatch};
 ghost use Rattle.type_tables.specs.Tables.{IsTables};
 ghost use Rattle.virtual_calls.specs.Slots.{AreSlots};
-ghost use Rattle.virtual_calls.specs.Interfaces.{told, interface_look};
+ghost use Rattle.virtual_calls.specs.Interfaces.{told, interface_look, public_method};
 
 use crate::class_slots::class_dispatch;
 use crate::impls::{Declares, impl_in};
@@ -129,7 +129,7 @@ fn interface_look(
     slot: RowAt,
     instance: &TypeExpr,
     name: &[u8],
-    wanted: &Wanted,
+    wanted: &Option<Wanted>,
     ty: &TypeExpr,
 ) -> Result<Option<RowAt>, NoMemory>
     requires tables { IsTables tables.now }
@@ -143,7 +143,10 @@ fn interface_look(
     };
     match impl_in(alloc, tables, slots, &declares, ty) {
         Ok(Some(at)) => Ok(Some(at)),
-        Ok(None) => match_in(alloc, tables, name, wanted, ty),
+        Ok(None) => match wanted {
+            Some(wanted) => match_in(alloc, tables, name, wanted, ty),
+            None => Ok(None),
+        },
         Err(error) => Err(error),
     }
 }
@@ -156,7 +159,7 @@ fn nearest_look(
     slot: RowAt,
     instance: &TypeExpr,
     name: &[u8],
-    wanted: &Wanted,
+    wanted: &Option<Wanted>,
     start: TypeExpr,
 ) -> Result<Option<RowAt>, NoMemory>
     requires tables { IsTables tables.now }
@@ -215,6 +218,24 @@ fn subst_method(
     })
 }
 
+/// What is looked for by a slot's signature with arguments of its type put in; nothing where the signature is bad.
+fn wanted_by(
+    alloc: Global,
+    targs: &[TypeExpr],
+    signature: &Option<Known<MethodType>>,
+) -> Result<Option<Wanted>, NoMemory>
+    ensures { IfOk result (λ wanted. wanted ≡ option_map public_method (option_map (subst_method targs.now) (good_signature signature.now))) }
+{
+    match signature {
+        Some(Known::Good(signature)) => {
+            let made = subst_method(alloc, targs, signature)?;
+            Ok(Some(Wanted::Method(Among::PublicVirtual, made)))
+        }
+        Some(Known::Bad(_)) => Ok(None),
+        None => Ok(None),
+    }
+}
+
 /// What the type that chose and its bases have for a slot, the type's own parameters left open.
 #[tactic(auto, using(crate::proofs::Matching::nearest_public))]
 fn from_choice(
@@ -223,7 +244,7 @@ fn from_choice(
     slots: &Slots,
     slot: RowAt,
     m: &MethodDefRow,
-    signature: &MethodType,
+    signature: &Option<Known<MethodType>>,
     choice: &Choice,
 ) -> Result<Option<RowAt>, NoMemory>
     requires tables { IsTables tables.now }
@@ -231,8 +252,7 @@ fn from_choice(
     ensures { IfOk result (λ found. found ≡ from_choice tables.now.world.now.recs slot m.now signature.now (told choice.now)) }
 {
     let start = open_parent(alloc, tables.world.recs.as_slice(), &choice.of)?;
-    let made = subst_method(alloc, args_of(&choice.instance), signature)?;
-    let wanted = Wanted::Method(Among::PublicVirtual, made);
+    let wanted = wanted_by(alloc, args_of(&choice.instance), signature)?;
     let name = m.name.as_slice();
     let found = nearest_look(
         alloc,
@@ -245,32 +265,6 @@ fn from_choice(
         start,
     )?;
     Ok(found)
-}
-
-/// The method that the search for an interface slot with this signature finds first; a bad signature finds none.
-fn interface_method_by(
-    alloc: Global,
-    tables: &Tables<'_>,
-    slots: &Slots,
-    t: &TypeExpr,
-    instance: &TypeExpr,
-    slot: RowAt,
-    m: &MethodDefRow,
-    signature: &Option<Known<MethodType>>,
-) -> Result<Option<RowAt>, NoMemory>
-    requires tables { IsTables tables.now }
-    requires slots { AreSlots tables.now.world.now.recs slots.now }
-    ensures { IfOk result (λ found. found ≡ interface_method_by tables.now.world.now.recs t.now instance.now slot m.now signature.now) }
-{
-    match signature {
-        None => Ok(None),
-        Some(Known::Bad(_)) => Ok(None),
-        Some(Known::Good(signature)) => match nearest_choice(alloc, tables, instance, t) {
-            Ok(Some(choice)) => from_choice(alloc, tables, slots, slot, m, signature, &choice),
-            Ok(None) => Ok(None),
-            Err(error) => Err(error),
-        },
-    }
 }
 
 /// The method that the search for an interface slot finds first.
@@ -291,7 +285,11 @@ fn interface_method(
         return Ok(None);
     };
     let signature = method_type_at(alloc, tables, slot)?;
-    interface_method_by(alloc, tables, slots, t, instance, slot, m, &signature)
+    match nearest_choice(alloc, tables, instance, t) {
+        Ok(Some(choice)) => from_choice(alloc, tables, slots, slot, m, &signature, &choice),
+        Ok(None) => Ok(None),
+        Err(error) => Err(error),
+    }
 }
 
 /// What a type has for a slot of an interface instance: the method that the search finds first is dispatched as a class slot.
