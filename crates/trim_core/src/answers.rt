@@ -1,3 +1,6 @@
+ghost use Rattle.std.specs.Prelude.{◌≡◌};
+ghost use Rattle.trim_core.specs.declared.answers.Refusal.TheVariants as refusal;
+
 use il_base::{BadAt, NoMemory, Place, Text};
 
 /// Why a call gave no result. Files are counted from 0.
@@ -17,6 +20,8 @@ pub enum Refusal {
 }
 
 impl From<NoMemory> for Refusal {
+    ghost from_gives = { λ _ e. e ≡ refusal.NoMemory };
+
     fn from(_error: NoMemory) -> Refusal {
         Refusal::NoMemory
     }
