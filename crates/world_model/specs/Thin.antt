@@ -85,7 +85,7 @@ abbrev pub is_target : Operand → Bool
 is_target (operand.Target to) = true
 is_target _ = false
 
--- the opcodes of the twelve thin forms (III.3, III.4); of those of Br, BrIf, Binary and Call a few
+-- the opcodes of the twelve thin forms (III.3, III.4); of those of BrIf, Binary and Call a few
 abbrev pub is_thin_opcode : Form → ℕ → Bool
 is_thin_opcode form.Nop op = op == 0x00
 is_thin_opcode form.LdArg op = is_in 0x02 0x05 op || op == 0x0e || op == 0xfe09

@@ -1,4 +1,4 @@
-use super::{AsmRec, Known, TypeDefRow, TypeExpr, TypeLink, expr_by, prim_of, prim_type};
+use super::{AsmRec, Known, TypeDefRow, TypeExpr, World, prim_of, prim_type};
 use il_base::{AsmId, Boxed, NoMemory, Seq, Sig, Text, TypeId};
 use std::alloc::Global;
 use std::test::Fail;
@@ -68,11 +68,22 @@ fn vector(alloc: Global) -> Result<Sig, NoMemory> {
     Ok(Sig::Array(element))
 }
 
+/// A world without assemblies.
+fn no_assemblies(alloc: Global) -> World {
+    World {
+        recs: Seq::new(alloc),
+        homes: Seq::new(alloc),
+        types: Seq::new(alloc),
+        methods: Seq::new(alloc),
+        fields: Seq::new(alloc),
+    }
+}
+
 fn named(alloc: Global, sig: &Sig) -> Result<Known<TypeExpr>, NoMemory> {
-    let recs: [AsmRec; 0] = [];
-    let links: [TypeLink; 0] = [];
+    let world = no_assemblies(alloc);
+    let targs = Seq::new(alloc);
     let margs = one(alloc, TypeExpr::Prim(STRING))?;
-    expr_by(alloc, &recs, &links, AsmId(0), sig, &[], margs.as_slice())
+    world.expr(alloc, AsmId(0), sig, &targs, &margs)
 }
 
 #[test]
