@@ -2,7 +2,7 @@
 use Rattle.std.proofs.Common.{◌≡◌, ℕ, zero, suc, ◌⊎◌, inl, inr, Bool, true, false, cond, eqb, ◌||◌, List, [], ◌∷◌, ◌++◌, length, Ok, refl, sym, ap, subst}
 use Rattle.std.proofs.lemmas.Bool.{cond_both, eqb-true, ne_eqb, cases_eq}
 use Rattle.il_base.specs.declared.sig.Sig.{Sig}
-use Rattle.il_base.specs.declared.sig.Sig.TheVariants.{Named, Array, ByRef, Inst, Var, MVar, Mod, Pinned}
+use Rattle.il_base.specs.declared.sig.Sig.TheVariants.{ByRef, Var, MVar, Pinned}
 use Rattle.il_base.specs.declared.sig.Sig.TheVariants as sig
 use Rattle.blob_grammar.specs.declared.element.Element.{Element}
 use Rattle.blob_grammar.specs.declared.element.Element.TheVariants as e

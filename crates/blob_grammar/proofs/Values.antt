@@ -5,9 +5,9 @@ use Rattle.il_base.specs.declared.sig.Sig.{Sig}
 use Rattle.blob_grammar.specs.Laws.{IsSpelled}
 use Rattle.blob_grammar.specs.Numbers.{IsNumber, shortest}
 use Rattle.blob_grammar.specs.Tokens.{IsToken, coded, table_of}
-use Rattle.blob_grammar.specs.Signatures.{levels, class_byte, modifier_byte, plain_byte, generic_byte, property_byte, IsType, AreTypes, AreParts, IsMethod, IsProperty, IsField, AreCounted}
+use Rattle.blob_grammar.specs.Signatures.{levels, class_byte, modifier_byte, generic_byte, property_byte, IsType, AreTypes, AreParts, IsMethod, IsProperty, IsField, AreCounted}
 use Rattle.blob_grammar.specs.Signatures as s
-use Rattle.blob_grammar.specs.Values.{IsTypeToken, FitsNumber, FitsType, FitTypes, FitRow, FitsMethod, FitsProperty}
+use Rattle.blob_grammar.specs.Values.{IsTypeToken, FitsType, FitTypes, FitRow, FitsMethod, FitsProperty}
 use Rattle.blob_grammar.specs.Values as v
 use Rattle.blob_grammar.proofs.Numbers.{number_small, is_shortest}
 

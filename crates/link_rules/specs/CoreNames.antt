@@ -1,7 +1,7 @@
 -- Names of the core library that modifiers use and that it doesn't have (II.7.1.1): they are added to it as types without
 -- members, since a modifier is part of a signature whether its type is there or not.
-use Rattle.std.specs.Prelude.{ℕ, suc, ◌+◌, ◌-◌, List, [], ◌∷◌, ◌++◌, length, map, Option, Some, None, slice_get, ◌==◌, ◌&&◌, Bool, true, false, if◌then◌else◌}
-use Rattle.std.specs.List.{list_any, flat_map, concat}
+use Rattle.std.specs.Prelude.{ℕ, ◌+◌, List, [], ◌∷◌, ◌++◌, length, map, Option, Some, None, slice_get, ◌&&◌, Bool, true, false, if◌then◌else◌}
+use Rattle.std.specs.List.{flat_map}
 use Rattle.std.specs.Option.{option_and_then}
 use Rattle.il_base.specs.declared.sig.Sig.{Sig, fold-Sig}
 use Rattle.il_base.specs.declared.sig.Sig.TheOpen.{Sig-F}

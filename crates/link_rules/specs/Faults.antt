@@ -1,8 +1,8 @@
 -- Which demand on several assemblies fails first: names of assemblies that are taken, types on a cycle, enclosers on a cycle,
 -- members that are there twice, each kind over all assemblies in order.
-use Rattle.std.specs.Prelude.{ℕ, suc, ◌+◌, List, [], ◌∷◌, ◌++◌, length, map, Option, Some, None, slice_get, nat_eq, nat_le, nat_lt, ◌==◌, ◌&&◌, ◌||◌, ◌%◌, Bool, true, false, if◌then◌else◌}
+use Rattle.std.specs.Prelude.{ℕ, suc, List, [], ◌∷◌, length, Option, Some, None, nat_eq, ◌==◌, ◌&&◌, ◌||◌, ◌%◌, Bool, false, if◌then◌else◌}
 use Rattle.std.specs.List.{list_any, position_from}
-use Rattle.std.specs.Option.{option_map, option_and_then}
+use Rattle.std.specs.Option.{option_map}
 use Rattle.world_model.specs.declared.known.Known.{Known}
 use Rattle.world_model.specs.declared.known.Known.TheVariants.{Good, Bad}
 use Rattle.world_model.specs.declared.expr.TypeExpr.{TypeExpr}

@@ -1,7 +1,6 @@
 -- The types that tokens and signatures of an assembly name (II.22.38, II.22.39, II.23.2).
-use Rattle.std.specs.Prelude.{ℕ, suc, ◌+◌, List, [], ◌∷◌, length, map, Option, Some, None, slice_get, nat_eq, ◌==◌, ◌&&◌, Bool, if◌then◌else◌}
-use Rattle.std.specs.Option.{option_map, option_and_then}
-use Rattle.il_base.specs.declared.ids.TypeId.{TypeId}
+use Rattle.std.specs.Prelude.{ℕ, suc, List, [], length, map, Option, Some, None, slice_get, nat_eq, ◌==◌, ◌&&◌, Bool, if◌then◌else◌}
+use Rattle.std.specs.Option.{option_and_then}
 use Rattle.il_base.specs.declared.sig.MethodSig.{MethodSig}
 use Rattle.world_model.specs.declared.known.Known.{Known}
 use Rattle.world_model.specs.declared.known.Known.TheVariants.{Good, Bad}

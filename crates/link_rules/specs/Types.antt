@@ -1,7 +1,7 @@
 -- What references to types name (II.22.38, II.22.14): a TypeRef row by its scope, an assembly by its simple name, a type by
 -- its namespace, name and encloser, or by way of the assemblies that forward it. Assemblies and rows are counted from 0; the
 -- last assembly is the core library.
-use Rattle.std.specs.Prelude.{ℕ, zero, suc, ◌+◌, ◌-◌, List, [], ◌∷◌, length, Option, Some, None, slice_get, position, nat_lt, ◌==◌, ◌&&◌, Bool, true, false, if◌then◌else◌}
+use Rattle.std.specs.Prelude.{ℕ, zero, suc, ◌-◌, List, [], ◌∷◌, length, Option, Some, None, slice_get, position, ◌==◌, ◌&&◌, Bool, true, false, if◌then◌else◌}
 use Rattle.std.specs.Option.{option_map, option_and_then}
 use Rattle.world_model.specs.declared.types.TypeDefRow.{TypeDefRow}
 use Rattle.world_model.specs.declared.types.TypeRefRow.{TypeRefRow}

@@ -19,7 +19,7 @@ use Rattle.trim_core.specs.Exec.{run_of, end_of, ExecsTo}
 use Rattle.trim_cli.specs.declared.status.Status.{Status}
 use Rattle.trim_cli.specs.declared.status.Status.TheVariants.{ReadFault, WriteFault, NoMemory}
 use Rattle.trim_cli.specs.Lines.{line_of}
-use Rattle.trim_cli.specs.Answer.{status_of, refused, assembly_of, named, refusal_named, Reports, Ran, Refused, PrintsPrefix, IsDue, FileCaused, RunReported, RefusalReported, ReadFailed, ExecCaused}
+use Rattle.trim_cli.specs.Answer.{status_of, refused, assembly_of, named, refusal_named, Reports, Refused, PrintsPrefix, FileCaused, RunReported, RefusalReported, ReadFailed, ExecCaused}
 
 -- all of it is a prefix
 whole_prefix : (a b : Option (List ℕ)) (x : List ℕ) → Appends a b x → AppendsPrefix a b x

@@ -11,10 +11,10 @@ use Rattle.trim_core.specs.Trim.{Trims}
 use Rattle.trim_cli.specs.declared.command.Command.{Command}
 use Rattle.trim_cli.specs.declared.command.Command.TheVariants.{Exec, Trim}
 use Rattle.trim_cli.specs.declared.status.Status.{Status}
-use Rattle.trim_cli.specs.declared.status.Status.TheVariants.{Done, BadWords, WriteFault, NoMemory}
-use Rattle.trim_cli.specs.Answer.{SinkFailed, starved_status, Reports, IsDue, FileAnswer, ExecCaused, IsTrimDue, TrimAnswer, TrimCaused, CausedBy, word_at, capped, assembly_of, refused}
+use Rattle.trim_cli.specs.declared.status.Status.TheVariants.{BadWords, WriteFault, NoMemory}
+use Rattle.trim_cli.specs.Answer.{SinkFailed, starved_status, Reports, IsDue, FileAnswer, ExecCaused, IsTrimDue, TrimAnswer, TrimCaused, CausedBy, word_at, capped, assembly_of}
 use Rattle.trim_cli.specs.Lines.{line_of}
-use Rattle.trim_cli.specs.Complete.{IsQuiet, file_status, trim_status, WantsRun, WantsTrim, Wants, IsAnswered}
+use Rattle.trim_cli.specs.Complete.{IsQuiet, file_status, trim_status, WantsRun, WantsTrim, IsAnswered}
 
 starved_is : (s : Status) → (starved_status s ≡ s) ⊎ (starved_status s ≡ NoMemory)
 starved_is WriteFault = inl refl

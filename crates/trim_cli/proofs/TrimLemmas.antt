@@ -1,6 +1,5 @@
 -- What a trim of a file's bytes answered, the write of OUT and the status line make the answer for the file and for its name.
-use Rattle.std.proofs.Common.{◌≡◌, ◌≢◌, ℕ, List, [], Option, Some, None, Result, Ok, Err, refl, sym, ap, subst, ◌∙◌, inl, inr}
-use Rattle.std.specs.Io.KnownBytes.{Appends}
+use Rattle.std.proofs.Common.{◌≡◌, ℕ, List, [], Option, Some, None, Result, Ok, Err, refl, subst, ◌∙◌, inl, inr}
 use Rattle.il_outside.specs.Faults.{Rose}
 use Rattle.il_outside.specs.declared.folder.FolderError.{FolderError}
 use Rattle.il_outside.specs.declared.folder.FolderError.TheVariants as folder_error
@@ -14,7 +13,7 @@ use Rattle.trim_core.specs.Trim.{Trims}
 use Rattle.trim_cli.specs.declared.status.Status.{Status}
 use Rattle.trim_cli.specs.declared.status.Status.TheVariants.{Done, ReadFault, WriteFault, NoMemory}
 use Rattle.trim_cli.specs.Lines.{line_of}
-use Rattle.trim_cli.specs.Answer.{refused, assembly_of, Reports, RefusalReported, ReadFailed, ReadStarved, TrimDone, TrimRefused, Unwritten, IsTrimDue, TrimFileCaused, TrimAnswer, TrimCaused, KeepsOthers}
+use Rattle.trim_cli.specs.Answer.{refused, Reports, RefusalReported, IsTrimDue, TrimFileCaused, TrimCaused, KeepsOthers}
 use Rattle.trim_cli.proofs.AnswerLemmas.{grew_by_nothing, same_refusal, read_fault_of}
 
 -- ---- folders

@@ -1,20 +1,17 @@
 -- What a file is, by a link of its record.
-use Rattle.std.proofs.Common.{◌≡◌, ℕ, ◌≤◌, List, [], ◌∷◌, ◌++◌, length, Option, Some, None, Result, Ok, Err, Bool, true, false, IsTrue, nat_le, refl, sym, ap, subst, ◌∙◌, arith, if◌then◌else◌}
+use Rattle.std.proofs.Common.{◌≡◌, ℕ, ◌≤◌, List, [], ◌∷◌, ◌++◌, length, Some, None, Err, true, false, nat_le, refl, sym, ap, subst, ◌∙◌, arith}
 use Rattle.std.proofs.lemmas.Bool.Decides.{nat_tests}
-use Rattle.cli_format.specs.declared.error.TablesError.{TablesError}
-use Rattle.cli_format.specs.Demand.{first_fault}
-use Rattle.record_format.specs.Record.{record_demands, record_at, HasRecord}
+use Rattle.record_format.specs.Record.{record_at}
 use Rattle.world_model.specs.declared.record.AsmRec.{AsmRec}
 use Rattle.world_model.specs.declared.world.World.{World}
 use Rattle.world_model.specs.Thin.{is_thin}
 use Rattle.core_table.specs.Record.{core_record}
-use Rattle.link_rules.specs.declared.link_error.LinkError.{LinkError}
 use Rattle.link_rules.specs.declared.link_error.LinkError.TheVariants as unlinked
 use Rattle.link_rules.specs.CoreNames.{missing_names, core_with}
 use Rattle.link_rules.specs.Linked.{assemblies, world_in, world_of, link_fault_of}
 use Rattle.trim_core.specs.declared.answers.Refusal.{Refusal}
 use Rattle.trim_core.specs.declared.answers.Refusal.TheVariants as refusal
-use Rattle.trim_core.specs.Told.{most_bytes, told_alone, told_by, told_linked, if_linked, if_thin, unlinked_as, AloneRead, StartsLinked, starts_thin, TakenWorld, Told, RefusedBy}
+use Rattle.trim_core.specs.Told.{most_bytes, told_alone, told_linked, if_linked, if_thin, unlinked_as, AloneRead, StartsLinked, starts_thin, TakenWorld, Told, RefusedBy}
 
 module _ (file : List ℕ) (small : length file ≤ most_bytes) (inputs : List AsmRec) (a : AloneRead file inputs) where
   -- a file of a size that is read, whose record is good, is what linking says

@@ -1,5 +1,5 @@
 -- What a run of a record comes to: what it prints within n steps, and how it stands then.
-use Rattle.std.specs.Prelude.{◌≡◌, ℕ, ◌+◌, ◌-◌, ◌%◌, List, [], ◌∷◌, Option, Some, None, Result, Ok, Err}
+use Rattle.std.specs.Prelude.{◌≡◌, ℕ, ◌+◌, ◌-◌, ◌%◌, [], Option, Some, None, Result, Ok, Err}
 use Rattle.std.specs.Io.KnownBytes.{Appends}
 use Rattle.il_base.specs.declared.ids.Place.{Place}
 use Rattle.il_outside.specs.Streams.{SinkState, AppendsPrefix}

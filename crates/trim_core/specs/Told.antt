@@ -1,6 +1,5 @@
 -- What the bytes of files are: a thin record, or why none can be taken.
 use Rattle.std.specs.Prelude.{◌≡◌, ℕ, nat_le, List, [], ◌∷◌, length, Option, Some, None, Result, Ok, Err, unwrap_or, Bool, false, IsTrue, if◌then◌else◌}
-use Rattle.il_base.specs.declared.ids.BadAt.{BadAt}
 use Rattle.cli_format.specs.declared.error.TablesError.{TablesError}
 use Rattle.cli_format.specs.declared.error.TablesError.TheVariants as unread
 use Rattle.cli_format.specs.Demand.{first_fault}

@@ -7,7 +7,7 @@ use Rattle.std.proofs.lemmas.Option.{slice_get-map}
 use Rattle.std.proofs.lemmas.List.{take_more}
 use Rattle.world_model.specs.declared.assemblies.AssemblyRefRow.{AssemblyRefRow}
 use Rattle.world_model.specs.declared.record.AsmRec.{AsmRec}
-use Rattle.link_rules.specs.Types.{encloser, type_in, forwarder_in, forwarded_to, assembly_named}
+use Rattle.link_rules.specs.Types.{forwarded_to, assembly_named}
 use Rattle.link_rules.specs.Types as types
 use Rattle.type_links.specs.declared.names.TypeName.{TypeName}
 use Rattle.type_links.specs.declared.index.AsmIndex.{AsmIndex}

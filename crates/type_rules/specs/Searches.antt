@@ -1,12 +1,10 @@
 -- Searches by name: a type by the name that a text gives it, the members of a type that reflection finds under a name.
-use Rattle.std.specs.Prelude.{ℕ, zero, suc, ◌+◌, ◌-◌, ◌/◌, ◌%◌, List, [], ◌∷◌, ◌++◌, length, map, codes, Option, Some, None, slice_get, ◌==◌, ◌&&◌, ◌||◌, Bool, true, false, not, if◌then◌else◌}
-use Rattle.std.specs.List.{list_any, flat_map, filter, range_with_len, position_from}
+use Rattle.std.specs.Prelude.{ℕ, suc, ◌+◌, ◌-◌, ◌/◌, ◌%◌, List, [], ◌∷◌, ◌++◌, length, map, codes, Option, Some, None, slice_get, ◌==◌, ◌&&◌, ◌||◌, Bool, false, not, if◌then◌else◌}
+use Rattle.std.specs.List.{list_any, flat_map, filter, range_with_len}
 use Rattle.std.specs.Option.{option_map, option_and_then}
 use Rattle.il_base.specs.declared.ids.TypeId.{TypeId}
 use Rattle.il_base.specs.declared.ids.Item.{Item}
 use Rattle.il_base.specs.declared.ids.Item.TheVariants as item
-use Rattle.world_model.specs.declared.known.Known.{Known}
-use Rattle.world_model.specs.declared.known.Known.TheVariants.{Good, Bad}
 use Rattle.world_model.specs.declared.expr.TypeExpr.{TypeExpr}
 use Rattle.world_model.specs.declared.expr.MethodUse.{MethodUse}
 use Rattle.world_model.specs.declared.types.TypeDefRow.{TypeDefRow}
@@ -21,15 +19,15 @@ use Rattle.world_model.specs.declared.members.MethodImplRow.{MethodImplRow}
 use Rattle.world_model.specs.declared.record.AsmRec.{AsmRec}
 use Rattle.world_model.specs.Tokens.{token_of, index_in}
 use Rattle.world_model.specs.Core.{same_name}
-use Rattle.world_model.specs.Worlds.{rows_before, row_below, type_id}
+use Rattle.world_model.specs.Worlds.{rows_before, type_id}
 use Rattle.attr_blobs.specs.declared.name.TypeName.{TypeName}
 use Rattle.link_rules.specs.declared.row_at.RowAt.{RowAt}
 use Rattle.link_rules.specs.Types.{at_row, or_else, assembly_named, encloser, same_place}
 use Rattle.link_rules.specs.Signatures.{definition_expr}
 use Rattle.link_rules.specs.Members.{methods_in, fields_in, run_of, type_home, generic_method, with_bases}
 use Rattle.link_rules.specs.Cycles.{listed, same_row, home_of}
-use Rattle.type_rules.specs.Slots.{is_static, is_virtual, is_public, method_row_at, method_home, slot_of, is_slot, open_type}
-use Rattle.type_rules.specs.Dispatch.{good_use, is_body, body_at}
+use Rattle.type_rules.specs.Slots.{is_static, is_public, method_row_at, method_home, slot_of, is_slot}
+use Rattle.type_rules.specs.Dispatch.{good_use, body_at}
 use Rattle.type_rules.specs.Texts.{full_name}
 
 -- ---- types by name

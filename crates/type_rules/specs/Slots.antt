@@ -1,7 +1,7 @@
 -- Virtual methods and their slots (II.10.3, II.12.2, II.23.1.10): a method that is newslot, or that finds none of its name
 -- and signature in the bases, is its own slot; any other has that of the nearest one.
-use Rattle.std.specs.Prelude.{◌≡◌, ℕ, zero, suc, ◌/◌, ◌%◌, List, [], ◌∷◌, length, Option, Some, None, slice_get, ◌==◌, ◌&&◌, Bool, true, false, not, if◌then◌else◌}
-use Rattle.std.specs.List.{list_any, position_from}
+use Rattle.std.specs.Prelude.{ℕ, zero, suc, ◌/◌, ◌%◌, List, [], ◌∷◌, Option, Some, None, slice_get, ◌==◌, ◌&&◌, Bool, false, not, if◌then◌else◌}
+use Rattle.std.specs.List.{position_from}
 use Rattle.std.specs.Option.{option_map, option_and_then}
 use Rattle.il_base.specs.declared.ids.MethodId.{MethodId}
 use Rattle.world_model.specs.declared.known.Known.{Known}
@@ -12,13 +12,13 @@ use Rattle.world_model.specs.declared.types.TypeDefRow.{TypeDefRow}
 use Rattle.world_model.specs.declared.members.MethodDefRow.{MethodDefRow}
 use Rattle.world_model.specs.declared.record.AsmRec.{AsmRec}
 use Rattle.world_model.specs.Core.{same_name}
-use Rattle.world_model.specs.Worlds.{known_then, types_in, type_id}
+use Rattle.world_model.specs.Worlds.{known_then, type_id}
 use Rattle.link_rules.specs.declared.row_at.RowAt.{RowAt}
 use Rattle.link_rules.specs.declared.member_type.MethodType.{MethodType}
 use Rattle.link_rules.specs.Types.{at_row, or_else}
 use Rattle.link_rules.specs.Signatures.{names_at, method_type}
-use Rattle.link_rules.specs.Members.{home_from, args_of, bases_from, base_at, type_count, methods_in, find_in_run, is_method_type, in_definition, own_args, own_member, owns_method, param_count, with_bases}
-use Rattle.link_rules.specs.Cycles.{listed, same_row}
+use Rattle.link_rules.specs.Members.{home_from, args_of, bases_from, base_at, type_count, methods_in, find_in_run, is_method_type, in_definition, owns_method}
+use Rattle.link_rules.specs.Cycles.{same_row}
 
 -- ---- flags (II.23.1.10)
 

@@ -1,7 +1,6 @@
 -- A type's text: its namespace, a full stop and its name; a nested type behind its encloser and `+`; arguments in brackets
 -- behind a constructed type, `[]` behind an array's element, `&` behind what is referred to.
-use Rattle.std.specs.Prelude.{ℕ, zero, suc, List, [], ◌∷◌, ◌++◌, length, codes, Option, Some, None, slice_get, Bool, true, false, if◌then◌else◌}
-use Rattle.std.specs.Option.{option_map, option_and_then}
+use Rattle.std.specs.Prelude.{ℕ, zero, suc, List, [], ◌∷◌, ◌++◌, length, codes, Option, Some, None, slice_get, Bool, true, false}
 use Rattle.std.specs.Fmt.{decimal}
 use Rattle.il_base.specs.declared.ids.TypeId.{TypeId}
 use Rattle.world_model.specs.declared.expr.TypeExpr.{TypeExpr, fold-TypeExpr}

@@ -13,7 +13,7 @@ use Rattle.cli_format.specs.Coded.{targets_of, tag_bits_of}
 use Rattle.cli_format.specs.Columns.{columns_of}
 use Rattle.cli_format.specs.Tables.{rows_of, heap_width, index_width, fewer, coded_width, width, widths, row_width, count_place, table_place, row_place, cell_place, column_of, cell_number}
 use Rattle.file_layout.specs.TableStream as laid
-use Rattle.file_layout.specs.TableStream.{Row, Tables, rows_in, row_bytes, table_bytes, tables_bytes, tables_stream}
+use Rattle.file_layout.specs.TableStream.{Row, Tables, row_bytes, table_bytes, tables_bytes, tables_stream}
 use Rattle.written_tables.specs.Written.{CanTables, FitsRow}
 use Rattle.written_tables.proofs.Places.{Stands, stands_first, stands_second, stands_in, stands_at, number_stands, item_stands, length_items, length_items_before}
 use Rattle.written_tables.proofs.Counts.{head, rows_bytes, all_stand, sizes_read, rows_read, length_head, table_within}

@@ -11,7 +11,7 @@ use Rattle.cli_format.specs.Metadata.{head_demands, rows_demands, most_rows}
 use Rattle.file_layout.specs.Interning.{each_once}
 use Rattle.file_layout.specs.Heaps.{strings_heap, string_place, blobs_heap, blob_place, guids_heap, guid_number, users_heap, user_place, units_bytes, last_byte}
 use Rattle.file_layout.specs.TableStream as laid
-use Rattle.file_layout.specs.TableStream.{Row, Tables, rows_in, tables_stream}
+use Rattle.file_layout.specs.TableStream.{Row, Tables, rows_in}
 
 -- ---- tables
 

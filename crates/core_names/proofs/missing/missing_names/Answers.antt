@@ -1,4 +1,4 @@
-use Rattle.std.proofs.Common.{ℕ, ◌<◌, length, [], arith}
+use Rattle.std.proofs.Common.{◌<◌, length, [], arith}
 use Rattle.std.specs.List.{flat_map}
 use Rattle.link_rules.specs.Cycles.{add_all}
 use Rattle.link_rules.specs.CoreNames.{same_core_name, missing_in}

@@ -1,4 +1,4 @@
-use Rattle.std.proofs.Common.{◌≡◌, ◌++◌, ◌∷◌, [], sym, append_assoc, ◌∙◌}
+use Rattle.std.proofs.Common.{sym, append_assoc, ◌∙◌}
 use Rattle.std.proofs.lemmas.List.{append-nil}
 use Rattle.core_names.proofs.Layers.{of_prim, of_named, of_var, of_mvar, of_mod}
 use Rattle.core_names.proofs.modifiers.+walking.Goals as goal

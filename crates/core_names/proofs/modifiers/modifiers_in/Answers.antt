@@ -1,4 +1,4 @@
-use Rattle.std.proofs.Common.{◌≡◌, ◌++◌, [], append_assoc}
+use Rattle.std.proofs.Common.{append_assoc}
 use Rattle.link_rules.specs.CoreNames.{all_modifiers}
 use Rattle.core_names.proofs.modifiers.modifiers_in.Goals as goal
 

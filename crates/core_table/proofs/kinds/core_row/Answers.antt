@@ -1,4 +1,4 @@
-use Rattle.std.proofs.Common.{◌≡◌, ◌+◌, ◌<◌, ◌≤◌, length, nat_lt, true, false, None, if◌then◌else◌, subst, arith}
+use Rattle.std.proofs.Common.{◌≡◌, length, arith}
 use Rattle.core_table.specs.Kinds.{core_row}
 use Rattle.core_table.proofs.CoreRows.{at_last, at_less, at_next, at_end}
 use Rattle.core_table.proofs.kinds.core_row.Goals as goal

@@ -1,4 +1,4 @@
-use Rattle.std.proofs.Common.{◌≡◌, ℕ, ◌+◌, refl, arith}
+use Rattle.std.proofs.Common.{◌≡◌, ◌+◌, refl, arith}
 use Rattle.world_model.specs.declared.world.Home.{Home}
 use Rattle.link_rules.specs.Linked.{home}
 use Rattle.resolver.specs.Kinds.{item_of, table_of}

@@ -1,8 +1,7 @@
-use Rattle.std.proofs.Common.{◌≡◌, List, length, take, Ok, Err, Option, sym, ap, subst, ◌∙◌}
+use Rattle.std.proofs.Common.{List, Err, Option, sym, ap, subst, ◌∙◌}
 use Rattle.world_model.specs.declared.record.AsmRec.{AsmRec}
 use Rattle.link_rules.specs.declared.link_error.LinkError.{LinkError}
-use Rattle.link_rules.specs.Faults.{link_fault}
-use Rattle.link_rules.specs.Linked.{assemblies, link_fault_of, world_in, Links}
+use Rattle.link_rules.specs.Linked.{world_in}
 use Rattle.link_faults.specs.Answer.{Answers}
 use Rattle.resolver.proofs.Inputs.{faults, within, refused}
 use Rattle.resolver.proofs.linking.link.Goals as goal

@@ -1,4 +1,4 @@
-use Rattle.std.proofs.Common.{◌≡◌, ◌≤◌, ℕ, List, Bool, [], ◌++◌, refl, sym, ap, subst, ◌∙◌, arith}
+use Rattle.std.proofs.Common.{◌≡◌, ◌≤◌, ℕ, List, Bool, ◌++◌, ap, subst, ◌∙◌, arith}
 use Rattle.blob_grammar.specs.Laws.{AreBytes}
 use Rattle.world_model.specs.declared.record.AsmRec.{AsmRec}
 use Rattle.file_layout.specs.Laid.{laid, laid_length}
