@@ -1,9 +1,2 @@
-pub mod LowBytes
-pub mod Chains
-pub mod Columns
-pub mod Items
-pub mod Gathering
 pub mod Methods
-pub mod Puts
-pub mod Starts
 pub mod Whole

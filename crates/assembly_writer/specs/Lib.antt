@@ -1,8 +1,2 @@
-pub mod Views
-pub mod Cells
-pub mod Places
-pub mod Lengths
 pub mod CanWrite
-pub mod Gathered
-pub mod Numbers
 pub mod Written

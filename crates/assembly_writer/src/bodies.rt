@@ -6,10 +6,10 @@ ghost use Rattle.file_layout.specs.Bytes.{aligned};
 ghost use Rattle.file_layout.specs.Bodies as layout;
 ghost use Rattle.assembly_writer.specs.CanWrite.{HasBody};
 
-use crate::bytes::{next_multiple, pad};
-use crate::rvas::CODE_RVA;
+use byte_writer::{next_multiple, pad};
 use il_base::{Body, NoMemory};
 use il_code::write_body;
+use image_writer::CODE_RVA;
 use std::alloc::Global;
 use world_model::{Known, MethodDefRow};
 

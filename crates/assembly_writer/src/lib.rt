@@ -3,24 +3,11 @@
 #![tactic(auto)]
 
 mod bodies;
-mod bytes;
 mod cells;
 mod coded;
 mod error;
-mod heaps;
-mod image;
-mod metadata;
-mod numbers;
-mod optional;
-mod pool;
-mod pools;
 mod record;
-mod rows;
-mod rvas;
 mod signatures;
-mod streams;
-mod tables;
-mod widths;
 mod writing;
 
 pub use error::WriteError;

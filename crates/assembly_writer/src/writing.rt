@@ -1,17 +1,15 @@
 ghost use Rattle.std.specs.Prelude.{◌≡◌, ◌+◌, ◌<◌, ◌≤◌, ◌^◌, ◌++◌, length, IfErr, IfOk, OnErr, OnOk, IsTrue, ◌↔◌};
 ghost use Rattle.file_layout.specs.Laid.{laid, laid_length, streams_of, streams_with};
-ghost use Rattle.assembly_writer.specs.Views.{HasPlaces};
+ghost use Rattle.image_writer.specs.Views.{HasPlaces};
 ghost use Rattle.assembly_writer.specs.CanWrite.{CanWrite};
 ghost use Rattle.assembly_writer.specs.Written.{IsContent, Refuses, users_length, most_users, most_bytes};
 
 use crate::bodies::put_bodies;
 use crate::error::WriteError;
-use crate::heaps::users;
-use crate::image::{Parts, image};
 use crate::record::tables_of;
-use crate::rvas::image_length;
-use crate::streams::metadata_of;
 use il_base::NoMemory;
+use image_writer::{Parts, image, image_length};
+use metadata_writer::{metadata_of, users};
 use std::alloc::Global;
 use world_model::AsmRec;
 

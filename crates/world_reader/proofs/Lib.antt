@@ -1,6 +1,2 @@
 pub mod Demands
-pub mod Rows
-pub mod Fits
-pub mod Marks
-pub mod Units
 pub mod First

@@ -1,4 +1,1 @@
-pub mod Cells
-pub mod Faults
-pub mod Marks
 pub mod Tables

@@ -6,10 +6,10 @@ ghost use Rattle.cli_format.specs.Image.{metadata_of, image_at};
 ghost use Rattle.record_format.specs.Cells.{all_rows};
 ghost use Rattle.record_format.specs.Parts as parts;
 ghost use Rattle.record_format.specs.Others as others;
-ghost use Rattle.world_reader.specs.Cells.{HasRow};
+ghost use Rattle.cell_reader.specs.Cells.{HasRow};
 
-use crate::assembly::Assembly;
 use crate::layouts::Layouts;
+use cell_reader::Assembly;
 use il_base::{NoMemory, Seq, Sig, Text};
 use std::alloc::Global;
 use world_model::{BadKind, FieldRow, FieldRvaRow, Known, index_in};
@@ -89,7 +89,7 @@ fn bytes_at<'a>(file: &Assembly<'a>, rva: u32, size: Option<u32>) -> Option<&'a 
 {
     match size {
         None => None,
-        Some(size) => file.map.at(rva, size),
+        Some(size) => file.bytes_at(rva, size),
     }
 }
 
@@ -131,7 +131,7 @@ fn field_rva_row(
 }
 
 /// The rows of FieldRVA.
-#[tactic(auto, using(crate::proofs::Rows::rowing))]
+#[tactic(auto, using(row_reader::proofs::Rows::rowing))]
 pub fn field_rva_rows(
     alloc: Global,
     file: &Assembly,

@@ -2,23 +2,11 @@
 //! the file doesn't meet. Which record that is, `record_format` defines.
 #![tactic(auto)]
 
-mod assemblies;
-mod assembly;
-mod bodies;
-mod cells;
 mod descriptor;
-mod extras;
-mod faults;
 mod field_data;
 mod layouts;
-mod members;
-mod parts;
 mod record;
-mod row;
-mod signatures;
 mod tables;
-mod types;
-mod user_texts;
 
 pub use cli_format::TablesError as RecordError;
 pub use record::{read_record, row_place};

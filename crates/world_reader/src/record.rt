@@ -4,8 +4,8 @@ ghost use Rattle.record_format.specs.Record.{record_demands, record_at, HasRecor
 ghost use Rattle.world_model.specs.declared.record.AsmRec.{AsmRec};
 ghost use Rattle.world_reader.specs.Tables.{all_tables};
 
-use crate::assembly::Assembly;
 use crate::tables::{AllTables, all_tables};
+use cell_reader::Assembly;
 use cli_format::TablesError;
 use il_base::NoMemory;
 use std::alloc::Global;
@@ -27,9 +27,9 @@ fn assembled(file: &Assembly, tables: AllTables) -> AsmRec
         extras,
     } = tables;
     AsmRec {
-        bits: file.map.image().cli_flags(),
-        subsystem: file.map.image().subsystem(),
-        entry: file.map.image().entry_token(),
+        bits: file.image().cli_flags(),
+        subsystem: file.image().subsystem(),
+        entry: file.image().entry_token(),
         descriptor: files.descriptor,
         module: assemblies.module,
         type_ref: types.type_ref,

@@ -3,15 +3,14 @@
 ghost use Rattle.std.specs.Prelude.{◌≡◌, IfOk};
 ghost use Rattle.world_reader.specs.Tables as tables;
 
-use crate::assembly::Assembly;
 use crate::descriptor::descriptor_of;
 use crate::field_data::field_rva_rows;
 use crate::layouts::Layouts;
-use crate::row::all_rows;
-use crate::signatures::signature_rows;
-use crate::user_texts::texts_of;
+use cell_reader::Assembly;
 use il_base::{NoMemory, Seq, Text};
+use row_reader::{all_rows, signature_rows};
 use std::alloc::Global;
+use user_strings::texts_of;
 use world_model::{
     AssemblyOsRow, AssemblyProcessorRow, AssemblyRefOsRow, AssemblyRefProcessorRow, AssemblyRefRow,
     AssemblyRow, ClassLayoutRow, ConstantRow, CustomAttributeRow, DeclSecurityRow, EventMapRow,
@@ -145,7 +144,7 @@ fn file_tables(alloc: Global, file: &Assembly) -> Result<FileTables, NoMemory>
     let descriptor = descriptor_of(
         alloc,
         manifest_resource.as_slice(),
-        file.map.image().resources(),
+        file.image().resources(),
     )?;
     Ok(FileTables {
         file: file_rows,

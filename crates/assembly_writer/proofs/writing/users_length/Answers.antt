@@ -3,9 +3,9 @@ use Rattle.world_model.specs.declared.record.UserText.{UserText}
 use Rattle.world_model.specs.declared.record.AsmRec.{AsmRec}
 use Rattle.file_layout.specs.Heaps.{users_heap}
 use Rattle.file_layout.specs.Laid.{streams_of, streams_with}
-use Rattle.assembly_writer.specs.Lengths.{users_put}
+use Rattle.metadata_writer.specs.Lengths.{users_put}
 use Rattle.assembly_writer.specs.Written.{users_length}
-use Rattle.assembly_writer.proofs.Puts.{users_put-length}
+use Rattle.metadata_writer.proofs.Puts.{users_put-length}
 use Rattle.assembly_writer.proofs.writing.users_length.Goals as goal
 
 users_of : (rec : AsmRec) → length (users_heap (map (λ t. t.text) rec.user)) ≡ users_length rec

@@ -2,8 +2,9 @@ use Rattle.std.proofs.Common.{◌≡◌, ◌<◌, ◌^◌, List, ℕ, [], ◌++�
 use Rattle.file_layout.specs.Metadata.{metadata_bytes}
 use Rattle.file_layout.specs.Bodies.{code_behind}
 use Rattle.file_layout.specs.Laid.{streams_of, laid_length}
-use Rattle.assembly_writer.specs.Written.{IsPut}
-use Rattle.assembly_writer.proofs.Whole.{put_as, length_is, laid_is}
+use Rattle.metadata_writer.specs.Written.{IsPut}
+use Rattle.metadata_writer.proofs.Whole.{put_as}
+use Rattle.assembly_writer.proofs.Whole.{length_is, laid_is}
 use Rattle.assembly_writer.proofs.writing.write_content.Goals as goal
 
 pub returns-then-found-gt-MOST-clause-refused : goal.returns-then-found-gt-MOST-clause-refused

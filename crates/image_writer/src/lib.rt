@@ -1,0 +1,13 @@
+//! The image around code and metadata (II.25): headers, the sections `.text` and `.reloc`, the imports and the jump. Which
+//! bytes these are is defined by `file_layout`'s `specs/Image`.
+#![tactic(auto)]
+
+mod optional;
+mod rvas;
+mod sections;
+
+pub use rvas::{CODE_RVA, image_length};
+pub use sections::{Parts, image};
+
+#[cfg(test)]
+mod tests;
