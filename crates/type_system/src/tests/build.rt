@@ -92,12 +92,29 @@ pub fn world(alloc: Global, recs: Seq<AsmRec>) -> Result<World, NoMemory>
     }
 }
 
-/// The world of one assembly.
-pub fn world_of(alloc: Global, rec: AsmRec) -> Result<World, NoMemory>
+/// Puts an assembly behind others, by what fills its record.
+pub fn push_filled<F: FnOnce(&mut AsmRec, Global) -> Result<(), NoMemory>>(
+    recs: &mut Seq<AsmRec>,
+    alloc: Global,
+    fill: F,
+) -> Result<(), NoMemory>
+    requires { F.IsAlwaysCallable fill }
+{
+    let mut rec = no_rows(alloc);
+    fill(&mut rec, alloc)?;
+    recs.push(rec)
+}
+
+/// The world of one assembly, by what fills its record.
+pub fn built<F: FnOnce(&mut AsmRec, Global) -> Result<(), NoMemory>>(
+    alloc: Global,
+    fill: F,
+) -> Result<World, NoMemory>
+    requires { F.IsAlwaysCallable fill }
     ensures { IfOk result IsWorld }
 {
     let mut recs = Seq::new(alloc);
-    recs.push(rec)?;
+    push_filled(&mut recs, alloc, fill)?;
     world(alloc, recs)
 }
 

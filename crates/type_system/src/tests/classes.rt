@@ -1,6 +1,5 @@
 //! Which method a virtual call runs, by the slots of classes.
 
-ghost use Rattle.std.specs.Prelude.{IfOk};
 ghost use Rattle.link_rules.specs.Linked.{IsWorld};
 
 use super::build::*;
@@ -54,19 +53,11 @@ fn fill_hidden(rec: &mut AsmRec, alloc: Global) -> Result<(), NoMemory> {
     method(rec, alloc, b"M", OVERRIDE)
 }
 
-fn hidden_world(alloc: Global) -> Result<World, NoMemory>
-    ensures { IfOk result IsWorld }
-{
-    let mut rec = no_rows(alloc);
-    fill_hidden(&mut rec, alloc)?;
-    world_of(alloc, rec)
-}
-
 /// An override takes the nearest slot, and a slot of the same name further up is another.
 #[test]
 fn hidden_slots(rt: HostRuntime) -> Result<(), Fail> {
     let alloc = rt.alloc();
-    let world = hidden_world(alloc)?;
+    let world = built(alloc, fill_hidden)?;
     let found = answers(alloc, &world, &[(3, 0), (3, 1), (3, 2)])?;
     assert_eq!(rt; found.as_slice(), [Some(0), Some(2), Some(2)].as_slice());
     Ok(())
@@ -88,19 +79,11 @@ fn fill_inherited(rec: &mut AsmRec, alloc: Global) -> Result<(), NoMemory> {
     method(rec, alloc, b"M", OVERRIDE)
 }
 
-fn inherited_world(alloc: Global) -> Result<World, NoMemory>
-    ensures { IfOk result IsWorld }
-{
-    let mut rec = no_rows(alloc);
-    fill_inherited(&mut rec, alloc)?;
-    world_of(alloc, rec)
-}
-
 /// A class without the method has that of its base.
 #[test]
 fn inherited_methods(rt: HostRuntime) -> Result<(), Fail> {
     let alloc = rt.alloc();
-    let world = inherited_world(alloc)?;
+    let world = built(alloc, fill_inherited)?;
     let found = answers(alloc, &world, &[(2, 0), (3, 0)])?;
     assert_eq!(rt; found.as_slice(), [Some(0), Some(1)].as_slice());
     Ok(())
@@ -124,19 +107,11 @@ fn fill_renamed(rec: &mut AsmRec, alloc: Global) -> Result<(), NoMemory> {
     method(rec, alloc, b"N", OVERRIDE)
 }
 
-fn renamed_world(alloc: Global) -> Result<World, NoMemory>
-    ensures { IfOk result IsWorld }
-{
-    let mut rec = no_rows(alloc);
-    fill_renamed(&mut rec, alloc)?;
-    world_of(alloc, rec)
-}
-
 /// A MethodImpl row gives a slot a body by another name. An override of that body takes the body's own slot alone.
 #[test]
 fn slots_by_method_impl(rt: HostRuntime) -> Result<(), Fail> {
     let alloc = rt.alloc();
-    let world = renamed_world(alloc)?;
+    let world = built(alloc, fill_renamed)?;
     let found = answers(alloc, &world, &[(2, 0), (3, 0), (3, 1)])?;
     assert_eq!(rt; found.as_slice(), [Some(1), Some(1), Some(2)].as_slice());
     Ok(())
@@ -158,19 +133,11 @@ fn fill_renamed_base(rec: &mut AsmRec, alloc: Global) -> Result<(), NoMemory> {
     method(rec, alloc, b"M", VIRTUAL)
 }
 
-fn renamed_base_world(alloc: Global) -> Result<World, NoMemory>
-    ensures { IfOk result IsWorld }
-{
-    let mut rec = no_rows(alloc);
-    fill_renamed_base(&mut rec, alloc)?;
-    world_of(alloc, rec)
-}
-
 /// A MethodImpl row of a base is for the base's slot, and for no slot that hides it.
 #[test]
 fn hidden_slots_by_method_impl(rt: HostRuntime) -> Result<(), Fail> {
     let alloc = rt.alloc();
-    let world = renamed_base_world(alloc)?;
+    let world = built(alloc, fill_renamed_base)?;
     let found = answers(alloc, &world, &[(2, 0), (2, 2)])?;
     assert_eq!(rt; found.as_slice(), [Some(1), Some(2)].as_slice());
     Ok(())
@@ -190,19 +157,11 @@ fn fill_plain(rec: &mut AsmRec, alloc: Global) -> Result<(), NoMemory> {
     method(rec, alloc, b"M", ABSTRACT)
 }
 
-fn plain_world(alloc: Global) -> Result<World, NoMemory>
-    ensures { IfOk result IsWorld }
-{
-    let mut rec = no_rows(alloc);
-    fill_plain(&mut rec, alloc)?;
-    world_of(alloc, rec)
-}
-
 /// A method that isn't virtual has no slot. An abstract one has, and is what is found there.
 #[test]
 fn plain_and_abstract_methods(rt: HostRuntime) -> Result<(), Fail> {
     let alloc = rt.alloc();
-    let world = plain_world(alloc)?;
+    let world = built(alloc, fill_plain)?;
     let found = answers(alloc, &world, &[(1, 0), (2, 1)])?;
     assert_eq!(rt; found.as_slice(), [None, Some(1)].as_slice());
     Ok(())

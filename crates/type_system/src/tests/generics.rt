@@ -1,6 +1,5 @@
 //! Which method a virtual call runs, by the slots of generic interfaces.
 
-ghost use Rattle.std.specs.Prelude.{IfOk};
 ghost use Rattle.link_rules.specs.Linked.{IsWorld};
 
 use super::build::*;
@@ -48,19 +47,11 @@ fn fill_two_rows(rec: &mut AsmRec, alloc: Global) -> Result<(), NoMemory> {
     implement(rec, 0x0200_0003, 0x1b00_0002)
 }
 
-fn two_rows_world(alloc: Global) -> Result<World, NoMemory>
-    ensures { IfOk result IsWorld }
-{
-    let mut rec = no_rows(alloc);
-    fill_two_rows(&mut rec, alloc)?;
-    world_of(alloc, rec)
-}
-
 /// Each instance of an interface has the method of its own argument.
 #[test]
 fn two_instances_of_an_interface(rt: HostRuntime) -> Result<(), Fail> {
     let alloc = rt.alloc();
-    let world = two_rows_world(alloc)?;
+    let world = built(alloc, fill_two_rows)?;
     assert_eq!(rt; runs(alloc, &world, def(2), int32())?, Some(1));
     assert_eq!(rt; runs(alloc, &world, def(2), string())?, Some(2));
     Ok(())
@@ -84,19 +75,11 @@ fn fill_generic_base(rec: &mut AsmRec, alloc: Global) -> Result<(), NoMemory> {
     class(rec, alloc, b"D", 0x1b00_0002, 0)
 }
 
-fn generic_base_world(alloc: Global) -> Result<World, NoMemory>
-    ensures { IfOk result IsWorld }
-{
-    let mut rec = no_rows(alloc);
-    fill_generic_base(&mut rec, alloc)?;
-    world_of(alloc, rec)
-}
-
 /// A generic base implements the interface at the argument that it is given.
 #[test]
 fn generic_bases(rt: HostRuntime) -> Result<(), Fail> {
     let alloc = rt.alloc();
-    let world = generic_base_world(alloc)?;
+    let world = built(alloc, fill_generic_base)?;
     assert_eq!(rt; runs(alloc, &world, def(3), int32())?, Some(1));
     assert_eq!(rt; runs(alloc, &world, def(3), string())?, None);
     Ok(())
@@ -147,19 +130,11 @@ fn pair(alloc: Global, first: TypeExpr, second: TypeExpr) -> Result<TypeExpr, No
     Ok(TypeExpr::Inst(TypeId(2), args))
 }
 
-fn rows_of_parameters_world(alloc: Global) -> Result<World, NoMemory>
-    ensures { IfOk result IsWorld }
-{
-    let mut rec = no_rows(alloc);
-    fill_rows_of_parameters(&mut rec, alloc)?;
-    world_of(alloc, rec)
-}
-
 /// Where two rows become one interface the first counts.
 #[test]
 fn rows_that_become_one(rt: HostRuntime) -> Result<(), Fail> {
     let alloc = rt.alloc();
-    let world = rows_of_parameters_world(alloc)?;
+    let world = built(alloc, fill_rows_of_parameters)?;
     let same = pair(alloc, int32(), int32())?;
     assert_eq!(rt; runs(alloc, &world, same, int32())?, Some(1));
     let other = pair(alloc, int32(), string())?;

@@ -70,19 +70,11 @@ fn fill_implemented_again(rec: &mut AsmRec, alloc: Global) -> Result<(), NoMemor
     implement(rec, 0x0200_0004, 0x0200_0002)
 }
 
-fn implemented_again_world(alloc: Global) -> Result<World, NoMemory>
-    ensures { IfOk result IsWorld }
-{
-    let mut rec = no_rows(alloc);
-    fill_implemented_again(&mut rec, alloc)?;
-    world_of(alloc, rec)
-}
-
 /// A new method is the interface's only where its class lists the interface.
 #[test]
 fn interfaces_that_are_listed_again(rt: HostRuntime) -> Result<(), Fail> {
     let alloc = rt.alloc();
-    let world = implemented_again_world(alloc)?;
+    let world = built(alloc, fill_implemented_again)?;
     let found = answers(alloc, &world, &[2, 3, 4])?;
     assert_eq!(rt; found.as_slice(), [Some(1), Some(2), Some(1)].as_slice());
     Ok(())
@@ -106,19 +98,11 @@ fn fill_explicit(rec: &mut AsmRec, alloc: Global) -> Result<(), NoMemory> {
     implement(rec, 0x0200_0004, 0x0200_0002)
 }
 
-fn explicit_world(alloc: Global) -> Result<World, NoMemory>
-    ensures { IfOk result IsWorld }
-{
-    let mut rec = no_rows(alloc);
-    fill_explicit(&mut rec, alloc)?;
-    world_of(alloc, rec)
-}
-
 /// An explicit implementation comes before a method of the same name, also for a class that lists the interface again.
 #[test]
 fn explicit_implementations(rt: HostRuntime) -> Result<(), Fail> {
     let alloc = rt.alloc();
-    let world = explicit_world(alloc)?;
+    let world = built(alloc, fill_explicit)?;
     let found = answers(alloc, &world, &[2, 3])?;
     assert_eq!(rt; found.as_slice(), [Some(1), Some(1)].as_slice());
     Ok(())
@@ -143,19 +127,11 @@ fn fill_base_body(rec: &mut AsmRec, alloc: Global) -> Result<(), NoMemory> {
     override_by(rec, 0x0200_0004, 0x0600_0002, 0x0600_0001)
 }
 
-fn base_body_world(alloc: Global) -> Result<World, NoMemory>
-    ensures { IfOk result IsWorld }
-{
-    let mut rec = no_rows(alloc);
-    fill_base_body(&mut rec, alloc)?;
-    world_of(alloc, rec)
-}
-
 /// The body of a MethodImpl row can be a base's, and what overrides it then answers.
 #[test]
 fn bodies_of_bases(rt: HostRuntime) -> Result<(), Fail> {
     let alloc = rt.alloc();
-    let world = base_body_world(alloc)?;
+    let world = built(alloc, fill_base_body)?;
     let found = answers(alloc, &world, &[3, 4])?;
     assert_eq!(rt; found.as_slice(), [Some(1), Some(2)].as_slice());
     Ok(())
@@ -177,19 +153,11 @@ fn fill_implied(rec: &mut AsmRec, alloc: Global) -> Result<(), NoMemory> {
     implement(rec, 0x0200_0004, 0x0200_0003)
 }
 
-fn implied_world(alloc: Global) -> Result<World, NoMemory>
-    ensures { IfOk result IsWorld }
-{
-    let mut rec = no_rows(alloc);
-    fill_implied(&mut rec, alloc)?;
-    world_of(alloc, rec)
-}
-
 /// An interface brings those that it lists itself.
 #[test]
 fn interfaces_of_interfaces(rt: HostRuntime) -> Result<(), Fail> {
     let alloc = rt.alloc();
-    let world = implied_world(alloc)?;
+    let world = built(alloc, fill_implied)?;
     let found = answers(alloc, &world, &[3])?;
     assert_eq!(rt; found.as_slice(), [Some(1)].as_slice());
     Ok(())
@@ -208,19 +176,11 @@ fn fill_protected(rec: &mut AsmRec, alloc: Global) -> Result<(), NoMemory> {
     implement(rec, 0x0200_0003, 0x0200_0002)
 }
 
-fn protected_world(alloc: Global) -> Result<World, NoMemory>
-    ensures { IfOk result IsWorld }
-{
-    let mut rec = no_rows(alloc);
-    fill_protected(&mut rec, alloc)?;
-    world_of(alloc, rec)
-}
-
 /// By its name a method is an interface's only if it is public.
 #[test]
 fn methods_that_are_not_public(rt: HostRuntime) -> Result<(), Fail> {
     let alloc = rt.alloc();
-    let world = protected_world(alloc)?;
+    let world = built(alloc, fill_protected)?;
     let found = answers(alloc, &world, &[2])?;
     assert_eq!(rt; found.as_slice(), [None].as_slice());
     Ok(())
@@ -241,19 +201,11 @@ fn fill_of_base(rec: &mut AsmRec, alloc: Global) -> Result<(), NoMemory> {
     implement(rec, 0x0200_0004, 0x0200_0002)
 }
 
-fn of_base_world(alloc: Global) -> Result<World, NoMemory>
-    ensures { IfOk result IsWorld }
-{
-    let mut rec = no_rows(alloc);
-    fill_of_base(&mut rec, alloc)?;
-    world_of(alloc, rec)
-}
-
 /// A method of a base serves an interface that the base doesn't have.
 #[test]
 fn methods_of_bases(rt: HostRuntime) -> Result<(), Fail> {
     let alloc = rt.alloc();
-    let world = of_base_world(alloc)?;
+    let world = built(alloc, fill_of_base)?;
     let found = answers(alloc, &world, &[3])?;
     assert_eq!(rt; found.as_slice(), [Some(1)].as_slice());
     Ok(())
@@ -276,24 +228,12 @@ fn fill_lib(rec: &mut AsmRec, alloc: Global) -> Result<(), NoMemory> {
     method(rec, alloc, b"M", ABSTRACT)
 }
 
-fn push_plugin(recs: &mut Seq<AsmRec>, alloc: Global) -> Result<(), NoMemory> {
-    let mut app = no_rows(alloc);
-    fill_plugin(&mut app, alloc)?;
-    recs.push(app)
-}
-
-fn push_lib(recs: &mut Seq<AsmRec>, alloc: Global) -> Result<(), NoMemory> {
-    let mut lib = no_rows(alloc);
-    fill_lib(&mut lib, alloc)?;
-    recs.push(lib)
-}
-
 fn plugin_world(alloc: Global) -> Result<World, NoMemory>
     ensures { IfOk result IsWorld }
 {
     let mut recs = Seq::new(alloc);
-    push_plugin(&mut recs, alloc)?;
-    push_lib(&mut recs, alloc)?;
+    push_filled(&mut recs, alloc, fill_plugin)?;
+    push_filled(&mut recs, alloc, fill_lib)?;
     world(alloc, recs)
 }
 

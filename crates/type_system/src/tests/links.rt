@@ -55,15 +55,9 @@ fn fill_enclosing(rec: &mut AsmRec, alloc: Global) -> Result<(), NoMemory> {
     nest(rec, 0x0200_0003, 0x0200_0002)
 }
 
-fn enclosing(alloc: Global) -> Result<AsmRec, NoMemory> {
-    let mut rec = no_rows(alloc);
-    fill_enclosing(&mut rec, alloc)?;
-    Ok(rec)
-}
-
 fn push_enclosing(alloc: Global, recs: &mut Seq<AsmRec>) -> Result<(), NoMemory> {
     recs.push(named(alloc, b"App")?)?;
-    recs.push(enclosing(alloc)?)
+    push_filled(recs, alloc, fill_enclosing)
 }
 
 #[test]
@@ -95,13 +89,6 @@ fn fill_user(rec: &mut AsmRec, alloc: Global) -> Result<(), NoMemory> {
     mention(rec, alloc, 0x2300_0002, b"", b"T")
 }
 
-/// An assembly with a reference to the type `T` of `A`, and nothing else.
-fn user(alloc: Global) -> Result<AsmRec, NoMemory> {
-    let mut rec = no_rows(alloc);
-    fill_user(&mut rec, alloc)?;
-    Ok(rec)
-}
-
 /// An assembly that forwards the type `T` to another, and has nothing else.
 fn forwarding(alloc: Global, own: &[u8], to: &[u8]) -> Result<AsmRec, NoMemory> {
     let mut rec = no_rows(alloc);
@@ -111,7 +98,7 @@ fn forwarding(alloc: Global, own: &[u8], to: &[u8]) -> Result<AsmRec, NoMemory> 
 
 /// `App`, `A` and `B`, where `A` forwards `T` to `B` and `B` to `A`.
 fn push_forwarding(alloc: Global, recs: &mut Seq<AsmRec>) -> Result<(), NoMemory> {
-    recs.push(user(alloc)?)?;
+    push_filled(recs, alloc, fill_user)?;
     recs.push(forwarding(alloc, b"A", b"B")?)?;
     recs.push(forwarding(alloc, b"B", b"A")?)
 }

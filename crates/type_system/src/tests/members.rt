@@ -1,6 +1,5 @@
 //! Members by name.
 
-ghost use Rattle.std.specs.Prelude.{IfOk};
 ghost use Rattle.link_rules.specs.Linked.{IsWorld};
 
 use super::build::*;
@@ -33,19 +32,11 @@ fn named(alloc: Global, world: &World, ty: u32, name: &[u8]) -> Result<Seq<Item>
     types.members_named(alloc, TypeId(ty), name)
 }
 
-fn members_world(alloc: Global) -> Result<World, NoMemory>
-    ensures { IfOk result IsWorld }
-{
-    let mut rec = no_rows(alloc);
-    fill_members(&mut rec, alloc)?;
-    world_of(alloc, rec)
-}
-
 /// A member that is overridden isn't found.
 #[test]
 fn methods_by_name(rt: HostRuntime) -> Result<(), Fail> {
     let alloc = rt.alloc();
-    let world = members_world(alloc)?;
+    let world = built(alloc, fill_members)?;
     let found = named(alloc, &world, 2, b"M")?;
     let wanted = [Item::Method(MethodId(1)), Item::Method(MethodId(2))];
     assert_eq!(rt; found.as_slice(), wanted.as_slice());
@@ -56,7 +47,7 @@ fn methods_by_name(rt: HostRuntime) -> Result<(), Fail> {
 #[test]
 fn fields_by_name(rt: HostRuntime) -> Result<(), Fail> {
     let alloc = rt.alloc();
-    let world = members_world(alloc)?;
+    let world = built(alloc, fill_members)?;
     assert!(rt; named(alloc, &world, 2, b"F")?.is_empty());
     let found = named(alloc, &world, 1, b"F")?;
     assert_eq!(rt; found.as_slice(), [Item::Field(FieldId(0))].as_slice());

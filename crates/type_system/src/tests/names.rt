@@ -1,6 +1,5 @@
 //! Types by name, texts, arguments put in.
 
-ghost use Rattle.std.specs.Prelude.{IfOk};
 ghost use Rattle.link_rules.specs.Linked.{IsWorld};
 
 use super::build::*;
@@ -29,14 +28,6 @@ fn id_of(alloc: Global, types: &Types<'_>, name: &[u8]) -> Result<Option<u32>, N
     }
 }
 
-fn boxes_world(alloc: Global) -> Result<World, NoMemory>
-    ensures { IfOk result IsWorld }
-{
-    let mut rec = no_rows(alloc);
-    fill_boxes(&mut rec, alloc)?;
-    world_of(alloc, rec)
-}
-
 /// The types that names are of.
 fn ids(alloc: Global, world: &World, names: &[&[u8]]) -> Result<Vec<Option<u32>>, NoMemory>
     requires { IsWorld world.now }
@@ -53,7 +44,7 @@ fn ids(alloc: Global, world: &World, names: &[&[u8]]) -> Result<Vec<Option<u32>>
 #[test]
 fn finds_types(rt: HostRuntime) -> Result<(), Fail> {
     let alloc = rt.alloc();
-    let world = boxes_world(alloc)?;
+    let world = built(alloc, fill_boxes)?;
     let names = [
         b"Plain".as_slice(),
         b"Box`1".as_slice(),
@@ -80,7 +71,7 @@ fn has_text(alloc: Global, world: &World, ty: TypeExpr, expected: &[u8]) -> Resu
 #[test]
 fn texts(rt: HostRuntime) -> Result<(), Fail> {
     let alloc = rt.alloc();
-    let world = boxes_world(alloc)?;
+    let world = built(alloc, fill_boxes)?;
     assert!(rt; has_text(alloc, &world, def(1), b"Plain")?);
     assert!(rt; has_text(alloc, &world, int32(), b"System.Int32")?);
     Ok(())
@@ -89,7 +80,7 @@ fn texts(rt: HostRuntime) -> Result<(), Fail> {
 #[test]
 fn texts_of_made_types(rt: HostRuntime) -> Result<(), Fail> {
     let alloc = rt.alloc();
-    let world = boxes_world(alloc)?;
+    let world = built(alloc, fill_boxes)?;
     let ty = inst(alloc, 2, string())?;
     assert!(rt; has_text(alloc, &world, ty, b"Box`1[System.String]")?);
     let ty = array(alloc, def(1))?;
@@ -108,7 +99,7 @@ fn substituted(alloc: Global, types: &Types<'_>, arg: TypeExpr) -> Result<TypeEx
 #[test]
 fn puts_arguments_in(rt: HostRuntime) -> Result<(), Fail> {
     let alloc = rt.alloc();
-    let world = boxes_world(alloc)?;
+    let world = built(alloc, fill_boxes)?;
     let types = Types::new(alloc, &world)?;
     let made = substituted(alloc, &types, def(1))?;
     assert!(rt; made.is_same(&inst(alloc, 2, def(1))?));

@@ -1,6 +1,5 @@
 //! Which types a type can stand for.
 
-ghost use Rattle.std.specs.Prelude.{IfOk};
 ghost use Rattle.link_rules.specs.Linked.{IsWorld};
 
 use super::build::*;
@@ -45,18 +44,10 @@ fn fill_chain(rec: &mut AsmRec, alloc: Global) -> Result<(), NoMemory> {
     implement(rec, 0x0200_0004, 0x0200_0003)
 }
 
-fn chain_world(alloc: Global) -> Result<World, NoMemory>
-    ensures { IfOk result IsWorld }
-{
-    let mut rec = no_rows(alloc);
-    fill_chain(&mut rec, alloc)?;
-    world_of(alloc, rec)
-}
-
 #[test]
 fn interfaces_and_bases(rt: HostRuntime) -> Result<(), Fail> {
     let alloc = rt.alloc();
-    let world = chain_world(alloc)?;
+    let world = built(alloc, fill_chain)?;
     assert!(rt; is_below(alloc, &world, def(3), def(1))?);
     assert!(rt; is_below(alloc, &world, def(3), def(2))?);
     assert!(rt; is_below(alloc, &world, def(3), object())?);
@@ -71,7 +62,7 @@ fn interfaces_and_bases(rt: HostRuntime) -> Result<(), Fail> {
 #[test]
 fn arrays(rt: HostRuntime) -> Result<(), Fail> {
     let alloc = rt.alloc();
-    let world = chain_world(alloc)?;
+    let world = built(alloc, fill_chain)?;
     assert!(rt; is_array_below(alloc, &world, def(3), def(1))?);
     assert!(rt; is_below(alloc, &world, array(alloc, def(3))?, def(26))?);
     assert!(rt; is_below(alloc, &world, array(alloc, def(3))?, object())?);
@@ -94,18 +85,10 @@ fn fill_generic(rec: &mut AsmRec, alloc: Global) -> Result<(), NoMemory> {
     class(rec, alloc, b"D", 0x1b00_0001, 0)
 }
 
-fn generic_world(alloc: Global) -> Result<World, NoMemory>
-    ensures { IfOk result IsWorld }
-{
-    let mut rec = no_rows(alloc);
-    fill_generic(&mut rec, alloc)?;
-    world_of(alloc, rec)
-}
-
 #[test]
 fn generic_bases(rt: HostRuntime) -> Result<(), Fail> {
     let alloc = rt.alloc();
-    let world = generic_world(alloc)?;
+    let world = built(alloc, fill_generic)?;
     assert!(rt; is_below(alloc, &world, def(2), inst(alloc, 1, int32())?)?);
     assert!(rt; !is_below(alloc, &world, def(2), inst(alloc, 1, string())?)?);
     Ok(())
@@ -128,19 +111,11 @@ fn fill_parameter_row(rec: &mut AsmRec, alloc: Global) -> Result<(), NoMemory> {
     implement(rec, 0x0200_0003, 0x1b00_0001)
 }
 
-fn parameter_row_world(alloc: Global) -> Result<World, NoMemory>
-    ensures { IfOk result IsWorld }
-{
-    let mut rec = no_rows(alloc);
-    fill_parameter_row(&mut rec, alloc)?;
-    world_of(alloc, rec)
-}
-
 /// A row that names a parameter, which no interface can be, gives nothing.
 #[test]
 fn rows_of_parameters(rt: HostRuntime) -> Result<(), Fail> {
     let alloc = rt.alloc();
-    let world = parameter_row_world(alloc)?;
+    let world = built(alloc, fill_parameter_row)?;
     assert!(rt; !is_below(alloc, &world, inst(alloc, 2, def(1))?, def(1))?);
     Ok(())
 }
