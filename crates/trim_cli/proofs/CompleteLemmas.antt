@@ -4,7 +4,6 @@ use Rattle.il_outside.specs.Folder.{Files, FolderState, Tells}
 use Rattle.il_outside.specs.Streams.{SinkState}
 use Rattle.world_model.specs.declared.record.AsmRec.{AsmRec}
 use Rattle.trim_core.specs.declared.answers.Refusal.{Refusal}
-use Rattle.trim_core.specs.declared.answers.Refusal.TheVariants as refusal
 use Rattle.trim_core.specs.declared.answers.Trimmed.{Trimmed}
 use Rattle.trim_core.specs.Told.{told_alone}
 use Rattle.trim_core.specs.Trim.{Trims}

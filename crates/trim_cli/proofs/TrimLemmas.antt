@@ -6,7 +6,6 @@ use Rattle.il_outside.specs.declared.folder.FolderError.TheVariants as folder_er
 use Rattle.il_outside.specs.Folder.{Files, FolderState, Tells, SameFiles, SameOthers, LeavesPrefix, KeepsFiles, Writes, WritesFile, ReadFaults, WriteFaults}
 use Rattle.il_outside.specs.Streams.{SinkState}
 use Rattle.trim_core.specs.declared.answers.Refusal.{Refusal}
-use Rattle.trim_core.specs.declared.answers.Refusal.TheVariants as refusal
 use Rattle.trim_core.specs.declared.answers.Trimmed.{Trimmed}
 use Rattle.trim_core.specs.Told.{told_alone}
 use Rattle.trim_core.specs.Trim.{Trims}
