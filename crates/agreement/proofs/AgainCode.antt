@@ -16,10 +16,10 @@ use Rattle.world_model.specs.declared.core_member.CoreMember.{CoreMember}
 use Rattle.world_model.specs.declared.core_member.CoreMember.TheVariants.{WriteLineString, WriteLineInt}
 use Rattle.world_model.specs.declared.members.MethodDefRow.{MethodDefRow}
 use Rattle.world_model.specs.declared.record.AsmRec.{AsmRec}
-use Rattle.cil_values.specs.World.{callee_of, text_of}
+use Rattle.thin_values.specs.World.{callee_of, text_of}
 use Rattle.trim_rules.specs.Marked.{code_in, own_method, called_by, callee_in}
 use Rattle.trim_rules.specs.BadOperands.{is_bad, is_bad_token, is_bad_use, has_bad_operand}
-use Rattle.lock.specs.Move.{move_place}
+use Rattle.thin_lock.specs.Move.{move_place}
 use Rattle.restriction.specs.Numbering.{rank, row_of, first_met}
 use Rattle.restriction.specs.References.{one_or_none, kept_methods, kept_code, same_member, member_of_place, member_called_by, member_called, members_met, good_text, text_loaded_by, text_loaded, texts_met}
 use Rattle.restriction.specs.Moved.{token_32, callee_token, moved_callee, text_token_by, moved_text, moved_operand, moved_instr, moved_body, moved_known, moved_methods}

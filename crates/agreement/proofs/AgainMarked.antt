@@ -14,7 +14,7 @@ use Rattle.world_model.specs.declared.known.Known.TheVariants.{Good, Bad}
 use Rattle.world_model.specs.declared.members.MethodDefRow.{MethodDefRow}
 use Rattle.world_model.specs.declared.record.AsmRec.{AsmRec}
 use Rattle.world_model.specs.Tokens.{index_in}
-use Rattle.cil_values.specs.World.{own_place, place_or_none, entry_of, callee_of}
+use Rattle.thin_values.specs.World.{own_place, place_or_none, entry_of, callee_of}
 use Rattle.trim_rules.specs.Marked.{code_in, code_of, code_at, own_method, called_by, callee_in, callee_at, MarkedMethod, entry, called, IsMarking}
 use Rattle.trim_rules.specs.BadOperands.{has_bad_operand, bad_at, bad_in_code, bad_in_marked, or_later, first_bad_from, first_bad}
 use Rattle.restriction.specs.Numbering.{rank}

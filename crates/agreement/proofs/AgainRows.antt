@@ -17,7 +17,7 @@ use Rattle.world_model.specs.declared.assemblies.AssemblyRow.{AssemblyRow}
 use Rattle.world_model.specs.declared.assemblies.AssemblyRefRow.{AssemblyRefRow}
 use Rattle.world_model.specs.declared.record.UserText.{UserText}
 use Rattle.world_model.specs.declared.record.AsmRec.{AsmRec}
-use Rattle.cil_values.specs.World.{entry_of}
+use Rattle.thin_values.specs.World.{entry_of}
 use Rattle.file_layout.specs.Heaps.{user_place}
 use Rattle.file_layout.specs.Bodies.{rvas_behind}
 use Rattle.restriction.specs.Numbering.{rank}

@@ -18,7 +18,7 @@ use Rattle.world_model.specs.declared.record.AsmRec.{AsmRec}
 use Rattle.world_model.specs.Tokens.{table_of, index_in, row_index}
 use Rattle.world_model.specs.Core.{same_name, is_core_name, is_system_type, is_type_token, core_member}
 use Rattle.world_model.specs.Thin.{no_rows, has_no_other_rows, is_own_name, is_module_type, is_only_class, are_two_types, is_thin_type_ref, is_thin_flags, begins_with_dot, has_thin_sig, has_thin_body, is_thin_method, is_thin_body, has_thin_locals, is_call_token, is_call_operand, is_token, is_thin_opcode, is_thin_operand, is_thin_instr, same_method, all_differ, is_entry_method, is_entry_at, is_thin}
-use Rattle.cil_values.specs.World.{own_place, ref_place, callee_of}
+use Rattle.thin_values.specs.World.{own_place, ref_place, callee_of}
 use Rattle.restriction.specs.Numbering.{keep, rank}
 use Rattle.restriction.specs.References.{one_or_none, kept_methods, object_name, console_name, core_type_of, types_met, members_met, assemblies_met, scope_of_type, same_assembly, bare_ref}
 use Rattle.restriction.specs.Moved.{type_token_by, moved_type, moved_locals, moved_callee, moved_operand, moved_instr, moved_body, moved_known, moved_method, moved_methods, moved_run, moved_type_def, new_type_ref, new_member_ref, moved_assembly}

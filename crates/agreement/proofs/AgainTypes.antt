@@ -20,7 +20,7 @@ use Rattle.world_model.specs.declared.record.AsmRec.{AsmRec}
 use Rattle.world_model.specs.Tokens.{index_in}
 use Rattle.world_model.specs.Core.{same_name, is_core_scope, is_system_type, names_type, names_type_at, is_type_token}
 use Rattle.world_model.specs.Thin.{is_thin_type_ref}
-use Rattle.cil_values.specs.World.{callee_of, core_at}
+use Rattle.thin_values.specs.World.{callee_of, core_at}
 use Rattle.restriction.specs.Numbering.{first_met, row_of}
 use Rattle.restriction.specs.References.{one_or_none, kept_code, member_of_place, member_called_by, member_called, members_met, object_name, console_name, core_type_of, base_names, owner_names, types_met, assemblies_met, assembly_at, scope_of_row, scope_of_type, same_member, same_assembly, bare_ref}
 use Rattle.restriction.specs.Moved.{token_32, type_ref_token, type_token_by, moved_type, moved_type_def, scope_token, new_type_ref}

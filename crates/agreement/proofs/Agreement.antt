@@ -20,11 +20,11 @@ use Rattle.world_model.specs.declared.core_member.CoreMember.TheVariants.{WriteL
 use Rattle.world_model.specs.declared.members.MethodDefRow.{MethodDefRow}
 use Rattle.world_model.specs.declared.record.AsmRec.{AsmRec}
 use Rattle.world_model.specs.Thin.{is_thin_method}
-use Rattle.cil_values.specs.Queries.{Instruction, Method, callee}
-use Rattle.cil_values.specs.World.{callee_of, token_use, use_of, instruction_of, method_with, method_of, core_at, queries_of}
+use Rattle.thin_values.specs.Queries.{Instruction, Method, callee}
+use Rattle.thin_values.specs.World.{callee_of, token_use, use_of, instruction_of, method_with, method_of, core_at, queries_of}
 use Rattle.trim_rules.specs.Marked.{code_in, called_by, callee_in}
-use Rattle.lock.specs.Move.{move_method}
-use Rattle.lock.specs.Alike as lock
+use Rattle.thin_lock.specs.Move.{move_method}
+use Rattle.thin_lock.specs.Alike as lock
 use Rattle.file_layout.specs.Bodies.{rvas_behind, behind}
 use Rattle.restriction.specs.Numbering.{rank}
 use Rattle.restriction.specs.References.{one_or_none, kept_methods, locals_by, locals_in}

@@ -13,7 +13,7 @@ use Rattle.world_model.specs.declared.members.MemberRefRow.{MemberRefRow}
 use Rattle.world_model.specs.declared.record.AsmRec.{AsmRec}
 use Rattle.world_model.specs.Tokens.{table_of, index_in}
 use Rattle.world_model.specs.Core.{same_name, is_type_token, line_of, core_member}
-use Rattle.cil_values.specs.World.{core_place, own_place, member_at, ref_place, callee_of, core_at}
+use Rattle.thin_values.specs.World.{core_place, own_place, member_at, ref_place, callee_of, core_at}
 use Rattle.restriction.specs.Numbering.{rank, new_place, row_of}
 use Rattle.restriction.specs.References.{one_or_none, kept_code, same_member, member_called, members_met, console_name}
 use Rattle.restriction.specs.Moved.{token_32, method_token, member_token, callee_token, moved_callee, new_member_ref}

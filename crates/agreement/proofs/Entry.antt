@@ -6,7 +6,7 @@ use Rattle.world_model.specs.declared.members.MethodDefRow.{MethodDefRow}
 use Rattle.world_model.specs.declared.record.AsmRec.{AsmRec}
 use Rattle.world_model.specs.Tokens.{index_in}
 use Rattle.world_model.specs.Thin.{is_entry_method, is_entry_at}
-use Rattle.cil_values.specs.World.{own_place, place_or_none, entry_of}
+use Rattle.thin_values.specs.World.{own_place, place_or_none, entry_of}
 use Rattle.trim_rules.specs.Marked.{IsMarking, entry}
 use Rattle.restriction.specs.Numbering.{rank}
 use Rattle.restriction.specs.Restricted.{entry_token}

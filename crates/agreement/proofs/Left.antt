@@ -1,7 +1,7 @@
 -- The tables of what is left, of which references speak.
 use Rattle.std.proofs.Common.{◌≡◌, List, Bool, map, refl}
 use Rattle.world_model.specs.declared.record.AsmRec.{AsmRec}
-use Rattle.cil_values.specs.World.{entry_of}
+use Rattle.thin_values.specs.World.{entry_of}
 use Rattle.restriction.specs.References.{kept_methods, members_met, types_met, assemblies_met, locals_met, texts_met, bare_ref}
 use Rattle.restriction.specs.Moved.{moved_methods, moved_type_def, new_type_ref, new_member_ref, new_locals, new_text, moved_assembly}
 use Rattle.restriction.specs.Restricted.{kept_rvas, entry_token, restricted}

@@ -12,7 +12,7 @@ use Rattle.world_model.specs.declared.members.StandAloneSigRow.{StandAloneSigRow
 use Rattle.world_model.specs.declared.record.AsmRec.{AsmRec}
 use Rattle.world_model.specs.Tokens.{index_in}
 use Rattle.world_model.specs.Thin.{is_slot_type, is_slots, is_slots_at, has_thin_locals}
-use Rattle.cil_values.specs.World.{expr_of, types_of, types_at, locals_of}
+use Rattle.thin_values.specs.World.{expr_of, types_of, types_at, locals_of}
 use Rattle.restriction.specs.Numbering.{rank, first_met}
 use Rattle.restriction.specs.References.{one_or_none, kept_methods, same_locals, good_types, locals_at, locals_by, locals_in, locals_met}
 use Rattle.restriction.specs.Moved.{locals_token, moved_locals, new_locals}

@@ -11,11 +11,11 @@ use Rattle.il_base.specs.declared.body.Operand.TheVariants as operand
 use Rattle.world_model.specs.declared.known.Known.{Known}
 use Rattle.world_model.specs.declared.known.Known.TheVariants.{Good, Bad}
 use Rattle.world_model.specs.declared.record.AsmRec.{AsmRec}
-use Rattle.cil_values.specs.Queries.{Method, Use, callee, text}
-use Rattle.cil_values.specs.World.{locals_of, callee_of, text_of, token_use, use_of, instruction_of, method_with, method_of_body}
+use Rattle.thin_values.specs.Queries.{Method, Use, callee, text}
+use Rattle.thin_values.specs.World.{locals_of, callee_of, text_of, token_use, use_of, instruction_of, method_with, method_of_body}
 use Rattle.trim_rules.specs.Marked.{own_method, called_by, callee_in}
 use Rattle.trim_rules.specs.BadOperands.{is_bad, is_bad_use, has_bad_operand}
-use Rattle.lock.specs.Move.{move_place, move_use, move_instruction, move_method}
+use Rattle.thin_lock.specs.Move.{move_place, move_use, move_instruction, move_method}
 use Rattle.file_layout.specs.Heaps.{users_heap}
 use Rattle.restriction.specs.Numbering.{rank, new_place}
 use Rattle.restriction.specs.References.{one_or_none, kept_code, member_of_place, member_called_by, member_called, good_text, text_loaded_by, text_loaded, texts_met}

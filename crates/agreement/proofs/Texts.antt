@@ -4,7 +4,7 @@ use Rattle.std.specs.Prelude.{find}
 use Rattle.std.specs.List.{flat_map}
 use Rattle.world_model.specs.declared.known.Known.TheVariants.{Good}
 use Rattle.world_model.specs.declared.record.AsmRec.{AsmRec}
-use Rattle.cil_values.specs.World.{units_of, text_of}
+use Rattle.thin_values.specs.World.{units_of, text_of}
 use Rattle.file_layout.specs.Heaps.{users_heap, user_place}
 use Rattle.restriction.specs.References.{one_or_none, kept_code, text_loaded, texts_met}
 use Rattle.restriction.specs.Moved.{text_token, text_token_by, moved_text, new_text}

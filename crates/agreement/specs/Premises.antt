@@ -2,10 +2,10 @@
 use Rattle.std.specs.Prelude.{◌≡◌, ℕ, ◌+◌, ◌≤◌, ◌^◌, Bool, true, false, List, length, replicate, get_or, nat_lt, Some, None, IsTrue, if◌then◌else◌}
 use Rattle.world_model.specs.declared.record.AsmRec.{AsmRec}
 use Rattle.world_model.specs.Thin.{is_thin}
-use Rattle.cil_values.specs.World.{queries_of, entry_of}
-use Rattle.cil_values.specs.Run.{run_from}
-use Rattle.lock.specs.Agree.{Agree}
-use Rattle.lock.specs.Move.{move_outcome}
+use Rattle.thin_values.specs.World.{queries_of, entry_of}
+use Rattle.thin_values.specs.Run.{run_from}
+use Rattle.thin_lock.specs.Agree.{Agree}
+use Rattle.thin_lock.specs.Move.{move_outcome}
 use Rattle.trim_rules.specs.Marked.{IsMarking}
 use Rattle.trim_rules.specs.BadOperands.{first_bad}
 use Rattle.file_layout.specs.Heaps.{users_heap}

@@ -13,7 +13,7 @@ pub fn runs_alike()
     ensures { (rec : AsmRec) (flags : List Bool) → CanRestrict rec flags → RunsAlike rec flags }
 {
     agrees();
-    lock::runs_alike();
+    thin_lock::runs_alike();
 }
 
 /// What is left is thin, all of it is marked, and it is its own restricted record.

@@ -8,7 +8,7 @@ use Rattle.byteorder.specs.Endian.{little_bytes}
 use Rattle.il_base.specs.declared.body.Body.{Body}
 use Rattle.il_base.specs.declared.body.Handler.{Handler}
 use Rattle.il_base.specs.declared.body.Instr.{Instr}
-use Rattle.body_grammar.specs.declared.body.TheConstants.{BODY}
+use Rattle.il_base.specs.declared.outside.TheConstants.{BODY}
 use Rattle.body_grammar.specs.declared.body.Fault.{Fault}
 use Rattle.body_grammar.specs.declared.body.Header.{Header}
 use Rattle.body_grammar.specs.Faults.{◌>>=◌, need, fault}

@@ -6,7 +6,7 @@ use Rattle.std.proofs.lemmas.List.{append-nil, drop-drop}
 use Rattle.byteorder.specs.Endian.{little_bytes}
 use Rattle.il_base.specs.Bytes.{number_at}
 use Rattle.il_base.specs.declared.body.Handler.{Handler}
-use Rattle.body_grammar.specs.declared.body.TheConstants.{FILTER, BODY}
+use Rattle.il_base.specs.declared.outside.TheConstants.{FILTER, BODY}
 use Rattle.body_grammar.specs.declared.body.Fault.{Fault}
 use Rattle.body_grammar.specs.Faults.{◌>>=◌, fault}
 use Rattle.body_grammar.specs.Bodies.{field_at, zero_at, clause_kind_at, small_clause_at, fat_clause_at, clause_at, clause_size, clauses_then, clauses_after, small_section_at, fat_section_at, section_at}

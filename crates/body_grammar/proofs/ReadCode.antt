@@ -6,7 +6,7 @@ use Rattle.il_base.specs.Bytes.{number_at}
 use Rattle.il_base.specs.declared.body.Form.{Form}
 use Rattle.il_base.specs.declared.body.Instr.{Instr}
 use Rattle.il_base.specs.declared.body.Operand.{Operand}
-use Rattle.body_grammar.specs.declared.body.TheConstants.{BODY, FLOAT, INSTRUCTION}
+use Rattle.il_base.specs.declared.outside.TheConstants.{BODY, FLOAT, INSTRUCTION}
 use Rattle.body_grammar.specs.declared.body.Inline.{Inline}
 use Rattle.body_grammar.specs.Faults.{◌>>=◌, need, fault}
 use Rattle.body_grammar.specs.Opcodes.{kind_of, is_float}

@@ -5,7 +5,7 @@ use Rattle.std.proofs.lemmas.List.{length-append, drop-drop, drop_at}
 use Rattle.byteorder.specs.Endian.{little_bytes, little_number}
 use Rattle.byteorder.specs.Numbers.{little_number-reads_back, length-bytes_low_first}
 use Rattle.il_base.specs.Bytes.{number_at}
-use Rattle.body_grammar.specs.declared.body.TheConstants.{BODY}
+use Rattle.il_base.specs.declared.outside.TheConstants.{BODY}
 use Rattle.body_grammar.specs.Faults.{need, fault}
 use Rattle.body_grammar.specs.Bodies.{field_at}
 

@@ -4,7 +4,7 @@ use Rattle.il_base.specs.Bytes.{number_at}
 use Rattle.il_base.specs.declared.body.Body.{Body}
 use Rattle.il_base.specs.declared.body.Handler.{Handler}
 use Rattle.il_base.specs.declared.body.Instr.{Instr}
-use Rattle.body_grammar.specs.declared.body.TheConstants.{FILTER, BODY}
+use Rattle.il_base.specs.declared.outside.TheConstants.{FILTER, BODY}
 use Rattle.body_grammar.specs.declared.body.Fault.{Fault}
 use Rattle.body_grammar.specs.declared.body.Header.{Header}
 use Rattle.body_grammar.specs.Faults.{◌>>=◌, fault, need}

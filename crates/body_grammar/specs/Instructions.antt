@@ -8,7 +8,7 @@ use Rattle.il_base.specs.declared.body.Form.{Form}
 use Rattle.il_base.specs.declared.body.Instr.{Instr}
 use Rattle.il_base.specs.declared.body.Operand.{Operand}
 use Rattle.il_base.specs.declared.body.Operand.TheVariants as operand
-use Rattle.body_grammar.specs.declared.body.TheConstants.{FLOAT, INSTRUCTION, BODY}
+use Rattle.il_base.specs.declared.outside.TheConstants.{FLOAT, INSTRUCTION, BODY}
 use Rattle.body_grammar.specs.declared.body.Fault.{Fault}
 use Rattle.body_grammar.specs.declared.body.Inline.{Inline}
 use Rattle.body_grammar.specs.declared.body.Inline.TheVariants.{InlineNone, FixedSlot, FixedNumber, ShortInlineVar, InlineVar, ShortInlineI, InlineI, InlineI8, InlineTok, ShortInlineBrTarget, InlineBrTarget, InlineSwitch}

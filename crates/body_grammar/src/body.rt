@@ -1,17 +1,5 @@
 use il_base::Form;
 
-/// The opcode is one of floating-point numbers.
-pub const FLOAT: u8 = 1;
-
-/// The opcode has no reading.
-pub const INSTRUCTION: u8 = 2;
-
-/// The clause is a filter.
-pub const FILTER: u8 = 4;
-
-/// Anything else that no body has.
-pub const BODY: u8 = 11;
-
 /// Why bytes spell no value: the first byte that no value allows, counted from 0, and what is wrong there.
 #[derive(Clone, Copy, Debug, PartialEq, Eq)]
 pub struct Fault {

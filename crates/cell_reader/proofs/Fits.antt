@@ -12,7 +12,7 @@ use Rattle.cli_format.specs.Columns.{columns_of, schema}
 use Rattle.cli_format.specs.Coded.{tag_bits_of}
 use Rattle.cli_format.specs.Tables.{rows_of, is_present, cell_number, column_of, names_row, names_coded, target_of}
 use Rattle.cli_format.specs.Metadata.{tables_demands, form_demands, root_demands, streams_demands, head_demands, rows_demands, heap_demands, limit_demands, known_demands, single_demands, tables_stream, tables_base, names_item, bad_at, most_rows}
-use Rattle.cli_format.specs.declared.why.TheConstants.{UNKNOWN_TABLE}
+use Rattle.il_base.specs.declared.reason.TheConstants.{UNKNOWN_TABLE}
 use Rattle.cli_format.proofs.Faults.{none_of_both, one_held, held_below}
 use Rattle.cli_format.proofs.Plain.{form_held, few_law, cells_law}
 use Rattle.record_format.specs.Cells.{number_in, count_of}

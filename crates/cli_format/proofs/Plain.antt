@@ -3,7 +3,7 @@ use Rattle.std.proofs.Common.{◌≡◌, ℕ, ◌+◌, ◌-◌, ◌<◌, ◌≤�
 use Rattle.std.specs.Prelude.{not, ◌||◌, nat_le, ◌↔◌}
 use Rattle.std.specs.List.{AllByRecursion}
 use Rattle.std.proofs.lemmas.Bool.{leb-true}
-use Rattle.cli_format.specs.declared.why.TheConstants.{LIST_ORDER, SORT_ORDER}
+use Rattle.il_base.specs.declared.reason.TheConstants.{LIST_ORDER, SORT_ORDER}
 use Rattle.cli_format.specs.declared.error.TablesError.TheVariants.{Rows}
 use Rattle.cli_format.specs.Demand.{Demand, first_fault, each_below}
 use Rattle.cli_format.specs.Columns.{columns_of, sort_key_of}

@@ -2,7 +2,7 @@
 use Rattle.std.specs.Prelude.{◌≡◌, ℕ, zero, suc, ◌+◌, Bool, nat_le, List, [], ◌∷◌, ◌++◌, length, Option, Some, None, Result, Ok, Err, unwrap_or, if◌then◌else◌}
 use Rattle.il_base.specs.Bytes.{number_at}
 use Rattle.il_base.specs.declared.ids.BadAt.{BadAt}
-use Rattle.cli_format.specs.declared.why.TheConstants.{TRUNCATED}
+use Rattle.il_base.specs.declared.reason.TheConstants.{TRUNCATED}
 
 -- A demand: whether it holds, and the refusal where it doesn't.
 pub record Demand (E : Type 0) : Type 0 where

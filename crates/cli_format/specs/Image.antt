@@ -5,7 +5,7 @@ use Rattle.std.specs.Prelude.{ℕ, zero, suc, ◌+◌, ◌-◌, ◌*◌, Bool, n
 use Rattle.std.specs.Option.{option_map, option_and_then}
 use Rattle.il_base.specs.declared.ids.BadAt.{BadAt}
 use Rattle.cli_format.specs.declared.section.Section.{Section}
-use Rattle.cli_format.specs.declared.why.TheConstants.{NOT_PE, NO_CLI, NOT_IL_ONLY, NATIVE, BAD_RVA}
+use Rattle.il_base.specs.declared.reason.TheConstants.{NOT_PE, NO_CLI, NOT_IL_ONLY, NATIVE, BAD_RVA}
 use Rattle.cli_format.specs.Demand.{Demand, demand, each_below, bad, number, within}
 
 -- ---- headers (II.25.2)

@@ -9,7 +9,7 @@ use Rattle.cli_format.specs.declared.key.SortKey.{SortKey}
 use Rattle.cli_format.specs.declared.key.SortKey.TheVariants.{Unsorted, ByOne, Strictly, ByTwo}
 use Rattle.cli_format.specs.declared.stream.Stream.{Stream}
 use Rattle.cli_format.specs.declared.stream.StreamName.TheVariants.{Tables, Strings, UserStrings, Guids, Blobs, Uncompressed}
-use Rattle.cli_format.specs.declared.why.TheConstants.{BAD_ROOT, BAD_STREAM, BAD_HEAP, UNKNOWN_TABLE, ROW_OUT_OF_RANGE, LIST_ORDER, SORT_ORDER}
+use Rattle.il_base.specs.declared.reason.TheConstants.{BAD_ROOT, BAD_STREAM, BAD_HEAP, UNKNOWN_TABLE, ROW_OUT_OF_RANGE, LIST_ORDER, SORT_ORDER}
 use Rattle.cli_format.specs.Demand.{Demand, demand, each_below, first_fault, bad, number}
 use Rattle.cli_format.specs.Streams.{version_length, stream_count, header_place, header_size, name_length, padding_length, stream_at, streams_before, streams_of, stream_called, heap, heap_place, agrees, zeros, name_number}
 use Rattle.cli_format.specs.Columns.{columns_of, sort_key_of}

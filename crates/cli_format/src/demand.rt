@@ -1,7 +1,7 @@
 ghost use Rattle.std.specs.Prelude.{◌≡◌, ◌+◌, ◌<◌, ◌≤◌, ◌^◌, length, OnOk};
 ghost use Rattle.cli_format.specs.Demand.{Checked, demand, bad, number, within};
 
-use crate::why::TRUNCATED;
+use il_base::reason::TRUNCATED;
 use il_base::{BadAt, u8_at, u16_at, u32_at, u64_at};
 
 /// Refuses at an offset for a reason, unless the test holds.

@@ -6,7 +6,7 @@ use Rattle.il_base.specs.declared.body.Instr.{Instr}
 use Rattle.il_base.specs.declared.body.Operand.TheVariants as operand
 use Rattle.world_model.specs.declared.record.UserText.{UserText}
 use Rattle.world_model.specs.declared.record.AsmRec.{AsmRec}
-use Rattle.cil_values.specs.World.{units_of, text_of}
+use Rattle.thin_values.specs.World.{units_of, text_of}
 use Rattle.trim_rules.specs.BadOperands.{is_bad, has_bad_operand}
 use Rattle.marking.specs.Texts.{is_token_in}
 

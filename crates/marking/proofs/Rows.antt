@@ -13,7 +13,7 @@ use Rattle.world_model.specs.declared.core_member.CoreMember.{CoreMember}
 use Rattle.world_model.specs.declared.core_member.CoreMember.TheVariants.{WriteLineString, WriteLineInt}
 use Rattle.world_model.specs.declared.record.AsmRec.{AsmRec}
 use Rattle.world_model.specs.Tokens.{table_of, row_index, index_in}
-use Rattle.cil_values.specs.World.{callee_of, own_place, core_place, ref_place, member_at, place_or_none}
+use Rattle.thin_values.specs.World.{callee_of, own_place, core_place, ref_place, member_at, place_or_none}
 use Rattle.trim_rules.specs.Marked.{own_method, called_by, callee_in}
 use Rattle.marking.specs.Rows.{own_row}
 

@@ -8,7 +8,7 @@ use Rattle.world_model.specs.declared.record.AsmRec.{AsmRec}
 use Rattle.world_model.specs.declared.known.Known.TheVariants.{Good, Bad}
 use Rattle.world_model.specs.declared.known.BadKind.TheVariants.{Unresolved}
 use Rattle.world_model.specs.Tokens.{index_in}
-use Rattle.cil_values.specs.World.{entry_of, own_place, place_or_none}
+use Rattle.thin_values.specs.World.{entry_of, own_place, place_or_none}
 use Rattle.trim_rules.specs.Marked.{code_at, callee_in, callee_at, MarkedMethod, entry, called, IsMarking}
 use Rattle.marking.specs.declared.progress.Progress.{Progress}
 use Rattle.marking.specs.Progress.{none_marked, mark, mark_option, visit, begun, left}

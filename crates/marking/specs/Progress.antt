@@ -2,7 +2,7 @@
 use Rattle.std.specs.Prelude.{ℕ, suc, ◌+◌, List, [], ◌∷◌, length, Bool, true, false, Option, Some, None, slice_get, slice_set, replicate}
 use Rattle.il_base.specs.declared.body.Instr.{Instr}
 use Rattle.world_model.specs.declared.record.AsmRec.{AsmRec}
-use Rattle.cil_values.specs.World.{entry_of}
+use Rattle.thin_values.specs.World.{entry_of}
 use Rattle.trim_rules.specs.Marked.{callee_in}
 use Rattle.marking.specs.declared.progress.Progress.{Progress}
 

@@ -1,5 +1,5 @@
 ghost use Rattle.std.specs.Prelude.{◌≡◌};
-ghost use Rattle.cil_values.specs.World.{callee_of};
+ghost use Rattle.thin_values.specs.World.{callee_of};
 ghost use Rattle.trim_rules.specs.BadOperands.{is_bad, has_bad_operand};
 ghost use Rattle.trim_rules.specs.Marked.{code_in, code_at, callee_in};
 ghost use Rattle.marking.specs.Rows.{own_row};
@@ -57,7 +57,7 @@ pub(crate) fn code_at(rec: &AsmRec, method: u32) -> &[Instr]
 }
 
 /// Whether a token of a `call` names no method.
-#[tactic(auto, unfolding(cil_values::specs::World::callee_of))]
+#[tactic(auto, unfolding(thin_values::specs::World::callee_of))]
 pub(crate) fn is_bad_callee(rec: &AsmRec, token: u32) -> bool
     ensures { result ≡ is_bad (callee_of rec.now token) }
 {

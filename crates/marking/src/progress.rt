@@ -1,7 +1,7 @@
 ghost use Rattle.std.specs.Prelude.{◌≡◌, IfOk, OnOk};
 ghost use Rattle.marking.specs.Progress.{none_marked, mark};
 
-use cil_values::Stack;
+use thin_values::Stack;
 use il_base::{Bits, NoMemory, Seq};
 use std::alloc::Global;
 

@@ -4,7 +4,7 @@ use Rattle.std.specs.Prelude.{not, ◌&&◌, ◌==◌, nat_le, ◌⊎◌}
 use Rattle.cli_format.specs.declared.stream.Stream.{Stream}
 use Rattle.cli_format.specs.declared.stream.StreamName.{StreamName}
 use Rattle.cli_format.specs.Streams.{agrees, name_number, stream_called, stream_at, nth_stream, header_place, header_size, version_length, streams_place, streams_before, streams_of, stream_count}
-use Rattle.cli_format.specs.declared.why.TheConstants.{BAD_STREAM}
+use Rattle.il_base.specs.declared.reason.TheConstants.{BAD_STREAM}
 use Rattle.cli_format.specs.Demand.{demand, first_fault, each_below}
 use Rattle.cli_format.specs.Metadata.{bad_at, header_fits, stream_fits, stream_demands, nth_stream_demands}
 use Rattle.cli_format.proofs.Faults.{none_of_both, one_held}

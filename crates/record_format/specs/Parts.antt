@@ -16,7 +16,7 @@ use Rattle.world_model.specs.Tokens.{index_in}
 use Rattle.blob_grammar.specs.Reading.{field_of_blob, method_of_blob}
 use Rattle.body_grammar.specs.declared.body.Fault.{Fault}
 use Rattle.body_grammar.specs.declared.body.Header.{Header}
-use Rattle.body_grammar.specs.declared.body.TheConstants.{BODY}
+use Rattle.il_base.specs.declared.outside.TheConstants.{BODY}
 use Rattle.body_grammar.specs.Bodies.{body_at, header_at, header_size}
 use Rattle.cli_format.specs.Image.{image_at, image_tail}
 

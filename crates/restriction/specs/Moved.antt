@@ -25,7 +25,7 @@ use Rattle.world_model.specs.declared.record.AsmRec.{AsmRec}
 use Rattle.world_model.specs.declared.record.UserText.{UserText}
 use Rattle.world_model.specs.Tokens.{token_of}
 use Rattle.world_model.specs.Core.{same_name}
-use Rattle.cil_values.specs.World.{callee_of, core_at, text_of}
+use Rattle.thin_values.specs.World.{callee_of, core_at, text_of}
 use Rattle.file_layout.specs.Heaps.{user_place}
 use Rattle.restriction.specs.Numbering.{rank, row_of}
 use Rattle.restriction.specs.References.{members_met, types_met, assemblies_met, locals_met, texts_met, same_member, same_assembly, same_locals, core_type_of, scope_of_type, locals_by, console_name}

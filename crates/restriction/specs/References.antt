@@ -24,7 +24,7 @@ use Rattle.world_model.specs.declared.record.AsmRec.{AsmRec}
 use Rattle.world_model.specs.Tokens.{index_in}
 use Rattle.world_model.specs.Core.{same_name, is_system_type, is_type_token}
 use Rattle.world_model.specs.Thin.{same_type}
-use Rattle.cil_values.specs.World.{callee_of, core_at, text_of}
+use Rattle.thin_values.specs.World.{callee_of, core_at, text_of}
 use Rattle.trim_rules.specs.Marked.{code_in}
 use Rattle.file_layout.specs.Interning.{each_once}
 use Rattle.restriction.specs.Numbering.{keep, first_met}

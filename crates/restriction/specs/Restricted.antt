@@ -1,7 +1,7 @@
 -- The record that is left of a thin record where the methods without a flag are gone.
 use Rattle.std.specs.Prelude.{ℕ, ◌+◌, Bool, List, [], map, bit_and, Option, Some, None}
 use Rattle.world_model.specs.declared.record.AsmRec.{AsmRec}
-use Rattle.cil_values.specs.World.{entry_of}
+use Rattle.thin_values.specs.World.{entry_of}
 use Rattle.file_layout.specs.Bodies.{rvas_behind}
 use Rattle.restriction.specs.References.{kept_methods, members_met, types_met, assemblies_met, locals_met, texts_met, bare_ref}
 use Rattle.restriction.specs.Moved.{method_token, moved_known, moved_methods, moved_type_def, new_type_ref, new_member_ref, new_locals, new_text, moved_assembly}

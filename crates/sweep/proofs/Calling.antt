@@ -9,7 +9,7 @@ use Rattle.world_model.specs.declared.core_member.CoreMember.{CoreMember}
 use Rattle.world_model.specs.declared.core_member.CoreMember.TheVariants.{WriteLineString, WriteLineInt}
 use Rattle.world_model.specs.declared.record.AsmRec.{AsmRec}
 use Rattle.world_model.specs.Tokens.{index_in}
-use Rattle.cil_values.specs.World.{own_place, ref_place, core_place, core_at, member_at, place_or_none, entry_of}
+use Rattle.thin_values.specs.World.{own_place, ref_place, core_place, core_at, member_at, place_or_none, entry_of}
 use Rattle.world_model.specs.declared.known.BadKind.TheVariants.{Unresolved}
 use Rattle.restriction.specs.Moved.{method_token}
 use Rattle.restriction.specs.Restricted.{entry_token}

@@ -15,7 +15,7 @@ use Rattle.world_model.specs.declared.assemblies.AssemblyRefRow.{AssemblyRefRow}
 use Rattle.world_model.specs.declared.members.StandAloneSigRow.{StandAloneSigRow}
 use Rattle.world_model.specs.declared.record.AsmRec.{AsmRec}
 use Rattle.world_model.specs.Tokens.{index_in}
-use Rattle.cil_values.specs.World.{callee_of, core_at, text_of}
+use Rattle.thin_values.specs.World.{callee_of, core_at, text_of}
 use Rattle.restriction.specs.Numbering.{row_of}
 use Rattle.restriction.specs.References.{kept_methods, texts_met, assemblies_met, locals_met, good_text, good_types, locals_at, locals_by, same_locals}
 use Rattle.restriction.specs.Moved.{token_32, method_token, member_token, callee_token, moved_callee, moved_text, text_token_by, moved_operand, scope_token, locals_token, moved_locals}

@@ -2,7 +2,7 @@
 use Rattle.std.proofs.Common.{◌≡◌, ℕ, Bool, List, map, refl, sym, ap, ◌∙◌}
 use Rattle.world_model.specs.declared.record.AsmRec.{AsmRec}
 use Rattle.world_model.specs.declared.record.UserText.{UserText}
-use Rattle.cil_values.specs.World.{entry_of}
+use Rattle.thin_values.specs.World.{entry_of}
 use Rattle.restriction.specs.References.{kept_methods, texts_met}
 use Rattle.restriction.specs.Moved.{new_text}
 use Rattle.restriction.specs.Restricted.{restricted, entry_token}

@@ -5,7 +5,7 @@ use Rattle.std.proofs.lemmas.List.{drop_all}
 use Rattle.std.specs.Prelude.{nat_eq, find, if◌then◌else◌}
 use Rattle.world_model.specs.declared.record.UserText.{UserText}
 use Rattle.world_model.specs.declared.record.AsmRec.{AsmRec}
-use Rattle.cil_values.specs.World.{text_of, units_of}
+use Rattle.thin_values.specs.World.{text_of, units_of}
 use Rattle.restriction.specs.References.{good_text}
 
 -- the first text under a token

@@ -5,7 +5,7 @@ use Rattle.world_model.specs.declared.known.Known.TheVariants.{Good, Bad}
 use Rattle.world_model.specs.declared.core_member.CoreMember.{CoreMember}
 use Rattle.world_model.specs.declared.record.AsmRec.{AsmRec}
 use Rattle.world_model.specs.Tokens.{index_in}
-use Rattle.cil_values.specs.World.{core_at, member_at}
+use Rattle.thin_values.specs.World.{core_at, member_at}
 use Rattle.sweep.specs.declared.callees.Callee.{Callee}
 use Rattle.sweep.specs.declared.callees.Callee.TheVariants.{Own, Core, Nothing}
 

@@ -11,7 +11,7 @@ use Rattle.il_base.specs.declared.body.Operand.TheVariants as operand
 use Rattle.world_model.specs.declared.members.MethodDefRow.{MethodDefRow}
 use Rattle.world_model.specs.declared.record.UserText.{UserText}
 use Rattle.world_model.specs.declared.record.AsmRec.{AsmRec}
-use Rattle.cil_values.specs.World.{text_of}
+use Rattle.thin_values.specs.World.{text_of}
 use Rattle.file_layout.specs.Heaps.{user_place}
 use Rattle.trim_rules.specs.Marked.{code_in}
 use Rattle.restriction.specs.Numbering.{first_met}

@@ -1,5 +1,5 @@
 ghost use Rattle.std.specs.Prelude.{◌≡◌};
-ghost use Rattle.cil_values.specs.World as world;
+ghost use Rattle.thin_values.specs.World as world;
 ghost use Rattle.restriction.specs.References.{member_called};
 ghost use Rattle.sweep.specs.Callees.{core_callee, own_callee, ref_callee, callee_at};
 
@@ -52,7 +52,7 @@ fn ref_callee(rec: &AsmRec, token: u32) -> Callee
 }
 
 /// What a MethodDef or MemberRef token names (II.22.26, II.22.25).
-#[tactic(auto, using(crate::proofs::Calling::own_is, crate::proofs::Calling::ref_is), unfolding(cil_values::specs::World::callee_of))]
+#[tactic(auto, using(crate::proofs::Calling::own_is, crate::proofs::Calling::ref_is), unfolding(thin_values::specs::World::callee_of))]
 pub(crate) fn callee_of(rec: &AsmRec, token: u32) -> Callee
     ensures { result ≡ callee_at rec.now (world.callee_of rec.now token) }
 {

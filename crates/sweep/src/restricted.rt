@@ -1,5 +1,5 @@
 ghost use Rattle.std.specs.Prelude.{◌≡◌, IfOk};
-ghost use Rattle.cil_values.specs.World.{entry_of};
+ghost use Rattle.thin_values.specs.World.{entry_of};
 ghost use Rattle.restriction.specs.Restricted.{restricted, entry_token, kept_bits};
 ghost use Rattle.sweep.specs.Kept.{AreRanks};
 ghost use Rattle.sweep.specs.Numbers.{AreNumbers};

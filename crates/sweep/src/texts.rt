@@ -1,7 +1,7 @@
 ghost use Rattle.std.specs.Prelude.{◌≡◌, ℕ, List, ◌+◌, ◌%◌, [], length, map, nat_eq, bytes_eq, unwrap_or, OnOk, IfOk};
 ghost use Rattle.std.specs.HashMap.{get};
 ghost use Rattle.std.specs.Option.{option_copied, option_map};
-ghost use Rattle.cil_values.specs.World.{text_of};
+ghost use Rattle.thin_values.specs.World.{text_of};
 ghost use Rattle.file_layout.specs.Heaps.{user_item};
 ghost use Rattle.trim_rules.specs.Marked as marked;
 ghost use Rattle.restriction.specs.Numbering.{met};

@@ -4,13 +4,13 @@ use Rattle.std.proofs.lemmas.List.{append-nil}
 use Rattle.std.specs.Io.KnownBytes.{Appends}
 use Rattle.il_outside.specs.Streams.{SinkState, AppendsPrefix}
 use Rattle.il_outside.specs.Faults.{Rose}
-use Rattle.cil_values.specs.declared.state.State.{State}
-use Rattle.cil_values.specs.declared.state.End.{End}
-use Rattle.cil_values.specs.Queries.{Queries}
-use Rattle.cil_values.specs.Words.{Next, went, over}
-use Rattle.cil_values.specs.Step.{step}
-use Rattle.cil_values.specs.Run.{Outcome, printed_before, after, run}
-use Rattle.cil_machine.specs.declared.step_out.StepOut.TheVariants as out
+use Rattle.thin_values.specs.declared.state.State.{State}
+use Rattle.thin_values.specs.declared.state.End.{End}
+use Rattle.thin_values.specs.Queries.{Queries}
+use Rattle.thin_values.specs.Words.{Next, went, over}
+use Rattle.thin_values.specs.Step.{step}
+use Rattle.thin_values.specs.Run.{Outcome, printed_before, after, run}
+use Rattle.thin_machine.specs.declared.step_out.StepOut.TheVariants as out
 use Rattle.trim_core.specs.declared.answers.Refusal.TheVariants.{BadFile, Limit, Unresolved, NotYet, NoMemory}
 use Rattle.trim_core.specs.declared.answers.ExecFault.{ExecFault}
 use Rattle.trim_core.specs.declared.answers.ExecFault.TheVariants.{Refused, Write}

@@ -6,14 +6,14 @@ use Rattle.il_outside.specs.Streams.{SinkState, AppendsPrefix}
 use Rattle.il_outside.specs.Faults.{Rose}
 use Rattle.world_model.specs.declared.record.AsmRec.{AsmRec}
 use Rattle.trim_core.specs.declared.answers.Ending.{Ending}
-use Rattle.cil_values.specs.declared.state.End.{End}
-use Rattle.cil_values.specs.declared.state.End.TheVariants as run_end
-use Rattle.cil_values.specs.World.{queries_of}
-use Rattle.cil_values.specs.Words.{Next, went, over}
-use Rattle.cil_values.specs.Run.{Outcome, run_from}
-use Rattle.cil_values.specs.declared.state.State.{State}
-use Rattle.cil_machine.specs.declared.step_out.StepOut.{StepOut}
-use Rattle.cil_machine.specs.declared.step_out.StepOut.TheVariants as out
+use Rattle.thin_values.specs.declared.state.End.{End}
+use Rattle.thin_values.specs.declared.state.End.TheVariants as run_end
+use Rattle.thin_values.specs.World.{queries_of}
+use Rattle.thin_values.specs.Words.{Next, went, over}
+use Rattle.thin_values.specs.Run.{Outcome, run_from}
+use Rattle.thin_values.specs.declared.state.State.{State}
+use Rattle.thin_machine.specs.declared.step_out.StepOut.{StepOut}
+use Rattle.thin_machine.specs.declared.step_out.StepOut.TheVariants as out
 use Rattle.trim_core.specs.declared.answers.EndKind.{EndKind}
 use Rattle.trim_core.specs.declared.answers.EndKind.TheVariants.{Ended, Spent, Stopped, Stuck}
 use Rattle.trim_core.specs.declared.answers.Refusal.{Refusal}

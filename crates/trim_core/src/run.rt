@@ -1,15 +1,15 @@
 //! A run of a thin record over a sink.
 
 ghost use Rattle.std.specs.Prelude.{◌≡◌, [], IfOk};
-ghost use Rattle.cil_values.specs.World.{queries_of};
-ghost use Rattle.cil_values.specs.Step.{step};
-ghost use Rattle.cil_values.specs.Run.{run, stuck_at_once};
-ghost use Rattle.cil_machine.specs.Memo.{IsMemo, MemoAfter};
+ghost use Rattle.thin_values.specs.World.{queries_of};
+ghost use Rattle.thin_values.specs.Step.{step};
+ghost use Rattle.thin_values.specs.Run.{run, stuck_at_once};
+ghost use Rattle.thin_machine.specs.Memo.{IsMemo, MemoAfter};
 ghost use Rattle.trim_core.specs.Exec.{RunsTo, LoopsTo, TurnsTo, end_of, place_in, run_of};
 
 use crate::answers::{EndKind, ExecFault, Refusal};
-use cil_machine::{Memo, Program, StepOut, first_state, step};
-use cil_values::{End, State};
+use thin_machine::{Memo, Program, StepOut, first_state, step};
+use thin_values::{End, State};
 use il_base::{MethodId, Place};
 use il_outside::{Sink, SinkError, write_all};
 use std::alloc::Global;

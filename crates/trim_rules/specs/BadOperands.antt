@@ -9,7 +9,7 @@ use Rattle.world_model.specs.declared.known.Known.{Known}
 use Rattle.world_model.specs.declared.known.Known.TheVariants.{Good, Bad}
 use Rattle.world_model.specs.declared.members.MethodDefRow.{MethodDefRow}
 use Rattle.world_model.specs.declared.record.AsmRec.{AsmRec}
-use Rattle.cil_values.specs.World.{callee_of, text_of}
+use Rattle.thin_values.specs.World.{callee_of, text_of}
 use Rattle.trim_rules.specs.declared.bad_operand.BadOperand.{BadOperand}
 use Rattle.trim_rules.specs.Marked.{code_in}
 

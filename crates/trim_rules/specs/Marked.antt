@@ -12,7 +12,7 @@ use Rattle.world_model.specs.declared.known.Known.{Known}
 use Rattle.world_model.specs.declared.known.Known.TheVariants.{Good, Bad}
 use Rattle.world_model.specs.declared.members.MethodDefRow.{MethodDefRow}
 use Rattle.world_model.specs.declared.record.AsmRec.{AsmRec}
-use Rattle.cil_values.specs.World.{callee_of, entry_of}
+use Rattle.thin_values.specs.World.{callee_of, entry_of}
 
 -- the instructions of a method; none where there is no body, or none that has a reading
 abbrev pub code_in : Option (Known Body) → List Instr

@@ -4,7 +4,7 @@ use Rattle.std.specs.Prelude.{nat_le, not, bit_and, is_some, ◌==◌, ◌||◌}
 use Rattle.std.proofs.lemmas.Bool.{le-leb}
 use Rattle.il_base.specs.declared.ids.BadAt.{BadAt}
 use Rattle.cli_format.specs.declared.section.Section.{Section}
-use Rattle.cli_format.specs.declared.why.TheConstants.{NOT_PE, NO_CLI, NOT_IL_ONLY, NATIVE, BAD_RVA, TRUNCATED}
+use Rattle.il_base.specs.declared.reason.TheConstants.{NOT_PE, NO_CLI, NOT_IL_ONLY, NATIVE, BAD_RVA, TRUNCATED}
 use Rattle.cli_format.specs.Demand.{Demand, first_fault, bad, within, number}
 use Rattle.cli_format.specs.Image.{signature_place, optional_place, section_place, nth_section, is_wide, directory_count_place, directory_place, cli_place, cli_flags_of, metadata_place_in, mapped, signature_demands, magic_demands, directory_demands, section_demands, sections_demands, cli_demands, il_only_demands, metadata_demands, header_demands, image_demands}
 use Rattle.cli_format.proofs.Faults.{none_then, one_holds, none_below, none_more}

@@ -3,7 +3,7 @@ use Rattle.std.proofs.Common.{◌≡◌, ℕ, suc, ◌+◌, ◌≤◌, Bool, tru
 use Rattle.std.specs.Prelude.{nat_le, ◌%◌, ◌==◌, ◌&&◌, ◌||◌, is_some}
 use Rattle.std.proofs.lemmas.Bool.{le-leb}
 use Rattle.std.proofs.lemmas.List.{append-nil}
-use Rattle.cli_format.specs.declared.why.TheConstants.{BAD_ROOT, BAD_STREAM}
+use Rattle.il_base.specs.declared.reason.TheConstants.{BAD_ROOT, BAD_STREAM}
 use Rattle.cli_format.specs.declared.error.TablesError.{TablesError}
 use Rattle.cli_format.specs.declared.stream.Stream.{Stream}
 use Rattle.cli_format.specs.declared.stream.StreamName.{StreamName}

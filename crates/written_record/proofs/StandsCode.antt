@@ -18,7 +18,7 @@ use Rattle.world_model.specs.declared.known.Known.{Known}
 use Rattle.world_model.specs.declared.known.Known.TheVariants.{Good, Bad}
 use Rattle.world_model.specs.declared.core_member.CoreMember.{CoreMember}
 use Rattle.world_model.specs.declared.record.AsmRec.{AsmRec}
-use Rattle.cil_values.specs.World.{callee_of, core_at, text_of}
+use Rattle.thin_values.specs.World.{callee_of, core_at, text_of}
 use Rattle.restriction.specs.References.{locals_by}
 use Rattle.restriction.specs.Moved.{method_token, member_token, callee_token, moved_callee, text_token_by, moved_text, locals_token, moved_locals, moved_operand, moved_instr, moved_body}
 

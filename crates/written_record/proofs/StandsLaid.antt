@@ -4,7 +4,7 @@ use Rattle.std.specs.Prelude.{IsTrue}
 use Rattle.std.proofs.lemmas.List.{length-map}
 use Rattle.world_model.specs.declared.record.AsmRec.{AsmRec}
 use Rattle.world_model.specs.Thin.{is_thin}
-use Rattle.cil_values.specs.World.{entry_of}
+use Rattle.thin_values.specs.World.{entry_of}
 use Rattle.restriction.specs.References.{types_met, members_met, assemblies_met, locals_met, bare_ref}
 use Rattle.restriction.specs.Moved.{moved_type_def, new_type_ref, new_member_ref, new_locals}
 use Rattle.restriction.specs.Restricted.{entry_token, restricted}

@@ -15,7 +15,7 @@ use Rattle.world_model.specs.declared.known.Known.TheVariants.{Good, Bad}
 use Rattle.world_model.specs.declared.members.MethodDefRow.{MethodDefRow}
 use Rattle.world_model.specs.declared.record.AsmRec.{AsmRec}
 use Rattle.world_model.specs.declared.record.UserText.{UserText}
-use Rattle.cil_values.specs.World.{units_of, text_of}
+use Rattle.thin_values.specs.World.{units_of, text_of}
 use Rattle.trim_rules.specs.Marked.{IsMarking, code_in}
 use Rattle.trim_rules.specs.BadOperands.{is_bad_use, has_bad_operand, first_bad}
 use Rattle.record_format.specs.Texts.{is_token, is_ldstr, loads, body_loads, is_loaded}

@@ -1,5 +1,5 @@
 use Rattle.std.proofs.Common.{Bool, List, ap, ◌∙◌}
-use Rattle.cil_values.specs.World.{entry_of}
+use Rattle.thin_values.specs.World.{entry_of}
 use Rattle.restriction.specs.Restricted.{entry_token}
 use Rattle.sweep.specs.Restrict.{own_rows, reference_rows}
 use Rattle.sweep.proofs.Restricting.{made_is}

@@ -1,9 +1,9 @@
 use Rattle.std.proofs.Common.{◌≡◌, Ok, ◌+◌, ◌-◌, subst, arith}
-use Rattle.cil_values.specs.World.{queries_of}
-use Rattle.cil_values.specs.Step.{step}
-use Rattle.cil_values.specs.Run.{Outcome, run}
-use Rattle.cil_machine.specs.declared.step_out.StepOut.{StepOut}
-use Rattle.cil_machine.specs.Memo.{MemoAfter}
+use Rattle.thin_values.specs.World.{queries_of}
+use Rattle.thin_values.specs.Step.{step}
+use Rattle.thin_values.specs.Run.{Outcome, run}
+use Rattle.thin_machine.specs.declared.step_out.StepOut.{StepOut}
+use Rattle.thin_machine.specs.Memo.{MemoAfter}
 use Rattle.trim_core.specs.Exec.{TurnsTo}
 use Rattle.trim_core.proofs.RunLemmas.{Left, nothing_yet, grew_by_nothing, run_next, run_none, turn_goes_on, turn_ends, turn_fails, all_went}
 use Rattle.trim_core.proofs.run.steps.Goals as goal

@@ -1,7 +1,7 @@
 use Rattle.std.proofs.Common.{◌-◌}
-use Rattle.cil_values.specs.World.{queries_of}
-use Rattle.cil_values.specs.Run.{run}
-use Rattle.cil_machine.specs.Memo.{IsMemo}
+use Rattle.thin_values.specs.World.{queries_of}
+use Rattle.thin_values.specs.Run.{run}
+use Rattle.thin_machine.specs.Memo.{IsMemo}
 use Rattle.trim_core.proofs.RunLemmas.{Left}
 use Rattle.trim_core.proofs.run.steps.Given as goal
 

@@ -1,6 +1,6 @@
 use Rattle.std.proofs.Common.{ap, ◌∙◌, List, ℕ, map}
 use Rattle.std.specs.Option.{option_map}
-use Rattle.cil_values.specs.World.{text_of}
+use Rattle.thin_values.specs.World.{text_of}
 use Rattle.restriction.specs.References.{good_text}
 use Rattle.sweep.specs.Texts.{text_number, numbered}
 use Rattle.sweep.proofs.Loading.{texts_are}

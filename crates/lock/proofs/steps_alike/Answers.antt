@@ -1,5 +1,0 @@
-use Rattle.lock.proofs.Runs.{step_lock}
-use Rattle.lock.proofs.steps_alike.Goals as goal
-
-pub returns : goal.returns
-returns c keeps rho after before a s h = step_lock keeps rho after before a s h
