@@ -3,12 +3,12 @@ ghost use Rattle.std.specs.List.{list_all};
 ghost use Rattle.core_table.specs.Laws.{are_types_once, has_members_once, is_named, ends_at_object, is_special_right, is_slot_right, is_exception_right, is_value_right, runs_meet, named_tokens};
 ghost use Rattle.core_table.specs.Record.{core_record};
 
-use crate::types::{METHOD_COUNT, TYPES};
+use crate::types::{METHOD_COUNT, TYPE_COUNT, TYPES};
 
 /// The core record's tables: as many rows as the core table has types, fields and methods; each type's runs begin where
 /// those of the type before it end, and the last runs end behind the last rows (II.22.37).
 pub fn rows()
-    ensures types { length core_record.type_def ≡ 59 }
+    ensures types { length core_record.type_def ≡ TYPE_COUNT }
     ensures fields { length core_record.field ≡ 1 }
     ensures methods { length core_record.method_def ≡ METHOD_COUNT }
     ensures runs { IsTrue (runs_meet 1 1 core_record.type_def) }

@@ -8,6 +8,9 @@ use crate::tokens::{
     PUBLIC, SEALED, STATIC_TYPE, SYSTEM_EXCEPTION, VALUE_TYPE,
 };
 
+/// How many types there are, `<Module>` among them.
+pub const TYPE_COUNT: u32 = 59;
+
 /// How many methods the types have.
 pub const METHOD_COUNT: u32 = 161;
 

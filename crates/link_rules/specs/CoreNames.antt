@@ -1,8 +1,9 @@
 -- Names of the core library that modifiers use and that it doesn't have (II.7.1.1): they are added to it as types without
 -- members, since a modifier is part of a signature whether its type is there or not.
-use Rattle.std.specs.Prelude.{ℕ, ◌+◌, List, [], ◌∷◌, ◌++◌, length, map, Option, Some, None, slice_get, ◌&&◌, Bool, true, false, if◌then◌else◌}
+use Rattle.std.specs.Prelude.{ℕ, suc, ◌+◌, List, [], ◌∷◌, ◌++◌, length, map, Option, Some, None, slice_get, ◌==◌, ◌&&◌, Bool, false, if◌then◌else◌}
 use Rattle.std.specs.List.{flat_map}
 use Rattle.std.specs.Option.{option_and_then}
+use Rattle.il_base.specs.declared.table.TheConstants.{TYPE_REF}
 use Rattle.il_base.specs.declared.sig.Sig.{Sig, fold-Sig}
 use Rattle.il_base.specs.declared.sig.Sig.TheOpen.{Sig-F}
 use Rattle.il_base.specs.declared.sig.MethodSig.{MethodSig}
@@ -21,10 +22,10 @@ use Rattle.world_model.specs.declared.types.TypeSpecRow.{TypeSpecRow}
 use Rattle.world_model.specs.declared.members.MethodSpecRow.{MethodSpecRow}
 use Rattle.world_model.specs.declared.record.AsmRec.{AsmRec}
 use Rattle.world_model.specs.Tokens.{index_in}
-use Rattle.world_model.specs.Core.{same_name, is_core_scope}
+use Rattle.world_model.specs.Core.{same_name}
 use Rattle.core_table.specs.declared.tokens.TheConstants.{OBJECT, STATIC_TYPE}
 use Rattle.link_rules.specs.declared.core_type_name.CoreTypeName.{CoreTypeName}
-use Rattle.link_rules.specs.Types.{type_in}
+use Rattle.link_rules.specs.Types.{ends_at, scope_assembly}
 use Rattle.link_rules.specs.Cycles.{add_all, listed}
 
 -- ---- modifiers
@@ -74,32 +75,40 @@ all_modifiers rec =
 abbrev pub same_core_name : CoreTypeName → CoreTypeName → Bool
 same_core_name x y = same_name x.name y.name && same_name x.namespace y.namespace
 
-abbrev pub is_missing : AsmRec → Option ℕ → Bool
-is_missing core None = true
-is_missing core (Some k) = false
+abbrev pub is_last : List AsmRec → Option ℕ → Bool
+is_last all None = false
+is_last all (Some a) = suc a == length all
 
--- a reference in the core library to a type that it doesn't have
-abbrev pub missing_name : AsmRec → AsmRec → TypeRefRow → List CoreTypeName
-missing_name core rec row =
-    if is_core_scope rec row.resolution_scope && is_missing core (type_in core None row.namespace row.name)
+-- whether the search for a name that isn't nested ends in the core library, the last assembly, and finds nothing there
+unfoldable pub is_missing : List AsmRec → Option ℕ → List ℕ → List ℕ → Bool
+is_missing all scope namespace name = is_last all (option_and_then (ends_at all (length all) namespace name) scope)
+
+-- a reference in the core library to a type that it doesn't have, also by way of assemblies that forward the name to it
+abbrev pub missing_name : List AsmRec → ℕ → AsmRec → TypeRefRow → List CoreTypeName
+missing_name all a rec row =
+    if is_missing all (scope_assembly all a rec row) row.namespace row.name
     then record { namespace = row.namespace; name = row.name } ∷ [] else []
 
-abbrev pub missing_at : AsmRec → AsmRec → ℕ → List CoreTypeName
-missing_at core rec token =
-    flat_map (missing_name core rec) (listed (option_and_then (slice_get rec.type_ref) (index_in 0x01 token)))
+abbrev pub missing_at : List AsmRec → ℕ → AsmRec → ℕ → List CoreTypeName
+missing_at all a rec token =
+    flat_map (missing_name all a rec) (listed (option_and_then (slice_get rec.type_ref) (index_in TYPE_REF token)))
 
-abbrev pub missing_in : AsmRec → AsmRec → List CoreTypeName
-missing_in core rec = flat_map (missing_at core rec) (all_modifiers rec)
+abbrev pub missing_in : List AsmRec → ℕ → AsmRec → List CoreTypeName
+missing_in all a rec = flat_map (missing_at all a rec) (all_modifiers rec)
 
--- each once, in the order in which they are met
-unfoldable pub missing_names : AsmRec → List AsmRec → List CoreTypeName
-missing_names core recs = add_all same_core_name [] (flat_map (missing_in core) recs)
+abbrev pub missing_from : List AsmRec → ℕ → List AsmRec → List CoreTypeName
+missing_from all a [] = []
+missing_from all a (rec ∷ recs) = missing_in all a rec ++ missing_from all (suc a) recs
+
+-- each once, in the order in which they are met, where the core library as its table has it is the last assembly
+unfoldable pub missing_names : List AsmRec → List CoreTypeName
+missing_names all = add_all same_core_name [] (missing_from all 0 all)
 
 -- ---- the core library with them
 
 -- public, abstract and sealed, as .NET has IsVolatile or IsExternalInit
-abbrev pub added_type : AsmRec → CoreTypeName → TypeDefRow
-added_type core x = record {
+abbrev pub added_row : AsmRec → CoreTypeName → TypeDefRow
+added_row core x = record {
   flags = STATIC_TYPE;
   name = x.name;
   namespace = x.namespace;
@@ -111,4 +120,4 @@ added_type core x = record {
 }
 
 unfoldable pub core_with : AsmRec → List CoreTypeName → AsmRec
-core_with core names = record core { type_def = core.type_def ++ map (added_type core) names }
+core_with core names = record core { type_def = core.type_def ++ map (added_row core) names }

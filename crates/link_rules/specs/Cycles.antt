@@ -14,7 +14,7 @@ use Rattle.core_table.specs.declared.tokens.TheConstants.{VALUE_TYPE, ENUM}
 use Rattle.link_rules.specs.declared.row_at.RowAt.{RowAt}
 use Rattle.link_rules.specs.Types.{encloser}
 use Rattle.link_rules.specs.Signatures.{names_at, token_type}
-use Rattle.link_rules.specs.Members.{type_home, owner_of, good_type, base_at, run_of}
+use Rattle.link_rules.specs.Members.{type_home, owner_of, good_type, is_interface_row, base_at, run_of}
 
 -- ---- cycles of any kind
 
@@ -50,9 +50,22 @@ home_of recs e = option_and_then (type_home recs) (owner_of recs e)
 abbrev pub is_row_of : ℕ → InterfaceImplRow → Bool
 is_row_of token row = row.class == token
 
--- the types that the interface rows of a type name, in order; bad ones are left out
+-- whether a row is an interface's
+abbrev pub is_interface_at : List AsmRec → RowAt → Bool
+is_interface_at recs at =
+    list_any (λ (rec : AsmRec). list_any is_interface_row (listed (slice_get rec.type_def at.row))) (listed (slice_get recs at.asm))
+
+-- an interface, alone or with arguments
+unfoldable pub is_interface : List AsmRec → TypeExpr → Bool
+is_interface recs e = list_any (is_interface_at recs) (listed (home_of recs e))
+
+abbrev pub only_interface : List AsmRec → Option TypeExpr → List TypeExpr
+only_interface recs None = []
+only_interface recs (Some e) = if is_interface recs e then e ∷ [] else []
+
+-- the interfaces that the interface rows of a type name, in order (II.22.23); a row that names something else gives none
 abbrev pub interface_of : List AsmRec → ℕ → AsmRec → ℕ → InterfaceImplRow → List TypeExpr
-interface_of recs a rec token row = if is_row_of token row then listed (good_type (token_type recs a rec row.interface)) else []
+interface_of recs a rec token row = if is_row_of token row then only_interface recs (good_type (token_type recs a rec row.interface)) else []
 
 abbrev pub interfaces_in : List AsmRec → RowAt → AsmRec → List TypeExpr
 interfaces_in recs at rec = flat_map (interface_of recs at.asm rec (token_of 0x02 (suc at.row))) rec.interface_impl
@@ -60,9 +73,13 @@ interfaces_in recs at rec = flat_map (interface_of recs at.asm rec (token_of 0x0
 unfoldable pub interfaces_at : List AsmRec → RowAt → List TypeExpr
 interfaces_at recs at = flat_map (interfaces_in recs at) (listed (slice_get recs at.asm))
 
--- the definitions of a type's base and interfaces
-unfoldable pub supertypes : List AsmRec → RowAt → List RowAt
-supertypes recs at = flat_map (λ e. listed (home_of recs e)) (listed (base_at recs at) ++ interfaces_at recs at)
+-- the definition of a type's base
+unfoldable pub base_rows : List AsmRec → RowAt → List RowAt
+base_rows recs at = flat_map (λ e. listed (home_of recs e)) (listed (base_at recs at))
+
+-- the definitions of the interfaces that a type's rows name
+unfoldable pub interface_rows : List AsmRec → RowAt → List RowAt
+interface_rows recs at = flat_map (λ e. listed (home_of recs e)) (interfaces_at recs at)
 
 -- ---- value types in instance fields
 

@@ -1,6 +1,6 @@
 -- Which demand on several assemblies fails first: names of assemblies that are taken, types on a cycle, enclosers on a cycle,
 -- members that are there twice, each kind over all assemblies in order.
-use Rattle.std.specs.Prelude.{ℕ, suc, List, [], ◌∷◌, length, Option, Some, None, nat_eq, ◌==◌, ◌&&◌, ◌||◌, ◌%◌, Bool, false, if◌then◌else◌}
+use Rattle.std.specs.Prelude.{ℕ, suc, List, [], ◌∷◌, length, Option, Some, None, nat_eq, ◌&&◌, ◌||◌, Bool, false, if◌then◌else◌}
 use Rattle.std.specs.List.{list_any, position_from}
 use Rattle.std.specs.Option.{option_map}
 use Rattle.world_model.specs.declared.known.Known.{Known}
@@ -22,8 +22,8 @@ use Rattle.link_rules.specs.declared.link_error.LinkError.TheVariants as fault
 use Rattle.link_rules.specs.declared.member_type.MethodType.{MethodType}
 use Rattle.link_rules.specs.Types.{or_else, at_row, encloser, same_place}
 use Rattle.link_rules.specs.Signatures.{names_at, method_type, same_method_type}
-use Rattle.link_rules.specs.Members.{type_count, owns_method, owns_field}
-use Rattle.link_rules.specs.Cycles.{is_on_cycle, same_row, supertypes, field_values, around}
+use Rattle.link_rules.specs.Members.{type_count, is_compiler_controlled, owns_method, owns_field}
+use Rattle.link_rules.specs.Cycles.{is_on_cycle, same_row, base_rows, interface_rows, field_values, around}
 
 -- the first of these items, of which the first has the number i, that has a fault
 abbrev pub first_of : {A B : Type 0} → (ℕ → A → Option B) → ℕ → List A → Option B
@@ -53,10 +53,12 @@ duplicate_assembly recs = taken_from [] 0 recs
 
 -- ---- cycles of types
 
--- over bases and interfaces, or over the value types in instance fields
+-- over bases, over interface rows, or over the value types in instance fields
 unfoldable pub is_cyclic_type : List AsmRec → RowAt → Bool
 is_cyclic_type all at =
-    is_on_cycle same_row (supertypes all) (type_count all) at || is_on_cycle same_row (field_values all) (type_count all) at
+    is_on_cycle same_row (base_rows all) (type_count all) at
+    || is_on_cycle same_row (interface_rows all) (type_count all) at
+    || is_on_cycle same_row (field_values all) (type_count all) at
 
 abbrev pub cyclic_type : List AsmRec → ℕ → ℕ → TypeDefRow → Option LinkError
 cyclic_type all i k t = if is_cyclic_type all (at_row i k) then Some (fault.Bad i 15 (token_of 0x02 (suc k))) else None
@@ -123,19 +125,15 @@ member_key name None signature = None
 member_key name (Some owner) (Bad why) = None
 member_key name (Some owner) (Good signature) = Some (record { owner = owner; name = name; signature = signature })
 
--- CompilerControlled, of a member's flags (II.23.1.5, II.23.1.10)
-abbrev pub is_private_scope : ℕ → Bool
-is_private_scope flags = flags % 8 == 0
-
 -- a field that is compared: it is in a type, isn't compiler-controlled, and its signature is good
 abbrev pub field_key : List AsmRec → ℕ → AsmRec → ℕ → FieldRow → Option (MemberKey TypeExpr)
 field_key all i rec k f =
-    if is_private_scope f.flags then None
+    if is_compiler_controlled f.flags then None
     else member_key f.name (position_from (owns_field (suc k)) 0 rec.type_def) (known_then (sig_expr (names_at all i rec)) f.signature)
 
 abbrev pub method_key : List AsmRec → ℕ → AsmRec → ℕ → MethodDefRow → Option (MemberKey MethodType)
 method_key all i rec k m =
-    if is_private_scope m.flags then None
+    if is_compiler_controlled m.flags then None
     else member_key m.name (position_from (owns_method (suc k)) 0 rec.type_def) (known_then (method_type (names_at all i rec)) m.signature)
 
 abbrev pub repeated_row : ℕ → ℕ → Option ℕ → Option LinkError

@@ -1,6 +1,8 @@
 -- The world of several assemblies: their records and the core library's, where each item stands, what each token names.
 use Rattle.std.specs.Prelude.{◌≡◌, ℕ, suc, ◌+◌, List, [], ◌∷◌, ◌++◌, length, map, Option, Some, None, Result, Ok, Err}
 use Rattle.std.specs.List.{range_with_len}
+use Rattle.il_base.specs.declared.ids.TypeId.{TypeId}
+use Rattle.il_base.specs.declared.table.TheConstants.{TYPE_REF, TYPE_DEF, TYPE_SPEC}
 use Rattle.il_base.specs.declared.ids.Item.{Item}
 use Rattle.il_base.specs.declared.ids.Item.TheVariants as item
 use Rattle.world_model.specs.declared.known.Known.{Known}
@@ -21,7 +23,7 @@ use Rattle.world_model.specs.Tokens.{token_of}
 use Rattle.core_table.specs.Record.{core_record}
 use Rattle.link_rules.specs.declared.link_error.LinkError.{LinkError}
 use Rattle.link_rules.specs.declared.link_error.LinkError.TheVariants as fault
-use Rattle.link_rules.specs.Types.{at_row, ref_at}
+use Rattle.link_rules.specs.Types.{at_row, ref_definition, added_type}
 use Rattle.link_rules.specs.Signatures.{definition_expr, known_expr, spec_type}
 use Rattle.link_rules.specs.Members.{methods_in, fields_in, method_def_use, field_def_use, method_ref_use, field_ref_use, method_spec_use}
 use Rattle.link_rules.specs.Faults.{numbered, link_fault}
@@ -29,7 +31,7 @@ use Rattle.link_rules.specs.CoreNames.{missing_names, core_with}
 
 -- the assemblies of a world: the inputs, and the core library with the names that modifiers use
 unfoldable pub assemblies : List AsmRec → List AsmRec
-assemblies recs = recs ++ core_with core_record (missing_names core_record recs) ∷ []
+assemblies recs = recs ++ core_with core_record (missing_names (recs ++ core_record ∷ [])) ∷ []
 
 -- ---- where items stand: those of each kind by assembly and row, the kinds in the order of Item
 
@@ -60,14 +62,14 @@ homes recs =
 
 -- ---- what tokens name
 
-abbrev pub type_link : ℕ → ℕ → ℕ → Known TypeExpr → TypeLink
-type_link a table k to = record { asm = record { 0 = a }; token = token_of table (suc k); to = to }
+abbrev pub type_link : ℕ → ℕ → ℕ → Known TypeExpr → Option TypeId → TypeLink
+type_link a table k to added = record { asm = record { 0 = a }; token = token_of table (suc k); to = to; added = added }
 
 unfoldable pub types_of : List AsmRec → ℕ → AsmRec → List TypeLink
 types_of all a rec =
-    map (λ k. type_link a 0x01 k (known_expr all (ref_at all a rec k))) (range_with_len 0 (length rec.type_ref))
-    ++ map (λ k. type_link a 0x02 k (Good (definition_expr all (at_row a k)))) (range_with_len 0 (length rec.type_def))
-    ++ numbered (λ k (row : TypeSpecRow). type_link a 0x1b k (spec_type all a rec row)) 0 rec.type_spec
+    map (λ k. type_link a TYPE_REF k (known_expr all (ref_definition all a rec k)) (added_type all a rec k)) (range_with_len 0 (length rec.type_ref))
+    ++ map (λ k. type_link a TYPE_DEF k (Good (definition_expr all (at_row a k))) None) (range_with_len 0 (length rec.type_def))
+    ++ numbered (λ k (row : TypeSpecRow). type_link a TYPE_SPEC k (spec_type all a rec row) None) 0 rec.type_spec
 
 abbrev pub method_link : ℕ → ℕ → ℕ → Known MethodUse → MethodLink
 method_link a table k to = record { asm = record { 0 = a }; token = token_of table (suc k); to = to }

@@ -1,8 +1,10 @@
 -- What references to members name (II.22.25, II.22.29): a member is found by its name and signature in its parent and then
 -- in the bases, the nearest first.
-use Rattle.std.specs.Prelude.{ℕ, zero, suc, ◌+◌, ◌-◌, List, [], ◌∷◌, length, map, take, drop, Option, Some, None, slice_get, nat_lt, nat_le, ◌==◌, ◌&&◌, Bool, true, false, if◌then◌else◌}
+use Rattle.std.specs.Prelude.{ℕ, zero, suc, ◌+◌, ◌-◌, List, [], ◌∷◌, length, map, take, drop, Option, Some, None, slice_get, nat_lt, nat_le, ◌/◌, ◌%◌, ◌==◌, ◌&&◌, ◌||◌, not, Bool, true, false, if◌then◌else◌}
 use Rattle.std.specs.List.{position_from, count_by, range_with_len}
 use Rattle.std.specs.Option.{option_map, option_and_then}
+use Rattle.il_base.specs.declared.type_flags.TheConstants.{INTERFACE}
+use Rattle.il_base.specs.declared.method_flags.TheConstants.{COMPILER_CONTROLLED}
 use Rattle.il_base.specs.declared.ids.TypeId.{TypeId}
 use Rattle.il_base.specs.declared.sig.Sig.{Sig}
 use Rattle.world_model.specs.declared.known.Known.{Known}
@@ -66,13 +68,32 @@ args_of e = args_in (out-TypeExpr e)
 
 -- ---- bases (II.10.1)
 
--- the base of a type as its row names it; a row without one, or with a bad one, gives none
 abbrev pub good_type : Known TypeExpr → Option TypeExpr
 good_type (Good e) = Some e
 good_type (Bad why) = None
 
+-- a class or an interface, alone or with arguments; a parameter, an array, a reference and a modified type are none
+abbrev pub is_named_in : TypeExpr-F TypeExpr → Bool
+is_named_in (TypeExpr-F.Prim n) = true
+is_named_in (TypeExpr-F.Def t) = true
+is_named_in (TypeExpr-F.Inst t args) = true
+is_named_in _ = false
+
+unfoldable pub is_named : TypeExpr → Bool
+is_named e = is_named_in (out-TypeExpr e)
+
+abbrev pub only_named : Option TypeExpr → Option TypeExpr
+only_named None = None
+only_named (Some e) = if is_named e then Some e else None
+
+-- an interface, of a type's flags (II.23.1.15)
+abbrev pub is_interface_row : TypeDefRow → Bool
+is_interface_row t = t.flags / INTERFACE % 2 == 1
+
+-- the base that the row of a class names (II.22.37); an interface has none, whatever its row names
 abbrev pub base_in : List AsmRec → ℕ → AsmRec → TypeDefRow → Option TypeExpr
-base_in recs a rec row = if row.extends == 0 then None else good_type (token_type recs a rec row.extends)
+base_in recs a rec row =
+    if row.extends == 0 || is_interface_row row then None else only_named (good_type (token_type recs a rec row.extends))
 
 abbrev pub base_at : List AsmRec → RowAt → Option TypeExpr
 base_at recs at =
@@ -104,6 +125,10 @@ run_of first end rows = take (end - first) (drop (first - 1) rows)
 abbrev pub find_in_run : {A : Type 0} → (A → Bool) → ℕ → ℕ → List A → Option ℕ
 find_in_run test first end rows = position_from test (first - 1) (run_of first end rows)
 
+-- CompilerControlled, of a member's flags (II.23.1.5, II.23.1.10): no reference names such a member
+abbrev pub is_compiler_controlled : ℕ → Bool
+is_compiler_controlled flags = flags % 8 == COMPILER_CONTROLLED
+
 abbrev pub is_method_type : List TypeExpr → MethodType → Known MethodType → Bool
 is_method_type targs wanted (Good m) = same_method_type (subst_method targs m) wanted
 is_method_type targs wanted (Bad why) = false
@@ -111,7 +136,8 @@ is_method_type targs wanted (Bad why) = false
 -- a method of this name and signature, where the type has these arguments; one with a bad signature is none
 abbrev pub is_method : List AsmRec → ℕ → AsmRec → List TypeExpr → List ℕ → MethodType → MethodDefRow → Bool
 is_method recs a rec targs name wanted m =
-    same_name m.name name && is_method_type targs wanted (known_then (method_type (names_at recs a rec)) m.signature)
+    same_name m.name name && not (is_compiler_controlled m.flags)
+    && is_method_type targs wanted (known_then (method_type (names_at recs a rec)) m.signature)
 
 abbrev pub is_field_type : List TypeExpr → TypeExpr → Known TypeExpr → Bool
 is_field_type targs wanted (Good e) = same_expr (subst targs [] e) wanted
@@ -119,7 +145,8 @@ is_field_type targs wanted (Bad why) = false
 
 abbrev pub is_field : List AsmRec → ℕ → AsmRec → List TypeExpr → List ℕ → TypeExpr → FieldRow → Bool
 is_field recs a rec targs name wanted f =
-    same_name f.name name && is_field_type targs wanted (known_then (sig_expr (names_at recs a rec)) f.signature)
+    same_name f.name name && not (is_compiler_controlled f.flags)
+    && is_field_type targs wanted (known_then (sig_expr (names_at recs a rec)) f.signature)
 
 abbrev pub method_in : List AsmRec → List TypeExpr → List ℕ → MethodType → RowAt → AsmRec → TypeDefRow → Option RowAt
 method_in recs targs name wanted at rec row =

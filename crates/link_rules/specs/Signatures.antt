@@ -14,7 +14,7 @@ use Rattle.world_model.specs.Exprs.{subst, same_expr, same_exprs, same_bool}
 use Rattle.world_model.specs.Worlds.{Names, known_map, known_then, all_known, type_id, core_types, prim_of, prim_type, sig_expr}
 use Rattle.link_rules.specs.declared.row_at.RowAt.{RowAt}
 use Rattle.link_rules.specs.declared.member_type.MethodType.{MethodType}
-use Rattle.link_rules.specs.Types.{definition_at}
+use Rattle.link_rules.specs.Types.{definition_at, added_by}
 
 -- ---- definitions as types
 
@@ -37,7 +37,7 @@ unfoldable pub named_type : List AsmRec → ℕ → AsmRec → ℕ → Known Typ
 named_type recs a rec token = known_expr recs (definition_at recs a rec token)
 
 abbrev pub names_at : List AsmRec → ℕ → AsmRec → Names
-names_at recs a rec = record { types = λ token. Some (named_type recs a rec token); core = prim_type recs }
+names_at recs a rec = record { types = λ token. Some (named_type recs a rec token); core = prim_type recs; added = added_by recs a rec }
 
 -- what a TypeSpec row names
 abbrev pub spec_type : List AsmRec → ℕ → AsmRec → TypeSpecRow → Known TypeExpr

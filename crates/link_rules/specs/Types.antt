@@ -1,7 +1,7 @@
 -- What references to types name (II.22.38, II.22.14): a TypeRef row by its scope, an assembly by its simple name, a type by
 -- its namespace, name and encloser, or by way of the assemblies that forward it. Assemblies and rows are counted from 0; the
 -- last assembly is the core library.
-use Rattle.std.specs.Prelude.{ℕ, zero, suc, ◌-◌, List, [], ◌∷◌, length, Option, Some, None, slice_get, position, ◌==◌, ◌&&◌, Bool, true, false, if◌then◌else◌}
+use Rattle.std.specs.Prelude.{ℕ, zero, suc, ◌-◌, List, [], ◌∷◌, length, Option, Some, None, slice_get, position, nat_le, ◌==◌, ◌&&◌, Bool, true, false, if◌then◌else◌}
 use Rattle.std.specs.Option.{option_map, option_and_then}
 use Rattle.world_model.specs.declared.types.TypeDefRow.{TypeDefRow}
 use Rattle.world_model.specs.declared.types.TypeRefRow.{TypeRefRow}
@@ -12,7 +12,10 @@ use Rattle.world_model.specs.declared.assemblies.AssemblyRefRow.{AssemblyRefRow}
 use Rattle.world_model.specs.declared.record.AsmRec.{AsmRec}
 use Rattle.world_model.specs.Tokens.{token_of, table_of, index_in}
 use Rattle.world_model.specs.Core.{same_name, is_core_name}
-use Rattle.world_model.specs.Worlds.{row_below, types_in}
+use Rattle.world_model.specs.Worlds.{row_below, types_in, type_id}
+use Rattle.il_base.specs.declared.ids.TypeId.{TypeId}
+use Rattle.il_base.specs.declared.table.TheConstants.{MODULE, TYPE_REF, TYPE_DEF, ASSEMBLY_REF}
+use Rattle.core_table.specs.declared.types.TheConstants.{TYPE_COUNT}
 use Rattle.link_rules.specs.declared.row_at.RowAt.{RowAt}
 
 abbrev pub or_else : {A : Type 0} → Option A → Option A → Option A
@@ -96,7 +99,29 @@ top_type recs (suc n) namespace name a =
     (λ (rec : AsmRec). or_else (option_map (at_row a) (type_in rec None namespace name)) (option_and_then (top_type recs n namespace name) (forwarded_to recs rec namespace name)))
     (slice_get recs a)
 
+-- ---- where the forwarders of a name end
+
+abbrev pub ends_from : ℕ → (ℕ → Option ℕ) → Option ℕ → Option ℕ → Option ℕ
+ends_from a next (Some k) to = None
+ends_from a next None None = Some a
+ends_from a next None (Some b) = next b
+
+-- The assembly to which a name is forwarded and which doesn't forward it, over at most n assemblies. Where an assembly on the
+-- way has a type of this name the search ends there, with a type; a chain that comes back to an assembly ends nowhere.
+unfoldable pub ends_at : List AsmRec → ℕ → List ℕ → List ℕ → ℕ → Option ℕ
+ends_at recs zero namespace name a = None
+ends_at recs (suc n) namespace name a =
+    option_and_then
+    (λ (rec : AsmRec). ends_from a (ends_at recs n namespace name) (type_in rec None namespace name) (forwarded_to recs rec namespace name))
+    (slice_get recs a)
+
 -- ---- type references
+
+-- the assembly of a TypeRef row's scope; 0 and a Module token are the assembly itself
+abbrev pub scope_assembly : List AsmRec → ℕ → AsmRec → TypeRefRow → Option ℕ
+scope_assembly recs a rec row =
+    if table_of row.resolution_scope == MODULE then Some a
+    else option_and_then (assembly_at recs rec) (index_in ASSEMBLY_REF row.resolution_scope)
 
 abbrev pub nested_type : List AsmRec → List ℕ → List ℕ → Option RowAt → Option RowAt
 nested_type recs namespace name None = None
@@ -124,8 +149,34 @@ ref_type recs a rec (suc n) k =
 abbrev pub ref_at : List AsmRec → ℕ → AsmRec → ℕ → Option RowAt
 ref_at recs a rec k = ref_type recs a rec (length rec.type_ref) k
 
+-- ---- types that only modifiers find (II.7.1.1)
+
+-- a row of the core library after those of its table: a name that a modifier uses was added there
+abbrev pub is_added : List AsmRec → RowAt → Bool
+is_added recs at = suc at.asm == length recs && nat_le TYPE_COUNT at.row
+
+abbrev pub listed_at : List AsmRec → RowAt → Option RowAt
+listed_at recs at = if is_added recs at then None else Some at
+
+abbrev pub added_at : List AsmRec → RowAt → Option RowAt
+added_at recs at = if is_added recs at then Some at else None
+
+-- the definition that a TypeRef row names, for all but a modifier
+unfoldable pub ref_definition : List AsmRec → ℕ → AsmRec → ℕ → Option RowAt
+ref_definition recs a rec k = option_and_then (listed_at recs) (ref_at recs a rec k)
+
+-- the type that a TypeRef row names for a modifier alone
+unfoldable pub added_type : List AsmRec → ℕ → AsmRec → ℕ → Option TypeId
+added_type recs a rec k = option_map (λ (at : RowAt). type_id recs at.asm at.row) (option_and_then (added_at recs) (ref_at recs a rec k))
+
+-- ---- tokens
+
 -- the definition that a TypeDef or TypeRef token of an assembly names
 unfoldable pub definition_at : List AsmRec → ℕ → AsmRec → ℕ → Option RowAt
 definition_at recs a rec token =
-    if table_of token == 0x02 then option_map (at_row a) (row_below (types_in rec) (index_in 0x02 token))
-    else option_and_then (ref_at recs a rec) (index_in 0x01 token)
+    if table_of token == TYPE_DEF then option_map (at_row a) (row_below (types_in rec) (index_in TYPE_DEF token))
+    else option_and_then (ref_definition recs a rec) (index_in TYPE_REF token)
+
+-- the type that a TypeRef token of an assembly names for a modifier alone
+unfoldable pub added_by : List AsmRec → ℕ → AsmRec → ℕ → Option TypeId
+added_by recs a rec token = option_and_then (added_type recs a rec) (index_in TYPE_REF token)

@@ -1,5 +1,5 @@
 -- Which method a virtual call runs (II.10.3.4, II.12.2): the search for a class slot, and for a slot of an interface instance.
-use Rattle.std.specs.Prelude.{ℕ, suc, ◌+◌, ◌-◌, List, [], ◌∷◌, length, Option, Some, None, slice_get, find, ◌==◌, ◌&&◌, Bool, false, not, if◌then◌else◌}
+use Rattle.std.specs.Prelude.{ℕ, suc, ◌+◌, ◌-◌, List, [], ◌∷◌, length, Option, Some, None, find, ◌==◌, ◌&&◌, Bool, false, not, if◌then◌else◌}
 use Rattle.std.specs.List.{list_any, flat_map, range_with_len}
 use Rattle.std.specs.Option.{option_map, option_and_then}
 use Rattle.il_base.specs.declared.ids.MethodId.{MethodId}
@@ -19,9 +19,9 @@ use Rattle.link_rules.specs.declared.member_type.MethodType.{MethodType}
 use Rattle.link_rules.specs.Types.{at_row, or_else}
 use Rattle.link_rules.specs.Signatures.{subst_method}
 use Rattle.link_rules.specs.Members.{args_of, with_bases, type_count, methods_in, run_of, in_definition, open_parent, generic_method}
-use Rattle.link_rules.specs.Cycles.{listed, led_to, same_row, home_of}
+use Rattle.link_rules.specs.Cycles.{listed, led_to, same_row, home_of, is_interface_at}
 use Rattle.type_rules.specs.Subtypes.{interfaces_of}
-use Rattle.type_rules.specs.Slots.{is_static, is_virtual, is_public, is_interface_row, method_row_at, method_home, type_of_method, type_of_row, match_in, nearest, slot_of, has_slot}
+use Rattle.type_rules.specs.Slots.{is_static, is_virtual, is_public, method_row_at, method_home, type_of_method, type_of_row, match_in, nearest, slot_of, has_slot}
 
 -- ---- MethodImpl rows (II.22.27)
 
@@ -162,11 +162,7 @@ interface_dispatch recs t instance slot =
 
 -- ---- both
 
--- whether a method stands in an interface
-abbrev pub is_interface_at : List AsmRec → RowAt → Bool
-is_interface_at recs at =
-    list_any (λ (rec : AsmRec). list_any is_interface_row (listed (slice_get rec.type_def at.row))) (listed (slice_get recs at.asm))
-
+-- whether a method is one of an interface
 abbrev pub in_interface : List AsmRec → RowAt → Bool
 in_interface recs slot = list_any (is_interface_at recs) (listed (type_of_method recs slot))
 

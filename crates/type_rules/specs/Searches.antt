@@ -2,6 +2,7 @@
 use Rattle.std.specs.Prelude.{ℕ, suc, ◌+◌, ◌-◌, ◌/◌, ◌%◌, List, [], ◌∷◌, ◌++◌, length, map, codes, Option, Some, None, slice_get, ◌==◌, ◌&&◌, ◌||◌, Bool, false, not, if◌then◌else◌}
 use Rattle.std.specs.List.{list_any, flat_map, filter, range_with_len}
 use Rattle.std.specs.Option.{option_map, option_and_then}
+use Rattle.il_base.specs.declared.table.TheConstants.{METHOD_DEF}
 use Rattle.il_base.specs.declared.ids.TypeId.{TypeId}
 use Rattle.il_base.specs.declared.ids.Item.{Item}
 use Rattle.il_base.specs.declared.ids.Item.TheVariants as item
@@ -22,9 +23,9 @@ use Rattle.world_model.specs.Core.{same_name}
 use Rattle.world_model.specs.Worlds.{rows_before, type_id}
 use Rattle.attr_blobs.specs.declared.name.TypeName.{TypeName}
 use Rattle.link_rules.specs.declared.row_at.RowAt.{RowAt}
-use Rattle.link_rules.specs.Types.{at_row, or_else, assembly_named, encloser, same_place}
+use Rattle.link_rules.specs.Types.{at_row, listed_at, or_else, assembly_named, encloser, same_place}
 use Rattle.link_rules.specs.Signatures.{definition_expr}
-use Rattle.link_rules.specs.Members.{methods_in, fields_in, run_of, type_home, generic_method, with_bases}
+use Rattle.link_rules.specs.Members.{methods_in, fields_in, owns_method, run_of, type_home, generic_method, with_bases}
 use Rattle.link_rules.specs.Cycles.{listed, same_row, home_of}
 use Rattle.type_rules.specs.Slots.{is_static, is_public, method_row_at, method_home, slot_of, is_slot}
 use Rattle.type_rules.specs.Dispatch.{good_use, body_at}
@@ -53,7 +54,8 @@ type_along rec [] = None
 type_along rec (name ∷ path) = if same_name name (codes "<Module>") then None else nested_along rec path (named_within rec None name)
 
 abbrev pub type_along_at : List AsmRec → List (List ℕ) → ℕ → Option TypeId
-type_along_at recs path a = option_map (type_id recs a) (option_and_then (λ rec. type_along rec path) (slice_get recs a))
+type_along_at recs path a =
+    option_map (λ (at : RowAt). type_id recs at.asm at.row) (option_and_then (listed_at recs) (option_map (at_row a) (option_and_then (λ rec. type_along rec path) (slice_get recs a))))
 
 abbrev pub or_core : List AsmRec → List (List ℕ) → Option TypeId → Option TypeId
 or_core recs path found = or_else found (type_along_at recs path (length recs - 1))
@@ -157,13 +159,17 @@ methods_named recs name es =
 
 -- ---- properties and events: they are public, of instances, or override, where an accessor is or does (II.22.28)
 
-abbrev pub accessor_of : ℕ → MethodSemanticsRow → List ℕ
-accessor_of token row = if row.association == token then listed (index_in 0x06 row.method) else []
+-- whether a type's run has a method; a row that no run has belongs to nobody (II.22.37)
+abbrev pub has_owner : AsmRec → ℕ → Bool
+has_owner rec k = list_any (owns_method (suc k)) rec.type_def
+
+abbrev pub accessor_of : AsmRec → ℕ → MethodSemanticsRow → List ℕ
+accessor_of rec token row = if row.association == token then filter (has_owner rec) (listed (index_in METHOD_DEF row.method)) else []
 
 -- the accessors of a row of a table of an assembly
 abbrev pub accessors : List AsmRec → ℕ → RowAt → List RowAt
 accessors recs table at =
-    flat_map (λ (rec : AsmRec). map (at_row at.asm) (flat_map (accessor_of (token_of table (suc at.row))) rec.method_semantics)) (listed (slice_get recs at.asm))
+    flat_map (λ (rec : AsmRec). map (at_row at.asm) (flat_map (accessor_of rec (token_of table (suc at.row))) rec.method_semantics)) (listed (slice_get recs at.asm))
 
 abbrev pub accessor_test : List AsmRec → ℕ → (MethodDefRow → Bool) → RowAt → Bool
 accessor_test recs table test at = list_any (method_test recs test) (accessors recs table at)

@@ -34,10 +34,6 @@ is_new_slot m = m.flags / 0x100 % 2 == 1
 abbrev pub is_public : MethodDefRow → Bool
 is_public m = m.flags % 8 == 6
 
--- interface, of a type's flags (II.23.1.15)
-abbrev pub is_interface_row : TypeDefRow → Bool
-is_interface_row t = t.flags / 0x20 % 2 == 1
-
 -- ---- methods by their rows
 
 abbrev pub method_row_at : List AsmRec → RowAt → Option MethodDefRow

@@ -1,7 +1,7 @@
 -- Which types a type can stand for (I.8.7), without variance: itself, its base, its interfaces, and all that these can stand
--- for; an array also for an array whose element its own is a reference to.
-use Rattle.std.specs.Prelude.{ℕ, zero, suc, List, [], ◌∷◌, ◌++◌, map, Option, Some, None, ◌==◌, ◌&&◌, ◌||◌, Bool, true, false, not, IsTrue}
-use Rattle.std.specs.List.{list_any, flat_map, filter}
+-- for; an interface also for Object. T[] also stands for U[] where T is a reference type that stands for U.
+use Rattle.std.specs.Prelude.{ℕ, zero, suc, List, [], ◌∷◌, ◌++◌, map, Option, Some, None, ◌==◌, ◌&&◌, ◌||◌, Bool, true, false, not, IsTrue, if◌then◌else◌}
+use Rattle.std.specs.List.{list_any, flat_map}
 use Rattle.std.specs.Option.{option_map, option_and_then}
 use Rattle.world_model.specs.declared.expr.TypeExpr.{TypeExpr, out-TypeExpr}
 use Rattle.world_model.specs.declared.expr.TypeExpr.TheOpen.{TypeExpr-F}
@@ -10,36 +10,31 @@ use Rattle.world_model.specs.declared.record.AsmRec.{AsmRec}
 use Rattle.world_model.specs.Exprs.{subst, levels, same_expr}
 use Rattle.link_rules.specs.declared.row_at.RowAt.{RowAt}
 use Rattle.link_rules.specs.Members.{array_type, args_of, base_at, type_count}
-use Rattle.link_rules.specs.Cycles.{listed, led_to, home_of, interfaces_at, is_value_type}
+use Rattle.link_rules.specs.Cycles.{listed, led_to, home_of, is_interface, interfaces_at, is_value_type}
+use Rattle.il_base.specs.declared.element.TheConstants.{OBJECT, STRING}
 
 -- ---- one step up
 
--- a class or an interface, alone or with arguments: what a base or an interface can be (II.10.1.3, II.22.23)
-abbrev pub is_named_in : TypeExpr-F TypeExpr → Bool
-is_named_in (TypeExpr-F.Prim n) = true
-is_named_in (TypeExpr-F.Def t) = true
-is_named_in (TypeExpr-F.Inst t args) = true
-is_named_in _ = false
-
-unfoldable pub is_named : TypeExpr → Bool
-is_named e = is_named_in (out-TypeExpr e)
-
--- such types with the arguments of a type put in; any other type gives nothing, as a bad row does
-abbrev pub named_with : TypeExpr → List TypeExpr → List TypeExpr
-named_with e types = map (subst (args_of e) []) (filter is_named types)
+-- types in a definition, with the arguments of a type put in
+abbrev pub put_in : TypeExpr → List TypeExpr → List TypeExpr
+put_in e types = map (subst (args_of e) []) types
 
 -- the base that the row of a type names
 abbrev pub bases_of : List AsmRec → TypeExpr → List TypeExpr
-bases_of recs e = named_with e (listed (option_and_then (base_at recs) (home_of recs e)))
+bases_of recs e = put_in e (listed (option_and_then (base_at recs) (home_of recs e)))
 
 -- the interfaces that the rows of a type name, in order
 unfoldable pub interfaces_of : List AsmRec → TypeExpr → List TypeExpr
-interfaces_of recs e = named_with e (flat_map (interfaces_at recs) (listed (home_of recs e)))
+interfaces_of recs e = put_in e (flat_map (interfaces_at recs) (listed (home_of recs e)))
+
+-- System.Object for an interface, which has no base (I.8.7)
+abbrev pub object_above : List AsmRec → TypeExpr → List TypeExpr
+object_above recs e = if is_interface recs e then expr.Prim OBJECT ∷ [] else []
 
 -- of an array it is System.Array (I.8.9.1)
 abbrev pub up_in : List AsmRec → TypeExpr → TypeExpr-F TypeExpr → List TypeExpr
 up_in recs e (TypeExpr-F.Array x) = listed (option_map (λ t. expr.Def t) (array_type recs))
-up_in recs e _ = bases_of recs e ++ interfaces_of recs e
+up_in recs e _ = bases_of recs e ++ (interfaces_of recs e ++ object_above recs e)
 
 unfoldable pub up : List AsmRec → TypeExpr → List TypeExpr
 up recs e = up_in recs e (out-TypeExpr e)
@@ -53,7 +48,7 @@ is_class_at recs (Some at) = not (is_value_type recs at)
 
 -- STRING and OBJECT are the primitives that are classes (II.23.1.16)
 abbrev pub is_reference_in : List AsmRec → TypeExpr → TypeExpr-F TypeExpr → Bool
-is_reference_in recs e (TypeExpr-F.Prim n) = n == 0x0e || n == 0x1c
+is_reference_in recs e (TypeExpr-F.Prim n) = n == STRING || n == OBJECT
 is_reference_in recs e (TypeExpr-F.Def t) = is_class_at recs (home_of recs e)
 is_reference_in recs e (TypeExpr-F.Inst t args) = is_class_at recs (home_of recs e)
 is_reference_in recs e (TypeExpr-F.Array x) = true

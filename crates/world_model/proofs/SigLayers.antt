@@ -12,7 +12,7 @@ use Rattle.world_model.specs.declared.expr.TypeExpr.TheVariants as expr
 use Rattle.world_model.specs.declared.record.AsmRec.{AsmRec}
 use Rattle.world_model.specs.declared.world.TypeLink.{TypeLink}
 use Rattle.world_model.specs.Exprs.{arg_or, subst}
-use Rattle.world_model.specs.Worlds.{known_map, all_known, type_link_at, named_in, definition_named, instance_of, modified, sig_layer, sig_expr, names_by, expr_by}
+use Rattle.world_model.specs.Worlds.{known_map, all_known, type_link_at, named_in, definition_named, modifier_named, instance_of, modified, sig_layer, sig_expr, names_by, expr_by}
 use Rattle.world_model.proofs.ExprLayers.{subst_prim, subst_inst, subst_array, subst_by_ref, subst_var, subst_mvar, subst_mod}
 
 -- what is put into each part is put into the whole
@@ -82,11 +82,11 @@ module _ (recs : List AsmRec) (links : List TypeLink) (a : ℕ) (targs margs : L
   pub expr_mvar : (n : ℕ) → expr_by recs links a targs margs (sig.MVar n) ≡ Good (arg_or margs n (expr.MVar n))
   expr_mvar n = of_layer (Sig-F.MVar n) (sig.MVar n) (sig.rolls-MVar n) ∙ ap Good (subst_mvar targs margs n)
 
-  pub expr_mod : (required : Bool) (token : ℕ) (s : Sig) → expr_by recs links a targs margs (sig.Mod required token s) ≡ modified required (definition_named (names_by recs links a) token) (expr_by recs links a targs margs s)
+  pub expr_mod : (required : Bool) (token : ℕ) (s : Sig) → expr_by recs links a targs margs (sig.Mod required token s) ≡ modified required (modifier_named (names_by recs links a) token) (expr_by recs links a targs margs s)
   unfolding expr_by
   expr_mod required token s =
       of_layer (Sig-F.Mod required token s) (sig.Mod required token s) (sig.rolls-Mod required token s)
-      ∙ into_modified targs margs required (definition_named (names_by recs links a) token) (sig_expr (names_by recs links a) s)
+      ∙ into_modified targs margs required (modifier_named (names_by recs links a) token) (sig_expr (names_by recs links a) s)
 
   pub expr_pinned : (s : Sig) → expr_by recs links a targs margs (sig.Pinned s) ≡ expr_by recs links a targs margs s
   unfolding expr_by

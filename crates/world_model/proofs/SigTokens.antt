@@ -11,7 +11,7 @@ use Rattle.world_model.specs.declared.record.AsmRec.{AsmRec}
 use Rattle.world_model.specs.declared.world.TypeLink.{TypeLink}
 use Rattle.world_model.specs.Tokens.{table_of}
 use Rattle.world_model.specs.Exprs.{subst}
-use Rattle.world_model.specs.Worlds.{known_map, known_then, known_or, type_link_at, prim_type, all_known, instance_of, modified, Names, named_in, definition_of, definition_named, sig_layer, sig_expr, expr_by}
+use Rattle.world_model.specs.Worlds.{known_map, known_then, known_or, type_link_at, prim_type, all_known, instance_of, modified, Names, named_in, definition_of, definition_named, found_or_named, modifier_named, added_link_at, sig_layer, sig_expr, expr_by}
 
 -- what the tokens of an assembly name
 abbrev Types : Type 0
@@ -31,16 +31,20 @@ module _ (types others : Types) (agree : Agree types others) where
   named_same token =
       choice (table_of token == 0x1b) _ (known_or (types token)) (known_or (others token)) (λ (h : (table_of token == 0x1b) ≡ false). ap known_or (agree token (λ e. true≢false (sym (eq-eqb (table_of token) 0x1b e) ∙ h))))
 
-  module _ (core : ℕ → Option TypeId) where
+  module _ (core added : ℕ → Option TypeId) where
     abbrev these : Names
-    these = record { types = types; core = core }
+    these = record { types = types; core = core; added = added }
 
     abbrev those : Names
-    those = record { types = others; core = core }
+    those = record { types = others; core = core; added = added }
 
     definition_same : (token : ℕ) → definition_named these token ≡ definition_named those token
     unfolding definition_named
     definition_same token = ap (known_then (definition_of core)) (named_same token)
+
+    modifier_same : (token : ℕ) → modifier_named these token ≡ modifier_named those token
+    unfolding modifier_named
+    modifier_same token = ap (found_or_named (added token)) (definition_same token)
 
     layer_same : (x : Sig-F (Known TypeExpr)) → sig_layer these x ≡ sig_layer those x
     layer_same (Sig-F.Prim n) = refl
@@ -50,13 +54,15 @@ module _ (types others : Types) (agree : Agree types others) where
     layer_same (Sig-F.Inst value token args) = ap (λ (t : Known TypeId). instance_of t (all_known args)) (definition_same token)
     layer_same (Sig-F.Var n) = refl
     layer_same (Sig-F.MVar n) = refl
-    layer_same (Sig-F.Mod required token x) = ap (λ (t : Known TypeId). modified required t x) (definition_same token)
+    layer_same (Sig-F.Mod required token x) = ap (λ (t : Known TypeId). modified required t x) (modifier_same token)
     layer_same (Sig-F.Pinned x) = refl
 
     pub sig_same : (s : Sig) → sig_expr these s ≡ sig_expr those s
     unfolding sig_expr
     sig_same s = λ i. fold-Sig (Known TypeExpr) (λ x. layer_same x i) s
 
-pub expr_same : (recs : List AsmRec) (links others : List TypeLink) (a : ℕ) (targs margs : List TypeExpr) → Agree (type_link_at recs links a) (type_link_at recs others a) → (s : Sig) → expr_by recs links a targs margs s ≡ expr_by recs others a targs margs s
+pub expr_same : (recs : List AsmRec) (links others : List TypeLink) (a : ℕ) (targs margs : List TypeExpr) → Agree (type_link_at recs links a) (type_link_at recs others a) → ((token : ℕ) → added_link_at recs links a token ≡ added_link_at recs others a token) → (s : Sig) → expr_by recs links a targs margs s ≡ expr_by recs others a targs margs s
 unfolding expr_by
-expr_same recs links others a targs margs agree s = ap (known_map (subst targs margs)) (sig_same (type_link_at recs links a) (type_link_at recs others a) agree (prim_type recs) s)
+expr_same recs links others a targs margs agree same s =
+    ap (known_map (subst targs margs)) (sig_same (type_link_at recs links a) (type_link_at recs others a) agree (prim_type recs) (added_link_at recs links a) s
+    ∙ ap (λ (f : ℕ → Option TypeId). sig_expr (record { types = type_link_at recs others a; core = prim_type recs; added = f }) s) (λ i token. same token i))

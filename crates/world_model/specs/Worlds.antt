@@ -105,6 +105,10 @@ link_place count row recs a token =
 unfoldable pub type_link_at : List AsmRec → List TypeLink → ℕ → ℕ → Option (Known TypeExpr)
 type_link_at recs links a token = option_map (λ (l : TypeLink). l.to) (option_and_then (slice_get links) (link_place type_rows type_row recs a token))
 
+-- the type that a modifier alone finds under a token, by these links
+unfoldable pub added_link_at : List AsmRec → List TypeLink → ℕ → ℕ → Option TypeId
+added_link_at recs links a token = option_and_then (λ (l : TypeLink). l.added) (option_and_then (slice_get links) (link_place type_rows type_row recs a token))
+
 abbrev pub type_at : World → ℕ → ℕ → Option (Known TypeExpr)
 type_at w a token = type_link_at w.recs w.types a token
 
@@ -164,13 +168,22 @@ definition_in core _ = Bad Unresolved
 unfoldable pub definition_of : (ℕ → Option TypeId) → TypeExpr → Known TypeId
 definition_of core e = definition_in core (out-TypeExpr e)
 
--- what the tokens of an assembly name, and the definitions of primitives
+-- what the tokens of an assembly name, the definitions of primitives, and the types that modifiers alone find
 pub record Names : Type 0 where
   pub types : ℕ → Option (Known TypeExpr)
   pub core : ℕ → Option TypeId
+  pub added : ℕ → Option TypeId
 
 unfoldable pub definition_named : Names → ℕ → Known TypeId
 definition_named names token = known_then (definition_of names.core) (named_in names.types token)
+
+abbrev pub found_or_named : Option TypeId → Known TypeId → Known TypeId
+found_or_named None named = named
+found_or_named (Some t) named = Good t
+
+-- the definition that a modifier names: one that modifiers alone find, else what any token names (II.7.1.1)
+unfoldable pub modifier_named : Names → ℕ → Known TypeId
+modifier_named names token = found_or_named (names.added token) (definition_named names token)
 
 abbrev pub instance_of : Known TypeId → Known (List TypeExpr) → Known TypeExpr
 instance_of t args = known_then (λ (d : TypeId). known_map (λ xs. expr.Inst d xs) args) t
@@ -187,7 +200,7 @@ sig_layer names (Sig-F.ByRef x) = known_map (λ e. expr.ByRef e) x
 sig_layer names (Sig-F.Inst value token args) = instance_of (definition_named names token) (all_known args)
 sig_layer names (Sig-F.Var n) = Good (expr.Var n)
 sig_layer names (Sig-F.MVar n) = Good (expr.MVar n)
-sig_layer names (Sig-F.Mod required token x) = modified required (definition_named names token) x
+sig_layer names (Sig-F.Mod required token x) = modified required (modifier_named names token) x
 sig_layer names (Sig-F.Pinned x) = x
 
 -- the type that a signature names, or why its first bad token is bad
@@ -196,7 +209,7 @@ sig_expr names = fold-Sig (Known TypeExpr) (sig_layer names)
 
 -- what the tokens of an assembly name by these links
 abbrev pub names_by : List AsmRec → List TypeLink → ℕ → Names
-names_by recs links a = record { types = type_link_at recs links a; core = prim_type recs }
+names_by recs links a = record { types = type_link_at recs links a; core = prim_type recs; added = added_link_at recs links a }
 
 -- the type that a signature of an assembly names, with these arguments of the type and of the method put in
 unfoldable pub expr_by : List AsmRec → List TypeLink → ℕ → List TypeExpr → List TypeExpr → Sig → Known TypeExpr

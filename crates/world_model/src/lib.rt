@@ -40,7 +40,7 @@ pub use extras::{
 pub use known::{BadKind, Known};
 pub use laws::{same_expr_is_equality, type_specs_are_not_asked};
 pub use links::{LinkKind, link_at};
-pub use lookup::type_link_at;
+pub use lookup::{added_link_at, type_link_at};
 pub use members::{
     EventMapRow, EventRow, FieldRow, MemberRefRow, MethodDefRow, MethodImplRow, MethodSemanticsRow,
     MethodSpecRow, ParamRow, PropertyMapRow, PropertyRow, StandAloneSigRow,

@@ -2,14 +2,14 @@
 
 ghost use Rattle.std.specs.Prelude.{◌≡◌};
 ghost use Rattle.std.specs.Option.{option_copied};
-ghost use Rattle.world_model.specs.Worlds.{type_link_at, type_at, method_at, field_at};
+ghost use Rattle.world_model.specs.Worlds.{type_link_at, added_link_at, type_at, method_at, field_at};
 
 use crate::expr::{FieldUse, MethodUse, TypeExpr};
 use crate::known::Known;
 use crate::links::{LinkKind, link_at};
 use crate::record::AsmRec;
 use crate::world::{TypeLink, World};
-use il_base::AsmId;
+use il_base::{AsmId, TypeId};
 
 /// What a TypeRef, TypeDef or TypeSpec token of an assembly names by these links, which are those of these assemblies in
 /// order, and of each assembly those of its TypeRef, TypeDef and TypeSpec rows. None where there is no such row, no such
@@ -26,6 +26,17 @@ pub fn type_link_at<'a>(
     match link_at(LinkKind::Type, recs, links, a, token) {
         None => None,
         Some(link) => Some(&link.to),
+    }
+}
+
+/// The type of the core library that a modifier alone finds under a TypeRef token of an assembly, by these links.
+#[tactic(auto, unfolding(crate::specs::Worlds::added_link_at))]
+pub fn added_link_at(recs: &[AsmRec], links: &[TypeLink], a: AsmId, token: u32) -> Option<TypeId>
+    ensures { result ≡ added_link_at recs.now links.now a.0 token }
+{
+    match link_at(LinkKind::Type, recs, links, a, token) {
+        None => None,
+        Some(link) => link.added,
     }
 }
 

@@ -3,12 +3,12 @@
 ghost use Rattle.std.specs.Prelude.{◌≡◌, map, IfOk};
 ghost use Rattle.world_model.specs.declared.expr.TypeExpr as expr;
 ghost use Rattle.world_model.specs.Exprs.{subst};
-ghost use Rattle.world_model.specs.Worlds.{type_link_at, known_map, all_known, named_in, definition_named, names_by, instance_of, modified, expr_by, expr_in};
+ghost use Rattle.world_model.specs.Worlds.{type_link_at, known_map, all_known, named_in, definition_named, modifier_named, names_by, instance_of, modified, expr_by, expr_in};
 
 use crate::expr::TypeExpr;
 use crate::known::Known;
 use crate::record::AsmRec;
-use crate::sig_names::{definition_named, type_named};
+use crate::sig_names::{definition_named, modifier_named, type_named};
 use crate::type_exprs::{method_argument, type_argument};
 use crate::world::{TypeLink, World};
 use il_base::{AsmId, Boxed, NoMemory, Seq, Sig};
@@ -156,9 +156,9 @@ fn modified(
     token: u32,
     s: &Boxed<Sig>,
 ) -> Result<Known<TypeExpr>, NoMemory>
-    ensures { IfOk result (λ e. e ≡ modified required (definition_named (names_by at.now.recs.now at.now.links.now at.now.asm.0) token) (expr_by at.now.recs.now at.now.links.now at.now.asm.0 at.now.targs.now at.now.margs.now s.now)) }
+    ensures { IfOk result (λ e. e ≡ modified required (modifier_named (names_by at.now.recs.now at.now.links.now at.now.asm.0) token) (expr_by at.now.recs.now at.now.links.now at.now.asm.0 at.now.targs.now at.now.margs.now s.now)) }
 {
-    let by = match definition_named(at.recs, at.links, at.asm, token) {
+    let by = match modifier_named(at.recs, at.links, at.asm, token) {
         Err(error) => return Err(error),
         Ok(Known::Bad(why)) => return Ok(Known::Bad(why)),
         Ok(Known::Good(by)) => by,

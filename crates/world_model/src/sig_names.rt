@@ -1,11 +1,11 @@
 //! The types and definitions that tokens of an assembly name in its signatures.
 
 ghost use Rattle.std.specs.Prelude.{◌≡◌, IfOk, MatchResult};
-ghost use Rattle.world_model.specs.Worlds.{type_link_at, prim_type, named_in, definition_of, definition_named, names_by};
+ghost use Rattle.world_model.specs.Worlds.{type_link_at, prim_type, named_in, definition_of, definition_named, modifier_named, names_by};
 
 use crate::expr::TypeExpr;
 use crate::known::{BadKind, Known};
-use crate::lookup::type_link_at;
+use crate::lookup::{added_link_at, type_link_at};
 use crate::prims::prim_type;
 use crate::record::AsmRec;
 use crate::world::TypeLink;
@@ -65,5 +65,21 @@ pub(crate) fn definition_named(
     match type_named(recs, links, a, token) {
         Ok(named) => definition_of(recs, named),
         Err(why) => Ok(Known::Bad(why)),
+    }
+}
+
+/// The definition that a modifier's token names, or why it names none (II.7.1.1).
+#[tactic(auto, unfolding(crate::specs::Worlds::modifier_named))]
+pub(crate) fn modifier_named(
+    recs: &[AsmRec],
+    links: &[TypeLink],
+    a: AsmId,
+    token: u32,
+) -> Result<Known<TypeId>, NoMemory>
+    ensures { IfOk result (λ t. t ≡ modifier_named (names_by recs.now links.now a.0) token) }
+{
+    match added_link_at(recs, links, a, token) {
+        Some(id) => Ok(Known::Good(id)),
+        None => definition_named(recs, links, a, token),
     }
 }

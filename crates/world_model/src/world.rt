@@ -1,7 +1,7 @@
 use crate::expr::{FieldUse, MethodUse, TypeExpr};
 use crate::known::Known;
 use crate::record::AsmRec;
-use il_base::{AsmId, Item, Seq};
+use il_base::{AsmId, Item, Seq, TypeId};
 
 /// The assembly and row of an item.
 #[derive(Clone, Copy, Debug, PartialEq, Eq)]
@@ -17,6 +17,8 @@ pub struct TypeLink {
     pub asm: AsmId,
     pub token: u32,
     pub to: Known<TypeExpr>,
+    /// The type of the core library that a modifier alone finds under this token, where `to` names none.
+    pub added: Option<TypeId>,
 }
 
 /// What a method token of an assembly names.
