@@ -7,20 +7,27 @@ use Rattle.il_base.specs.declared.sig.Sig.TheOpen.{Sig-F}
 use Rattle.il_base.specs.declared.sig.MethodSig.{MethodSig}
 use Rattle.world_model.specs.declared.known.Known.{Known}
 use Rattle.world_model.specs.declared.expr.TypeExpr.{TypeExpr}
-use Rattle.world_model.specs.Worlds.{Names, known_map, known_then, all_known, named_in, definition_of, definition_named, instance_of, modified, sig_layer, sig_expr}
+use Rattle.world_model.specs.Worlds.{Names, known_map, known_then, all_known, named_in, definition_of, definition_named, found_or_named, modifier_named, instance_of, modified, sig_layer, sig_expr}
 use Rattle.link_rules.specs.declared.member_type.MethodType.{MethodType}
 use Rattle.link_rules.specs.Signatures.{method_type, method_type_of}
 
--- they name the same types, and have the same primitives' definitions
+-- they name the same types, have the same primitives' definitions, and the same types for modifiers alone
 pub record SameNames (m n : Names) : Type 0 where
   pub types : (token : ℕ) → named_in m.types token ≡ named_in n.types token
   pub core : m.core ≡ n.core
+  pub added : (token : ℕ) → m.added token ≡ n.added token
 
 same_definition : (m n : Names) → SameNames m n → (token : ℕ) → definition_named m token ≡ definition_named n token
 unfolding definition_named
 same_definition m n same token =
     ap (λ (f : ℕ → Option TypeId). known_then (definition_of f) (named_in m.types token)) same.core
     ∙ ap (known_then (definition_of n.core)) (same.types token)
+
+same_modifier : (m n : Names) → SameNames m n → (token : ℕ) → modifier_named m token ≡ modifier_named n token
+unfolding modifier_named
+same_modifier m n same token =
+    ap (λ (t : Option TypeId). found_or_named t (definition_named m token)) (same.added token)
+    ∙ ap (found_or_named (n.added token)) (same_definition m n same token)
 
 same_layer : (m n : Names) → SameNames m n → (x : Sig-F (Known TypeExpr)) → sig_layer m x ≡ sig_layer n x
 same_layer m n same (Sig-F.Prim p) = refl
@@ -30,7 +37,7 @@ same_layer m n same (Sig-F.ByRef x) = refl
 same_layer m n same (Sig-F.Inst value token args) = ap (λ (t : Known TypeId). instance_of t (all_known args)) (same_definition m n same token)
 same_layer m n same (Sig-F.Var p) = refl
 same_layer m n same (Sig-F.MVar p) = refl
-same_layer m n same (Sig-F.Mod required token x) = ap (λ (t : Known TypeId). modified required t x) (same_definition m n same token)
+same_layer m n same (Sig-F.Mod required token x) = ap (λ (t : Known TypeId). modified required t x) (same_modifier m n same token)
 same_layer m n same (Sig-F.Pinned x) = refl
 
 pub same_sig_expr : (m n : Names) → SameNames m n → sig_expr m ≡ sig_expr n

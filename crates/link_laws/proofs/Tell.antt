@@ -12,8 +12,10 @@ use Rattle.world_model.specs.declared.types.TypeSpecRow.{TypeSpecRow}
 use Rattle.world_model.specs.declared.record.AsmRec.{AsmRec}
 use Rattle.world_model.specs.declared.world.TypeLink.{TypeLink}
 use Rattle.world_model.specs.Tokens.{table_of, row_index, index_in}
-use Rattle.world_model.specs.Worlds.{known_or, row_below, behind, rows_before, type_rows, type_row, link_place, type_link_at, named_in, names_by}
-use Rattle.link_rules.specs.Types.{at_row, ref_type, ref_at, definition_at}
+use Rattle.world_model.specs.Worlds.{known_or, row_below, behind, rows_before, type_rows, type_row, link_place, type_link_at, added_link_at, type_id, named_in, names_by}
+use Rattle.il_base.specs.declared.ids.TypeId.{TypeId}
+use Rattle.link_rules.specs.declared.row_at.RowAt.{RowAt}
+use Rattle.link_rules.specs.Types.{at_row, ref_type, ref_at, listed_at, added_at, ref_definition, added_type, definition_at, added_by}
 use Rattle.link_rules.specs.Signatures.{known_expr, named_type, names_at, spec_type_at, token_type}
 use Rattle.link_rules.specs.Linked.{types_of}
 use Rattle.link_rules.specs.Laws.{AreTypeLinks, LinksTell}
@@ -95,14 +97,22 @@ none_at all a rec (suc n) k e = rw e refl
 no_ref : (all : List AsmRec) (a : ℕ) (rec : AsmRec) (k : ℕ) → length rec.type_ref ≤ k → ref_at all a rec k ≡ None
 no_ref all a rec k ge = none_at all a rec (length rec.type_ref) k (slice_get_past rec.type_ref k ge)
 
+no_definition : (all : List AsmRec) (a : ℕ) (rec : AsmRec) (k : ℕ) → length rec.type_ref ≤ k → ref_definition all a rec k ≡ None
+unfolding ref_definition
+no_definition all a rec k ge = ap (option_and_then (listed_at all)) (no_ref all a rec k ge)
+
+no_added : (all : List AsmRec) (a : ℕ) (rec : AsmRec) (k : ℕ) → length rec.type_ref ≤ k → added_type all a rec k ≡ None
+unfolding added_type
+no_added all a rec k ge = ap (λ (o : Option RowAt). option_map (λ (at : RowAt). type_id all at.asm at.row) (option_and_then (added_at all) o)) (no_ref all a rec k ge)
+
 told_ref : (all : List AsmRec) (links : List TypeLink) (before a : ℕ) (rec : AsmRec) (n : ℕ) → Stands all links before a rec n → length rec.type_ref ≤ n → (k : ℕ) (below : Bool) → nat_lt k (length rec.type_ref) ≡ below
-    → told links before (if below then Some k else None) ≡ known_expr all (ref_at all a rec k)
+    → told links before (if below then Some k else None) ≡ known_expr all (ref_definition all a rec k)
 unfolding told
 told_ref all links before a rec n stands enough k true is =
     let lt : k < length rec.type_ref = search rules in
     let e : slice_get links (before + k) ≡ Some (ref_link all a rec k) = stands.at k (omega arith) ∙ ref_at_place all a rec k lt in
     rw e refl
-told_ref all links before a rec n stands enough k false is = let ge : length rec.type_ref ≤ k = search rules in ap (known_expr all) (sym (no_ref all a rec k ge))
+told_ref all links before a rec n stands enough k false is = let ge : length rec.type_ref ≤ k = search rules in ap (known_expr all) (sym (no_definition all a rec k ge))
 
 told_def : (all : List AsmRec) (links : List TypeLink) (before a : ℕ) (rec : AsmRec) (n : ℕ) → Stands all links before a rec n → length rec.type_ref + length rec.type_def ≤ n → (k : ℕ) (below : Bool) → nat_lt k (length rec.type_def) ≡ below
     → told links before (behind (length rec.type_ref) (if below then Some k else None)) ≡ known_expr all (option_map (at_row a) (if below then Some k else None))
@@ -134,7 +144,7 @@ told_spec all links before a rec n stands enough k false is =
 -- ---- by the token's table
 
 told_refs : (all : List AsmRec) (links : List TypeLink) (before a : ℕ) (rec : AsmRec) (n : ℕ) → Stands all links before a rec n → length rec.type_ref ≤ n → (i : Option ℕ)
-    → told links before (row_below (length rec.type_ref) i) ≡ known_expr all (option_and_then (ref_at all a rec) i)
+    → told links before (row_below (length rec.type_ref) i) ≡ known_expr all (option_and_then (ref_definition all a rec) i)
 unfolding told
 told_refs all links before a rec n stands enough None = refl
 told_refs all links before a rec n stands enough (Some k) = told_ref all links before a rec n stands enough k (nat_lt k (length rec.type_ref)) refl
@@ -160,7 +170,7 @@ by_table : (all : List AsmRec) (links : List TypeLink) (before a : ℕ) (rec : A
     ≡ (if spec then spec_type_at all a rec (option_and_then (slice_get rec.type_spec) (if spec then r else None))
     else known_expr all
     (if two then option_map (at_row a) (row_below (length rec.type_def) (if two then r else None))
-    else option_and_then (ref_at all a rec) (if one then r else None)))
+    else option_and_then (ref_definition all a rec) (if one then r else None)))
 unfolding told
 by_table all links before a rec n stands enough r true true spec whole d e f = let g : true ≡ false = d refl in cc
 by_table all links before a rec n stands enough r true false true whole d e f = let g : true ≡ false = e refl in cc
@@ -192,12 +202,50 @@ same_if : (spec : Bool) (x y z : Known TypeExpr) → (spec ≡ false → x ≡ (
 same_if true x y z e = refl
 same_if false x y z e = e refl
 
+-- ---- what modifiers alone find
+
+added_of : TypeLink → Option TypeId
+added_of l = l.added
+
+found_added : (all : List AsmRec) (links : List TypeLink) (before a : ℕ) (rec : AsmRec) (n : ℕ) → Stands all links before a rec n → length rec.type_ref ≤ n → (k : ℕ) (below : Bool) → nat_lt k (length rec.type_ref) ≡ below
+    → option_and_then added_of (option_and_then (slice_get links) (behind before (if below then Some k else None))) ≡ added_type all a rec k
+unfolding added_of
+found_added all links before a rec n stands enough k true is =
+    let lt : k < length rec.type_ref = search rules in
+    let e : slice_get links (before + k) ≡ Some (ref_link all a rec k) = stands.at k (omega arith) ∙ ref_at_place all a rec k lt in
+    rw e refl
+found_added all links before a rec n stands enough k false is = let ge : length rec.type_ref ≤ k = search rules in sym (no_added all a rec k ge)
+
+found_by : (all : List AsmRec) (links : List TypeLink) (before a : ℕ) (rec : AsmRec) (n : ℕ) → Stands all links before a rec n → length rec.type_ref ≤ n → (i : Option ℕ)
+    → option_and_then added_of (option_and_then (slice_get links) (behind before (row_below (length rec.type_ref) i))) ≡ option_and_then (added_type all a rec) i
+found_by all links before a rec n stands enough None = refl
+found_by all links before a rec n stands enough (Some k) = found_added all links before a rec n stands enough k (nat_lt k (length rec.type_ref)) refl
+
+by_ref : (all : List AsmRec) (links : List TypeLink) (before a : ℕ) (rec : AsmRec) (n : ℕ) → Stands all links before a rec n → length rec.type_ref ≤ n → (r : Option ℕ) (other : Option ℕ) (one : Bool)
+    → (if one then option_and_then added_of (option_and_then (slice_get links) (behind before (if one then row_below (length rec.type_ref) (if one then r else None) else other))) else None)
+    ≡ option_and_then (added_type all a rec) (if one then r else None)
+by_ref all links before a rec n stands enough r other true = found_by all links before a rec n stands enough r
+by_ref all links before a rec n stands enough r other false = refl
+
+added_told : (all : List AsmRec) (links : List TypeLink) (a : ℕ) (rec : AsmRec) → slice_get all a ≡ Some rec → (n : ℕ) → Stands all links (rows_before type_rows all a) a rec n
+    → length rec.type_ref ≤ n → (token : ℕ) → added_link_at all links a token ≡ added_by all a rec token
+unfolding added_link_at link_place type_row added_by added_of
+added_told all links a rec is n stands enough token =
+    rw is (by_ref all links (rows_before type_rows all a) a rec n stands enough (row_index token)
+    (if table_of token == 0x02 then behind (length rec.type_ref) (row_below (length rec.type_def) (index_in 0x02 token))
+    else behind (length rec.type_ref + length rec.type_def) (row_below (length rec.type_spec) (index_in 0x1b token)))
+    (table_of token == 0x01))
+
 -- The links of TypeRef and TypeDef rows are enough for what signatures name.
 pub same_names : (all : List AsmRec) (links : List TypeLink) (a : ℕ) (rec : AsmRec) → slice_get all a ≡ Some rec
     → ((k : ℕ) → k < length rec.type_ref + length rec.type_def → slice_get links (rows_before type_rows all a + k) ≡ slice_get (types_of all a rec) k)
     → SameNames (names_by all links a) (names_at all a rec)
 unfolding named_in token_type
-same_names all links a rec is at = record { types = same_type; core = refl }
+same_names all links a rec is at = record {
+  types = same_type;
+  core = refl;
+  added = added_told all links a rec is (length rec.type_ref + length rec.type_def) (record { at = at }) (omega arith);
+}
   where
     never : (spec : Bool) → spec ≡ false → spec ≡ true → type_rows rec ≤ length rec.type_ref + length rec.type_def
     never spec e f = let g : true ≡ false = cc in absurd (false≢true (sym g))

@@ -1,23 +1,24 @@
 -- The links of one assembly's type tokens, table by table.
-use Rattle.std.specs.Prelude.{ℕ, List, length, map}
+use Rattle.std.specs.Prelude.{ℕ, List, length, map, None}
 use Rattle.std.specs.List.{range_with_len}
 use Rattle.world_model.specs.declared.known.Known.TheVariants.{Good}
 use Rattle.world_model.specs.declared.types.TypeSpecRow.{TypeSpecRow}
 use Rattle.world_model.specs.declared.record.AsmRec.{AsmRec}
 use Rattle.world_model.specs.declared.world.TypeLink.{TypeLink}
-use Rattle.link_rules.specs.Types.{at_row, ref_at}
+use Rattle.il_base.specs.declared.table.TheConstants.{TYPE_REF, TYPE_DEF, TYPE_SPEC}
+use Rattle.link_rules.specs.Types.{at_row, ref_definition, added_type}
 use Rattle.link_rules.specs.Signatures.{definition_expr, known_expr, spec_type}
 use Rattle.link_rules.specs.Faults.{numbered}
 use Rattle.link_rules.specs.Linked.{type_link}
 
 abbrev pub ref_link : List AsmRec → ℕ → AsmRec → ℕ → TypeLink
-ref_link all a rec k = type_link a 0x01 k (known_expr all (ref_at all a rec k))
+ref_link all a rec k = type_link a TYPE_REF k (known_expr all (ref_definition all a rec k)) (added_type all a rec k)
 
 abbrev pub def_link : List AsmRec → ℕ → ℕ → TypeLink
-def_link all a k = type_link a 0x02 k (Good (definition_expr all (at_row a k)))
+def_link all a k = type_link a TYPE_DEF k (Good (definition_expr all (at_row a k))) None
 
 abbrev pub spec_link : List AsmRec → ℕ → AsmRec → ℕ → TypeSpecRow → TypeLink
-spec_link all a rec k row = type_link a 0x1b k (spec_type all a rec row)
+spec_link all a rec k row = type_link a TYPE_SPEC k (spec_type all a rec row) None
 
 abbrev pub refs_of : List AsmRec → ℕ → AsmRec → List TypeLink
 refs_of all a rec = map (ref_link all a rec) (range_with_len 0 (length rec.type_ref))

@@ -2,6 +2,7 @@
 use Rattle.std.specs.Prelude.{ℕ, zero, suc, ◌+◌, ◌-◌, List, [], ◌∷◌, length, codes, Option, Some, None, slice_get, position, find, nat_lt, ◌==◌, Bool, if◌then◌else◌}
 use Rattle.std.specs.Option.{option_map, option_and_then}
 use Rattle.il_base.specs.declared.ids.TypeId.{TypeId}
+use Rattle.il_base.specs.declared.table.TheConstants.{TYPE_REF}
 use Rattle.il_base.specs.declared.sig.Sig.{Sig, fold-Sig}
 use Rattle.il_base.specs.declared.sig.Sig.TheOpen.{Sig-F}
 use Rattle.world_model.specs.declared.known.Known.{Known}
@@ -105,9 +106,12 @@ link_place count row recs a token =
 unfoldable pub type_link_at : List AsmRec → List TypeLink → ℕ → ℕ → Option (Known TypeExpr)
 type_link_at recs links a token = option_map (λ (l : TypeLink). l.to) (option_and_then (slice_get links) (link_place type_rows type_row recs a token))
 
--- the type that a modifier alone finds under a token, by these links
+-- the type that a modifier alone finds under a TypeRef token, by these links
 unfoldable pub added_link_at : List AsmRec → List TypeLink → ℕ → ℕ → Option TypeId
-added_link_at recs links a token = option_and_then (λ (l : TypeLink). l.added) (option_and_then (slice_get links) (link_place type_rows type_row recs a token))
+added_link_at recs links a token =
+    if table_of token == TYPE_REF
+    then option_and_then (λ (l : TypeLink). l.added) (option_and_then (slice_get links) (link_place type_rows type_row recs a token))
+    else None
 
 abbrev pub type_at : World → ℕ → ℕ → Option (Known TypeExpr)
 type_at w a token = type_link_at w.recs w.types a token

@@ -9,7 +9,7 @@ use crate::known::Known;
 use crate::links::{LinkKind, link_at};
 use crate::record::AsmRec;
 use crate::world::{TypeLink, World};
-use il_base::{AsmId, TypeId};
+use il_base::{AsmId, TypeId, table};
 
 /// What a TypeRef, TypeDef or TypeSpec token of an assembly names by these links, which are those of these assemblies in
 /// order, and of each assembly those of its TypeRef, TypeDef and TypeSpec rows. None where there is no such row, no such
@@ -34,6 +34,9 @@ pub fn type_link_at<'a>(
 pub fn added_link_at(recs: &[AsmRec], links: &[TypeLink], a: AsmId, token: u32) -> Option<TypeId>
     ensures { result ≡ added_link_at recs.now links.now a.0 token }
 {
+    if token / 0x100_0000 != table::TYPE_REF {
+        return None;
+    }
     match link_at(LinkKind::Type, recs, links, a, token) {
         None => None,
         Some(link) => link.added,
