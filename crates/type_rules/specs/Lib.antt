@@ -3,3 +3,4 @@ pub mod Slots
 pub mod Dispatch
 pub mod Texts
 pub mod Searches
+pub mod Initializers
