@@ -5,8 +5,8 @@
     times.py LOG                   prints a table of what that run checked: seconds for proofs, tests and edits
 
 `rt ci` prints no times, so --run looks each half second which of its checks run, and adds a line to LOG for each one that
-ended. A time is that of the clock, with the other checks beside it; that of the edits is a sum over all of a crate. What an
-earlier run kept takes no time, and isn't in the table.
+ended. A time is that of the clock, with the other checks beside it. That of the edits is a sum over all of a crate and the
+check that they begin with. What an earlier run kept takes no time, and isn't in the table.
 """
 import os
 import re
