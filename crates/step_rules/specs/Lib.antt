@@ -1,0 +1,11 @@
+pub mod Members
+pub mod Queries
+pub mod State
+pub mod Words
+pub mod Closing
+pub mod Integers
+pub mod Stores
+pub mod Places
+pub mod Objects
+pub mod Raising
+pub mod Frames
