@@ -9,3 +9,17 @@ pub mod Places
 pub mod Objects
 pub mod Raising
 pub mod Frames
+pub mod Slots
+pub mod Texts
+pub mod Comparisons
+pub mod Branches
+pub mod Numbers
+pub mod Throws
+pub mod Dispatch
+pub mod CoreWords
+pub mod CoreObjects
+pub mod CoreTexts
+pub mod Input
+pub mod CoreConsole
+pub mod CoreArrays
+pub mod Core

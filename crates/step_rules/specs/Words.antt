@@ -60,7 +60,7 @@ taken n stack = if nat_le n (length stack) then Some (reverse (take n stack), dr
 abbrev pub has_flag : ℕ → ℕ → Bool
 has_flag flags bit = flags / bit % 2 == 1
 
--- what a comparison gives (III.4.1)
+-- what a comparison gives (III.3.21)
 abbrev pub truth_value : Bool → Value
 truth_value true = I4 (pos 1)
 truth_value false = I4 (pos 0)
