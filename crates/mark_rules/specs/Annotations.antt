@@ -34,8 +34,9 @@ use Rattle.link_rules.specs.Signatures.{names_at}
 use Rattle.link_rules.specs.Members.{owns_method, type_home}
 use Rattle.link_rules.specs.Cycles.{listed}
 use Rattle.type_rules.specs.Slots.{type_of_row}
+use Rattle.type_rules.specs.Rows.{each_row, rec_at, run_places}
 use Rattle.mark_rules.specs.declared.member_kinds.TheConstants as kind
-use Rattle.mark_rules.specs.Places.{rec_at, row_of, each_row, run_places}
+use Rattle.mark_rules.specs.Places.{row_of}
 use Rattle.mark_rules.specs.Members.{has_method_row}
 use Rattle.mark_rules.specs.Attributes.{head_of, value_of, attributes_of, is_system_type_row}
 

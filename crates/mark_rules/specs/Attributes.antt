@@ -55,11 +55,11 @@ use Rattle.link_rules.specs.Cycles.{listed, home_of, is_static_field}
 use Rattle.type_rules.specs.Slots.{nearest}
 use Rattle.type_rules.specs.Texts.{full_name}
 use Rattle.type_rules.specs.Searches.{find_type}
+use Rattle.type_rules.specs.Rows.{each_row, field_row_at, fields_of_type, is_enum, rec_at, run_places, type_row_at}
 use Rattle.mark_rules.specs.Facts.{Fact}
 use Rattle.mark_rules.specs.Facts.Fact.{marked}
-use Rattle.mark_rules.specs.Places.{rec_at, type_row_at, row_of, is_core, each_row, run_places, fields_of_type, marks_method, field_item}
+use Rattle.mark_rules.specs.Places.{row_of, is_core, marks_method, field_item}
 use Rattle.mark_rules.specs.Naming.{mark_types, of_expr, of_method_use, method_named}
-use Rattle.mark_rules.specs.Types.{is_enum, field_row_at}
 use Rattle.mark_rules.specs.Members.{properties_of_type}
 
 -- ---- the tokens whose attribute rows are an item's

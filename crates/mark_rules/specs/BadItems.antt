@@ -29,16 +29,15 @@ use Rattle.link_rules.specs.Types.{at_row}
 use Rattle.link_rules.specs.Members.{generic_method, is_interface_row}
 use Rattle.link_rules.specs.Cycles.{listed}
 use Rattle.type_rules.specs.Slots.{is_static, type_of_method}
+use Rattle.type_rules.specs.Rows.{each_row, fields_of_type, is_instance_field, is_module_type, methods_of_type, owner_of_field, rec_at, type_row_at}
 use Rattle.mark_rules.specs.Facts.{Fact}
 use Rattle.mark_rules.specs.Facts.Fact.{marked}
-use Rattle.mark_rules.specs.Places.{rec_at, row_of, is_core, each_row, type_row_at, type_item, methods_of_type, fields_of_type}
+use Rattle.mark_rules.specs.Places.{row_of, is_core, type_item}
 use Rattle.mark_rules.specs.Naming.{Named, Part, method_named}
-use Rattle.mark_rules.specs.Types.{is_instance_field, owner_of_field}
 use Rattle.mark_rules.specs.Calls.{is_abstract_method}
 use Rattle.mark_rules.specs.Members.{has_method_row}
 use Rattle.mark_rules.specs.Attributes.{has_parent, tokens_in, value_of, is_input_method}
 use Rattle.mark_rules.specs.Annotations.{is_called, dynamically_accessed, requires_unreferenced, dynamic_dependency, first_number}
-use Rattle.mark_rules.specs.Roots.{is_module_type}
 use Rattle.mark_rules.specs.Shown.{parts_of_item}
 
 -- a fault of an item, and its place

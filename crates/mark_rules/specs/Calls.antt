@@ -25,13 +25,14 @@ use Rattle.link_rules.specs.Cycles.{listed, same_row, home_of, is_static_field}
 use Rattle.type_rules.specs.Slots.{is_virtual, is_new_slot, method_row_at, type_of_method, type_of_row, open_type, inherited, slot_of, method_home}
 use Rattle.type_rules.specs.Dispatch.{Choice, good_use, class_dispatch, implied, from_choice, in_interface}
 use Rattle.type_rules.specs.Initializers.{initializer}
+use Rattle.type_rules.specs.Rows.{each_row, field_row_at, owner_of_field, rec_at, type_row_at}
 use Rattle.mark_rules.specs.Facts.{Fact}
 use Rattle.mark_rules.specs.Facts.Fact.{instantiated}
-use Rattle.mark_rules.specs.Places.{rec_at, type_row_at, each_row, marks_type, marks_method}
+use Rattle.mark_rules.specs.Places.{marks_type, marks_method}
 use Rattle.mark_rules.specs.Naming.{Part, of_known, of_parts, of_method_use, method_sig_parts, method_named}
 use Rattle.il_base.specs.declared.body.Body.{Body}
 use Rattle.mark_rules.specs.Bodies.{is_read, are_locals_read, body_parts, body_of}
-use Rattle.mark_rules.specs.Types.{field_row_at, owner_of_field, impl_row_at, impl_type, constraints_of}
+use Rattle.mark_rules.specs.Types.{impl_row_at, impl_type, constraints_of}
 
 -- ---- the method itself
 

@@ -25,10 +25,10 @@ use Rattle.link_rules.specs.Cycles.{listed}
 use Rattle.type_rules.specs.Slots.{method_row_at, type_of_method, type_of_row}
 use Rattle.type_rules.specs.Texts.{definition_text, joined}
 use Rattle.type_rules.specs.Searches.{find_type, type_along_at}
+use Rattle.type_rules.specs.Rows.{fields_of_type, methods_of_type, owner_of_field, rec_at}
 use Rattle.mark_rules.specs.Facts.{Fact}
 use Rattle.mark_rules.specs.Facts.Fact.{marked, instantiated}
-use Rattle.mark_rules.specs.Places.{rec_at, row_of, methods_of_type, fields_of_type, marks_type, marks_method, marks_field, prop_item, event_item}
-use Rattle.mark_rules.specs.Types.{owner_of_field}
+use Rattle.mark_rules.specs.Places.{row_of, marks_type, marks_method, marks_field, prop_item, event_item}
 use Rattle.mark_rules.specs.Members.{members_by, constructors_by, is_constructor, has_method_row, properties_of_type, events_of_type}
 use Rattle.mark_rules.specs.Attributes.{is_property_called, is_field_named}
 use Rattle.mark_rules.specs.Annotations.{Sought, own_type, type_argument, type_text, Dependency, dependencies}

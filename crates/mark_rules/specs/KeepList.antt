@@ -17,8 +17,8 @@ use Rattle.link_rules.specs.Cycles.{listed}
 use Rattle.link_rules.specs.Faults.{own_name}
 use Rattle.type_rules.specs.Slots.{type_of_method}
 use Rattle.type_rules.specs.Texts.{name_at}
-use Rattle.mark_rules.specs.Places.{each_row, type_item, method_item, field_item, prop_item, event_item}
-use Rattle.mark_rules.specs.Types.{owner_of_field}
+use Rattle.type_rules.specs.Rows.{each_row, owner_of_field}
+use Rattle.mark_rules.specs.Places.{type_item, method_item, field_item, prop_item, event_item}
 use Rattle.mark_rules.specs.Properties.{property_owner, event_owner}
 
 -- a lower-case hexadecimal digit

@@ -24,9 +24,9 @@ use Rattle.link_rules.specs.Members.{with_bases}
 use Rattle.link_rules.specs.Cycles.{listed, same_row, home_of}
 use Rattle.type_rules.specs.Slots.{is_static, method_row_at, open_type}
 use Rattle.type_rules.specs.Initializers.{are_none}
+use Rattle.type_rules.specs.Rows.{each_row, field_row_at, fields_of_type, methods_of_type, rec_at, run_places, type_row_at}
 use Rattle.mark_rules.specs.declared.member_kinds.TheConstants as kind
-use Rattle.mark_rules.specs.Places.{rec_at, type_row_at, each_row, run_places, methods_of_type, fields_of_type, type_item, method_item, field_item, prop_item, event_item, impl_item}
-use Rattle.mark_rules.specs.Types.{field_row_at}
+use Rattle.mark_rules.specs.Places.{type_item, method_item, field_item, prop_item, event_item, impl_item}
 use Rattle.mark_rules.specs.Properties.{property_accessors, event_accessors}
 
 -- whether flags name a kind

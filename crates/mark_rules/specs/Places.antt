@@ -1,15 +1,13 @@
 -- Items by their rows, and rows by their items. Assemblies and rows are counted from 0; the core library is the last assembly.
-use Rattle.std.specs.Prelude.{ℕ, suc, ◌+◌, ◌-◌, List, [], ◌∷◌, ◌++◌, length, map, Option, Some, None, slice_get, ◌==◌, Bool, true, if◌then◌else◌}
-use Rattle.std.specs.List.{list_any, flat_map, range_with_len}
-use Rattle.std.specs.Option.{option_and_then}
+use Rattle.std.specs.Prelude.{ℕ, suc, ◌+◌, List, length, Option, Some, None, slice_get, ◌==◌, Bool, true, if◌then◌else◌}
+use Rattle.std.specs.List.{list_any}
 use Rattle.il_base.specs.declared.ids.Item.{Item}
 use Rattle.il_base.specs.declared.ids.Item.TheVariants as item
-use Rattle.world_model.specs.declared.types.TypeDefRow.{TypeDefRow}
 use Rattle.world_model.specs.declared.record.AsmRec.{AsmRec}
 use Rattle.world_model.specs.Worlds.{rows_before, type_id}
 use Rattle.link_rules.specs.declared.row_at.RowAt.{RowAt}
 use Rattle.link_rules.specs.Types.{at_row}
-use Rattle.link_rules.specs.Members.{home_from, type_home, methods_in, fields_in, run_of}
+use Rattle.link_rules.specs.Members.{home_from, type_home, methods_in, fields_in}
 use Rattle.link_rules.specs.Cycles.{listed}
 use Rattle.mark_rules.specs.Facts.{Fact}
 use Rattle.mark_rules.specs.Facts.Fact.{marked}
@@ -64,33 +62,6 @@ unfoldable pub is_core : List AsmRec → Item → Bool
 is_core recs i = list_any (λ (at : RowAt). suc at.asm == length recs) (listed (row_of recs i))
 
 -- ---- rows of an assembly and of a type
-
-abbrev pub rec_at : List AsmRec → RowAt → Option AsmRec
-rec_at recs at = slice_get recs at.asm
-
-abbrev pub type_row_at : List AsmRec → RowAt → Option TypeDefRow
-type_row_at recs at = option_and_then (λ (rec : AsmRec). slice_get rec.type_def at.row) (rec_at recs at)
-
--- the places of a run, which begins and ends at rows from 1
-abbrev pub run_places : {A : Type 0} → ℕ → ℕ → List A → List ℕ
-run_places first end rows = range_with_len (first - 1) (length (run_of first end rows))
-
--- what each row of a list gives, with the number of the row from 0
-abbrev pub each_from : {A B : Type 0} → (ℕ → A → List B) → ℕ → List A → List B
-each_from f k [] = []
-each_from f k (x ∷ xs) = f k x ++ each_from f (suc k) xs
-
-abbrev pub each_row : {A B : Type 0} → (ℕ → A → List B) → List A → List B
-each_row f rows = each_from f 0 rows
-
--- the methods and the fields of a type's runs
-unfoldable pub methods_of_type : List AsmRec → RowAt → List RowAt
-methods_of_type recs at =
-    flat_map (λ (rec : AsmRec). flat_map (λ (t : TypeDefRow). map (at_row at.asm) (run_places t.method_list_first t.method_list_end rec.method_def)) (listed (slice_get rec.type_def at.row))) (listed (rec_at recs at))
-
-unfoldable pub fields_of_type : List AsmRec → RowAt → List RowAt
-fields_of_type recs at =
-    flat_map (λ (rec : AsmRec). flat_map (λ (t : TypeDefRow). map (at_row at.asm) (run_places t.field_list_first t.field_list_end rec.field)) (listed (slice_get rec.type_def at.row))) (listed (rec_at recs at))
 
 -- ---- facts of rows
 

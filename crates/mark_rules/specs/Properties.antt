@@ -15,9 +15,10 @@ use Rattle.link_rules.specs.Types.{at_row}
 use Rattle.link_rules.specs.Members.{is_in_run}
 use Rattle.link_rules.specs.Cycles.{listed}
 use Rattle.type_rules.specs.Searches.{has_owner}
+use Rattle.type_rules.specs.Rows.{rec_at}
 use Rattle.mark_rules.specs.Facts.{Fact}
 use Rattle.mark_rules.specs.Facts.Fact.{marked}
-use Rattle.mark_rules.specs.Places.{rec_at, marks_type, marks_method, prop_item, event_item}
+use Rattle.mark_rules.specs.Places.{marks_type, marks_method, prop_item, event_item}
 use Rattle.mark_rules.specs.Naming.{Part, of_parts, method_sig_parts, type_token_part}
 
 -- ---- owners

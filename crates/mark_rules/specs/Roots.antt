@@ -22,9 +22,10 @@ use Rattle.link_rules.specs.Members.{type_home}
 use Rattle.link_rules.specs.Cycles.{listed}
 use Rattle.type_rules.specs.Slots.{method_row_at, type_of_row}
 use Rattle.type_rules.specs.Texts.{full_name, joined}
+use Rattle.type_rules.specs.Rows.{each_row, fields_of_type, is_module_type, methods_of_type, rec_at}
 use Rattle.mark_rules.specs.Facts.{Fact}
 use Rattle.mark_rules.specs.Facts.Fact.{marked, instantiated}
-use Rattle.mark_rules.specs.Places.{rec_at, each_row, methods_of_type, fields_of_type, marks_type, marks_method, marks_field}
+use Rattle.mark_rules.specs.Places.{marks_type, marks_method, marks_field}
 use Rattle.mark_rules.specs.Properties.{whole_property, whole_event}
 use Rattle.mark_rules.specs.Members.{is_constructor, has_method_row, properties_of_type, events_of_type}
 use Rattle.mark_rules.specs.Attributes.{is_property_called}
@@ -66,10 +67,6 @@ pub record Root : Type 0 where
 -- the first input of a simple name; the core library is none
 unfoldable pub input_named : List AsmRec → List ℕ → Option ℕ
 input_named recs name = option_and_then (λ a. if suc a == length recs then None else Some a) (position (is_called name) recs)
-
--- `<Module>`: the first row of TypeDef, where it has that name and no namespace (II.22.37)
-abbrev pub is_module_type : ℕ → TypeDefRow → Bool
-is_module_type k t = k == 0 && same_name t.name (codes "<Module>") && same_name t.namespace []
 
 -- a type's full name, with `/` before the name of a nested type, at most n levels
 abbrev pub slashed_by : (ℕ → List ℕ) → Option ℕ → List ℕ → List ℕ

@@ -24,9 +24,10 @@ use Rattle.link_rules.specs.Types.{encloser}
 use Rattle.link_rules.specs.Signatures.{token_type}
 use Rattle.link_rules.specs.Members.{type_home}
 use Rattle.link_rules.specs.Cycles.{listed}
+use Rattle.type_rules.specs.Rows.{rec_at}
 use Rattle.mark_rules.specs.Facts.{Fact}
 use Rattle.mark_rules.specs.Facts.Fact.{shown}
-use Rattle.mark_rules.specs.Places.{rec_at, row_of}
+use Rattle.mark_rules.specs.Places.{row_of}
 use Rattle.mark_rules.specs.Naming.{Named, Part, types_in, method_named}
 use Rattle.mark_rules.specs.Naming.Named.{type, method, field}
 use Rattle.mark_rules.specs.Types.{parts_of_type, parts_of_field, parts_of_impl}

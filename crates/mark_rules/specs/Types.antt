@@ -1,6 +1,6 @@
 -- What a marked type, field or interface row needs (II.22.37, II.22.23, II.22.15).
-use Rattle.std.specs.Prelude.{ℕ, suc, List, [], ◌∷◌, ◌++◌, map, Option, slice_get, ◌==◌, ◌&&◌, Bool, not, if◌then◌else◌}
-use Rattle.std.specs.List.{list_any, flat_map, filter, position_from}
+use Rattle.std.specs.Prelude.{ℕ, suc, List, [], ◌∷◌, ◌++◌, map, Option, slice_get, ◌==◌, ◌&&◌, Bool, if◌then◌else◌}
+use Rattle.std.specs.List.{list_any, flat_map, filter}
 use Rattle.std.specs.Option.{option_and_then}
 use Rattle.il_base.specs.declared.table.TheConstants.{TYPE_DEF, FIELD, INTERFACE_IMPL, GENERIC_PARAM, GENERIC_PARAM_CONSTRAINT}
 use Rattle.world_model.specs.declared.expr.TypeExpr.{TypeExpr}
@@ -12,15 +12,15 @@ use Rattle.world_model.specs.declared.members.FieldRow.{FieldRow}
 use Rattle.world_model.specs.declared.record.AsmRec.{AsmRec}
 use Rattle.world_model.specs.Tokens.{token_of}
 use Rattle.world_model.specs.Worlds.{type_id}
-use Rattle.core_table.specs.declared.tokens.TheConstants.{ENUM}
 use Rattle.link_rules.specs.declared.row_at.RowAt.{RowAt}
 use Rattle.link_rules.specs.Types.{at_row, encloser}
 use Rattle.link_rules.specs.Signatures.{token_type}
-use Rattle.link_rules.specs.Members.{good_type, type_count, owns_field}
-use Rattle.link_rules.specs.Cycles.{listed, led_to, same_row, home_of, is_interface, interface_rows, is_value_type, extends_core, is_static_field}
+use Rattle.link_rules.specs.Members.{good_type, type_count}
+use Rattle.link_rules.specs.Cycles.{listed, led_to, same_row, home_of, is_interface, interface_rows, is_value_type}
+use Rattle.type_rules.specs.Rows.{each_row, fields_of_type, is_enum, is_instance_field, owner_of_field, rec_at}
 use Rattle.mark_rules.specs.Facts.{Fact}
 use Rattle.mark_rules.specs.Facts.Fact.{marked, instantiated}
-use Rattle.mark_rules.specs.Places.{rec_at, each_row, fields_of_type, marks_type, marks_field, impl_item}
+use Rattle.mark_rules.specs.Places.{marks_type, marks_field, impl_item}
 use Rattle.mark_rules.specs.Naming.{Part, of_expr, of_parts, sig_parts, type_token_part}
 
 -- ---- generic parameters
@@ -56,16 +56,6 @@ type_needs recs at = flat_map (encloser_of recs at) (listed (rec_at recs at)) ++
 
 -- ---- a marked value type is instantiated and marks its instance fields; a marked enum marks all its fields (II.13, II.14.3)
 
-abbrev pub field_row_at : List AsmRec → RowAt → Option FieldRow
-field_row_at recs at = option_and_then (λ (rec : AsmRec). slice_get rec.field at.row) (rec_at recs at)
-
-abbrev pub is_instance_field : List AsmRec → RowAt → Bool
-is_instance_field recs at = list_any (λ (f : FieldRow). not (is_static_field f)) (listed (field_row_at recs at))
-
--- System.Enum is its base
-abbrev pub is_enum : List AsmRec → RowAt → Bool
-is_enum recs at = extends_core recs ENUM at
-
 abbrev pub laid_fields : List AsmRec → RowAt → List RowAt
 laid_fields recs at = if is_enum recs at then fields_of_type recs at else filter (is_instance_field recs) (fields_of_type recs at)
 
@@ -74,9 +64,6 @@ layout_needs recs at =
     if is_value_type recs at then instantiated (type_id recs at.asm at.row) ∷ map (marks_field recs) (laid_fields recs at) else []
 
 -- ---- a marked field marks its owner and its type
-
-abbrev pub owner_of_field : AsmRec → ℕ → Option ℕ
-owner_of_field rec k = position_from (owns_field (suc k)) 0 rec.type_def
 
 unfoldable pub parts_of_field : List AsmRec → RowAt → List Part
 parts_of_field recs at =

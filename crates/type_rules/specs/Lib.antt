@@ -4,3 +4,4 @@ pub mod Dispatch
 pub mod Texts
 pub mod Searches
 pub mod Initializers
+pub mod Rows
