@@ -51,7 +51,7 @@ def below(crates):
 
 
 def first_sentence(name):
-    """How a crate's README begins, behind its heading."""
+    """How a crate's README begins, after its heading."""
     text = " ".join(read("crates", name, "README.md").partition("\n")[2].strip().split("\n\n")[0].split())
     return re.split(r"(?<=[a-z)`])\. ", text)[0].rstrip(".")
 
