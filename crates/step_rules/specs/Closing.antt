@@ -68,18 +68,18 @@ abbrev pub alone_if : Standing → Standing
 alone_if broken = broken
 alone_if _ = alone
 
-abbrev pub standing_layer : Queries → TypeExpr-F Standing → Standing
-standing_layer q (TypeExpr-F.Prim n) = if n == VOID then alone else whole
-standing_layer q (TypeExpr-F.Def t) = whole_if (takes (q.head t.0) 0)
-standing_layer q (TypeExpr-F.Inst t args) = whole_if (takes (q.head t.0) (length args) && list_all is_whole args)
-standing_layer q (TypeExpr-F.Array x) = whole_if (is_whole x)
-standing_layer q (TypeExpr-F.ByRef x) = alone_if x
-standing_layer q (TypeExpr-F.Var n) = broken
-standing_layer q (TypeExpr-F.MVar n) = broken
-standing_layer q (TypeExpr-F.Mod required by x) = x
+abbrev pub standing_layer : (ℕ → Option Head) → TypeExpr-F Standing → Standing
+standing_layer heads (TypeExpr-F.Prim n) = if n == VOID then alone else whole
+standing_layer heads (TypeExpr-F.Def t) = whole_if (takes (heads t.0) 0)
+standing_layer heads (TypeExpr-F.Inst t args) = whole_if (takes (heads t.0) (length args) && list_all is_whole args)
+standing_layer heads (TypeExpr-F.Array x) = whole_if (is_whole x)
+standing_layer heads (TypeExpr-F.ByRef x) = alone_if x
+standing_layer heads (TypeExpr-F.Var n) = broken
+standing_layer heads (TypeExpr-F.MVar n) = broken
+standing_layer heads (TypeExpr-F.Mod required by x) = x
 
-unfoldable pub standing : Queries → TypeExpr → Standing
-standing q = fold-TypeExpr Standing (standing_layer q)
+unfoldable pub standing : (ℕ → Option Head) → TypeExpr → Standing
+standing heads = fold-TypeExpr Standing (standing_layer heads)
 
 -- VOID without the modifiers around it
 abbrev pub is_void_in : TypeExpr-F TypeExpr → Bool
@@ -95,15 +95,18 @@ if_so false x = None
 
 -- a type with these arguments put in: a return, which can be VOID
 unfoldable pub closed_return : Queries → List TypeExpr → List TypeExpr → TypeExpr → Option TypeExpr
-closed_return q targs margs e = let c = plain (subst targs margs e) in if_so (is_sound (standing q c)) c
+closed_return q targs margs e = let c = plain (subst targs margs e) in if_so (is_sound (standing q.head c)) c
 
 -- a slot, a parameter or an operand: not VOID
 unfoldable pub closed_slot : Queries → List TypeExpr → List TypeExpr → TypeExpr → Option TypeExpr
 closed_slot q targs margs e = option_and_then (λ c. if is_void c then None else Some c) (closed_return q targs margs e)
 
 -- an element or a field: not a reference either
-unfoldable pub closed_cell : Queries → List TypeExpr → List TypeExpr → TypeExpr → Option TypeExpr
-closed_cell q targs margs e = let c = plain (subst targs margs e) in if_so (is_whole (standing q c)) c
+unfoldable pub closed_cell_by : (ℕ → Option Head) → List TypeExpr → List TypeExpr → TypeExpr → Option TypeExpr
+closed_cell_by heads targs margs e = let c = plain (subst targs margs e) in if_so (is_whole (standing heads c)) c
+
+abbrev pub closed_cell : Queries → List TypeExpr → List TypeExpr → TypeExpr → Option TypeExpr
+closed_cell q targs margs e = closed_cell_by q.head targs margs e
 
 -- all of some, where each is there
 abbrev pub front : {A : Type 0} → Option A → Option (List A) → Option (List A)
@@ -116,7 +119,7 @@ all_of f (x ∷ xs) = front (f x) (all_of f xs)
 
 -- an argument keeps its modifiers
 abbrev pub closed_arg : Queries → List TypeExpr → List TypeExpr → TypeExpr → Option TypeExpr
-closed_arg q targs margs e = let c = subst targs margs e in if_so (is_whole (standing q c)) c
+closed_arg q targs margs e = let c = subst targs margs e in if_so (is_whole (standing q.head c)) c
 
 -- ---- operands
 

@@ -1,8 +1,6 @@
 -- Casts, boxes and handles (III.4.1, III.4.3, III.4.6, III.4.17, III.4.32, III.4.33).
-use Rattle.std.specs.Prelude.{ℕ, List, [], ◌∷◌, ◌==◌, Bool, true, false, ◌||◌, Option, Some, None, if◌then◌else◌}
-use Rattle.std.specs.Option.{option_and_then}
+use Rattle.std.specs.Prelude.{ℕ, List, ◌∷◌, ◌==◌, Bool, true, false, ◌||◌, Option, Some, None, if◌then◌else◌}
 use Rattle.il_base.specs.declared.opcode.TheConstants.{CASTCLASS, UNBOX}
-use Rattle.world_model.specs.declared.known.Known.{Known}
 use Rattle.world_model.specs.declared.expr.TypeExpr.{TypeExpr, out-TypeExpr}
 use Rattle.world_model.specs.declared.expr.TypeExpr.TheOpen.{TypeExpr-F}
 use Rattle.world_model.specs.Exprs.{subst, same_expr}
@@ -102,7 +100,7 @@ is_definition_in _ = false
 -- a handle can be of a generic type's definition without arguments, and of VOID
 unfoldable pub closed_handle : Queries → Here → TypeExpr → Option TypeExpr
 closed_handle q here e =
-    let c = plain (subst here.targs here.margs e) in if_so (is_definition_in (out-TypeExpr c) || is_sound (standing q c)) c
+    let c = plain (subst here.targs here.margs e) in if_so (is_definition_in (out-TypeExpr c) || is_sound (standing q.head c)) c
 
 abbrev pub load_handle : Queries → Here → Instruction → State → TypeExpr → Next
 load_handle q here i s e = had (closed_handle q here e) s (λ c. goes here i (value.Handle c ∷ s.top.stack) s)

@@ -28,7 +28,7 @@ use Rattle.link_rules.specs.Members.{arguments_of}
 use Rattle.mark_rules.specs.Naming.{method_named, field_named}
 use Rattle.mark_rules.specs.Bodies.{is_field_token, is_method_token}
 use Rattle.step_rules.specs.Queries.{Use, Instruction, Kind, Clause, Code}
-use Rattle.step_rules.specs.Queries.Use as use_of
+use Rattle.step_rules.specs.Queries.{Use as use_of}
 use Rattle.step_rules.specs.Queries.Kind.{catches, finally, fault}
 
 -- ---- lengths in bytes (III.1.2)

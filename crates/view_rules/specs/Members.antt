@@ -19,8 +19,7 @@ use Rattle.core_table.specs.Names.{text_of}
 use Rattle.core_table.specs.Members.{methods_of}
 use Rattle.core_table.specs.Kinds.{core_row, member_in}
 use Rattle.step_rules.specs.Members.{CoreCall, Printed}
-use Rattle.step_rules.specs.Members.CoreCall as call
-use Rattle.step_rules.specs.Members.Printed as printed
+use Rattle.step_rules.specs.Members.{CoreCall as call, Printed as printed}
 
 -- ---- by parameters
 
