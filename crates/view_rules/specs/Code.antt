@@ -1,7 +1,6 @@
 -- A method's body with its references resolved (II.25.4, III.1.2).
-use Rattle.std.specs.Prelude.{ℕ, ℤ, suc, ◌+◌, ◌*◌, List, [], ◌∷◌, length, map, Option, Some, None, slice_get, find, nat_lt, ◌==◌, Bool, true, false, if◌then◌else◌}
-use Rattle.std.specs.List.{flat_map}
-use Rattle.std.specs.Option.{option_and_then, option_map}
+use Rattle.std.specs.Prelude.{ℕ, ◌+◌, ◌*◌, List, [], length, map, Option, Some, None, slice_get, find, nat_lt, ◌==◌, Bool, if◌then◌else◌}
+use Rattle.std.specs.Option.{option_and_then}
 use Rattle.il_base.specs.declared.body.Form.{Form}
 use Rattle.il_base.specs.declared.body.Form.TheVariants as form
 use Rattle.il_base.specs.declared.body.Operand.{Operand}
@@ -9,7 +8,6 @@ use Rattle.il_base.specs.declared.body.Operand.TheVariants as operand
 use Rattle.il_base.specs.declared.body.Instr.{Instr}
 use Rattle.il_base.specs.declared.body.Handler.{Handler}
 use Rattle.il_base.specs.declared.body.Body.{Body}
-use Rattle.il_base.specs.declared.sig.Sig.{Sig}
 use Rattle.il_base.specs.declared.table.TheConstants.{STAND_ALONE_SIG}
 use Rattle.world_model.specs.declared.known.Known.{Known}
 use Rattle.world_model.specs.declared.known.Known.TheVariants.{Good, Bad}

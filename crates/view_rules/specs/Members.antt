@@ -1,5 +1,5 @@
 -- What the members of the core library's table do, by their types, names and parameters.
-use Rattle.std.specs.Prelude.{ℕ, ◌+◌, List, [], ◌∷◌, ◌++◌, length, map, Option, Some, None, slice_get, position, unwrap_or, ◌==◌, ◌&&◌, Bool, true, false, if◌then◌else◌}
+use Rattle.std.specs.Prelude.{ℕ, List, map, Option, Some, None, position, unwrap_or, ◌==◌, Bool, true, false, if◌then◌else◌}
 use Rattle.std.specs.List.{flat_map}
 use Rattle.std.specs.Option.{option_and_then, option_map}
 use Rattle.il_base.specs.declared.element.TheConstants as element
@@ -8,9 +8,9 @@ use Rattle.world_model.specs.Core.{same_name}
 use Rattle.core_table.specs.declared.names.CoreName.{CoreName}
 use Rattle.core_table.specs.declared.names.CoreName.TheVariants as core
 use Rattle.core_table.specs.declared.shape.CoreSig.{CoreSig}
-use Rattle.core_table.specs.declared.shape.CoreSig.TheVariants.{Prim, Class, Value}
+use Rattle.core_table.specs.declared.shape.CoreSig.TheVariants.{Prim}
 use Rattle.core_table.specs.declared.shape.CoreParams.{CoreParams}
-use Rattle.core_table.specs.declared.shape.CoreParams.TheVariants.{Zero, One, Two, Three, Four}
+use Rattle.core_table.specs.declared.shape.CoreParams.TheVariants.{Zero, One, Two}
 use Rattle.core_table.specs.declared.shape.CoreMethod.{CoreMethod}
 use Rattle.core_table.specs.declared.shape.CoreType.{CoreType}
 use Rattle.core_table.specs.declared.kinds.OwnedMethod.{OwnedMethod}

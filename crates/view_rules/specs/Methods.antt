@@ -1,8 +1,7 @@
 -- What a world answers on methods, fields and type definitions.
-use Rattle.std.specs.Prelude.{ℕ, suc, ◌+◌, ◌/◌, ◌%◌, List, [], ◌∷◌, length, map, codes, Option, Some, None, slice_get, ◌==◌, ◌&&◌, ◌||◌, Bool, true, false, not, if◌then◌else◌}
+use Rattle.std.specs.Prelude.{ℕ, suc, ◌/◌, ◌%◌, List, [], ◌∷◌, length, codes, Option, Some, None, slice_get, ◌==◌, ◌&&◌, Bool, false, not, if◌then◌else◌}
 use Rattle.std.specs.List.{list_any, flat_map}
 use Rattle.std.specs.Option.{option_and_then, option_map}
-use Rattle.il_base.specs.declared.ids.TypeId.{TypeId}
 use Rattle.il_base.specs.declared.body.Body.{Body}
 use Rattle.il_base.specs.declared.element.TheConstants as element
 use Rattle.il_base.specs.declared.outside.TheConstants.{PLATFORM, INTERFACE_BODY, GLOBAL_MEMBER, LAYOUT}
@@ -11,7 +10,7 @@ use Rattle.il_base.specs.declared.type_flags.TheConstants.{EXPLICIT_LAYOUT}
 use Rattle.world_model.specs.declared.known.Known.{Known}
 use Rattle.world_model.specs.declared.known.Known.TheVariants.{Good, Bad}
 use Rattle.world_model.specs.declared.known.BadKind.TheVariants.{Outside}
-use Rattle.world_model.specs.declared.expr.TypeExpr.{TypeExpr, out-TypeExpr, fold-TypeExpr}
+use Rattle.world_model.specs.declared.expr.TypeExpr.{TypeExpr, fold-TypeExpr}
 use Rattle.world_model.specs.declared.expr.TypeExpr.TheOpen.{TypeExpr-F}
 use Rattle.world_model.specs.declared.types.TypeDefRow.{TypeDefRow}
 use Rattle.world_model.specs.declared.members.FieldRow.{FieldRow}
@@ -25,10 +24,10 @@ use Rattle.link_rules.specs.declared.row_at.RowAt.{RowAt}
 use Rattle.link_rules.specs.declared.member_type.MethodType.{MethodType}
 use Rattle.link_rules.specs.Types.{at_row}
 use Rattle.link_rules.specs.Signatures.{names_at, method_type}
-use Rattle.link_rules.specs.Members.{home_from, type_home, methods_in, fields_in, param_count, is_interface_row}
+use Rattle.link_rules.specs.Members.{home_from, type_home, methods_in, fields_in, param_count}
 use Rattle.link_rules.specs.Cycles.{listed, is_static_field}
 use Rattle.type_rules.specs.Slots.{type_of_method}
-use Rattle.type_rules.specs.Rows.{rec_at, type_row_at, field_row_at, each_row, owner_of_field, is_module_type, is_enum}
+use Rattle.type_rules.specs.Rows.{rec_at, type_row_at, owner_of_field, is_enum}
 use Rattle.mark_rules.specs.BadItems.{is_global, is_platform, is_interface_body}
 use Rattle.step_rules.specs.Queries.{Signature, Method, FieldDef, Head, First, Code}
 use Rattle.step_rules.specs.Queries.First.{blank, bytes, empty_text}
