@@ -1,7 +1,6 @@
 -- Tokens and the numbers of coded indices (II.24.2.6).
-use Rattle.std.proofs.Common.{◌≡◌, ℕ, zero, suc, ◌+◌, ◌-◌, ◌*◌, ◌/◌, ◌%◌, ◌^◌, ◌<◌, ◌≤◌, Bool, true, false, cond, eqb, leb, List, [], ◌∷◌, Option, Some, None, refl, sym, ap, ap₂, subst, ◌∙◌, arith}
+use Rattle.std.proofs.Common.{◌≡◌, ℕ, zero, suc, ◌+◌, ◌-◌, ◌*◌, ◌/◌, ◌%◌, ◌^◌, ◌<◌, ◌≤◌, Bool, true, false, cond, eqb, List, [], ◌∷◌, Option, Some, None, refl, sym, ap, ap₂, subst, ◌∙◌, arith}
 use Rattle.std.specs.Prelude.{slice_get, unwrap_or, position, option_map, ◌==◌, ◌&&◌, nat_le}
-use Rattle.std.specs.List.{list_any}
 use Rattle.std.proofs.lemmas.Bool.{eqb-true, ne_eqb, and_parts, leb-true}
 use Rattle.std.proofs.lemmas.Option.{none-some, same_Some}
 use Rattle.std.proofs.Math.Nat.{zero-div, div-add-mod, mul_comm}
@@ -10,7 +9,7 @@ use Rattle.cli_format.specs.declared.column.CodedIndex.TheVariants.{TypeDefOrRef
 use Rattle.cli_format.specs.Coded.{targets_of, tag_bits_of, first_tag_of}
 use Rattle.cli_format.specs.Tokens.{tag_of, coded_of}
 use Rattle.cli_format.specs.Tables.{rows_of, target_of, names_row, names_coded}
-use Rattle.world_model.specs.Tokens.{token_of, table_of}
+use Rattle.world_model.specs.Tokens.{token_of}
 use Rattle.record_format.specs.Cells.{index_token, coded_token}
 
 -- ---- tags

@@ -1,6 +1,6 @@
 -- What a file's demands say of the cells of each column: tokens name rows, runs follow one another, keys never fall.
-use Rattle.std.proofs.Common.{◌≡◌, ℕ, zero, suc, ◌+◌, ◌<◌, ◌≤◌, ◌⊎◌, inl, inr, Bool, true, false, cond, eqb, leb, ltb, List, [], ◌∷◌, length, get_or, Option, Some, None, refl, sym, ap, subst, ◌∙◌, arith, length-append}
-use Rattle.std.specs.Prelude.{slice_get, IsTrue, ◌==◌, ◌&&◌, ◌||◌, nat_le, nat_lt}
+use Rattle.std.proofs.Common.{◌≡◌, ℕ, zero, suc, ◌+◌, ◌<◌, ◌≤◌, ◌⊎◌, inl, inr, Bool, true, false, eqb, List, [], ◌∷◌, length, Some, None, refl, sym, ap, subst, ◌∙◌, arith}
+use Rattle.std.specs.Prelude.{slice_get, ◌==◌, ◌&&◌, ◌||◌, nat_le, nat_lt}
 use Rattle.std.specs.List.{list_any, list_all, AllByRecursion}
 use Rattle.std.proofs.lemmas.Bool.{cases_lt, eqb-true, eq-eqb, ne_eqb, and_parts, leb-true, ltb-true, le-leb}
 use Rattle.std.proofs.lemmas.Option.{none-some, same_Some}
@@ -11,18 +11,17 @@ use Rattle.cli_format.specs.declared.column.CodedIndex.TheVariants.{TypeDefOrRef
 use Rattle.cli_format.specs.declared.key.SortKey.{SortKey}
 use Rattle.cli_format.specs.declared.key.SortKey.TheVariants.{ByOne, Strictly, ByTwo}
 use Rattle.cli_format.specs.Demand.{first_fault}
-use Rattle.cli_format.specs.Image.{metadata_of, metadata_place_of}
-use Rattle.cli_format.specs.Coded.{targets_of, tag_bits_of}
+use Rattle.cli_format.specs.Coded.{targets_of}
 use Rattle.cli_format.specs.Tokens.{coded_of}
 use Rattle.cli_format.specs.Columns.{columns_of, sort_key_of}
 use Rattle.cli_format.specs.Tables.{rows_of, cell_number, column_of, names_row, names_coded}
-use Rattle.cli_format.specs.Metadata.{tables_demands, tables_stream, names_item, in_order, is_run, most_rows}
+use Rattle.cli_format.specs.Metadata.{tables_demands, tables_stream, names_item, in_order, is_run}
 use Rattle.cli_format.proofs.Plain.{cells_law, runs_law, sorted_law, few_law}
 use Rattle.world_model.specs.declared.record.AsmRec.{AsmRec}
 use Rattle.world_model.specs.Tokens.{token_of, table_of}
 use Rattle.world_model.specs.Records as records
 use Rattle.world_model.specs.Records.{rows_in, names, Names, Each, EachPair, AreRuns, NeverFalls, Rises, NeverFallsByTwo}
-use Rattle.record_format.specs.Cells.{number_in, token_in, token_by, index_token, coded_token, count_of, run_end, all_rows, first_rows}
+use Rattle.record_format.specs.Cells.{number_in, token_in, token_by, index_token, coded_token, count_of, run_end, all_rows}
 use Rattle.record_laws.proofs.Rows.{length_rows, row_at, each_row, each_pair}
 use Rattle.record_laws.proofs.Coded as coded
 use Rattle.record_laws.proofs.Coded.{row_in, table_in, index_is, coded_is, number_back}

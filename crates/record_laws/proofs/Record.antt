@@ -1,9 +1,9 @@
 -- The record of a file that meets its demands keeps the rules of records.
-use Rattle.std.proofs.Common.{◌≡◌, ℕ, List, [], ◌∷◌, length, get_or, None, refl, ap, ap₂, ◌∙◌, subst, sym, arith}
+use Rattle.std.proofs.Common.{◌≡◌, ℕ, List, [], ◌∷◌, length, get_or, None, refl, ap, ap₂, subst, sym, arith}
 use Rattle.std.specs.Prelude.{map}
 use Rattle.std.specs.List.{AllByRecursion}
 use Rattle.il_base.specs.declared.table.TheConstants.{TYPE_DEF, FIELD, METHOD_DEF, PARAM, EVENT, PROPERTY, MODULE_REF, ASSEMBLY_REF, GENERIC_PARAM}
-use Rattle.cli_format.specs.declared.column.Column.TheVariants.{Index, IndexOrNone, Run, Coded, CodedOrNone}
+use Rattle.cli_format.specs.declared.column.Column.TheVariants.{Index, IndexOrNone, Coded, CodedOrNone}
 use Rattle.cli_format.specs.declared.column.CodedIndex.{CodedIndex}
 use Rattle.cli_format.specs.declared.column.CodedIndex.TheVariants.{TypeDefOrRef, HasConstant, HasCustomAttribute, HasFieldMarshal, HasDeclSecurity, MemberRefParent, HasSemantics, MethodDefOrRef, MemberForwarded, Implementation, CustomAttributeType, ResolutionScope, TypeOrMethodDef}
 use Rattle.cli_format.specs.Demand.{first_fault}
