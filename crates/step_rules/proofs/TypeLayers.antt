@@ -1,5 +1,5 @@
 -- Types without modifiers, and how they count, by their outermost construct.
-use Rattle.std.proofs.Common.{◌≡◌, ℕ, List, Bool, sym, ap, ◌∙◌}
+use Rattle.std.proofs.Common.{◌≡◌, ℕ, Bool, sym, ap, ◌∙◌}
 use Rattle.il_base.specs.declared.ids.TypeId.{TypeId}
 use Rattle.world_model.specs.declared.expr.TypeExpr.{TypeExpr, fold-TypeExpr, fold-roll-TypeExpr, out-TypeExpr}
 use Rattle.world_model.specs.declared.expr.TypeExpr.TheOpen.{TypeExpr-F}
@@ -7,7 +7,7 @@ use Rattle.world_model.specs.declared.expr.TypeExpr.TheVariants as expr
 use Rattle.world_model.specs.Exprs.{same_expr, same_in, same_layer}
 use Rattle.world_model.proofs.ExprLayers.{subst_prim, subst_def}
 use Rattle.step_rules.specs.Queries.{Queries}
-use Rattle.step_rules.specs.Closing.{plain, plain_layer, twice, Standing, standing, standing_layer}
+use Rattle.step_rules.specs.Closing.{plain, plain_layer, Standing, standing, standing_layer}
 
 abbrev both : TypeExpr → TypeExpr × TypeExpr
 both = fold-TypeExpr (TypeExpr × TypeExpr) plain_layer

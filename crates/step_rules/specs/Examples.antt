@@ -1,11 +1,9 @@
 -- Examples, each with what it comes to.
 use Rattle.std.specs.Prelude.{ℕ, ℤ, pos, negsuc, List, [], ◌∷◌, ◌++◌, codes}
 use Rattle.il_base.specs.declared.body.Form.TheVariants as form
-use Rattle.il_base.specs.declared.element.TheConstants as element
 use Rattle.il_base.specs.declared.opcode.TheConstants as opcode
 use Rattle.world_model.specs.declared.known.Known.TheVariants.{Good, Bad}
 use Rattle.world_model.specs.declared.known.BadKind.TheVariants.{Unresolved}
-use Rattle.world_model.specs.declared.expr.TypeExpr as expr
 use Rattle.cil_values.specs.declared.end.End.TheVariants.{Ended, Threw, Stopped, Stuck}
 use Rattle.step_rules.specs.Queries as queries
 use Rattle.step_rules.specs.Queries.{Code, Clause, Instruction, catches, finally}

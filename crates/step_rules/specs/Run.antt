@@ -1,6 +1,5 @@
 -- Whole runs from an entry point (II.15.4.1.2): what is printed within n steps, and how the run ends, if it does.
-use Rattle.std.specs.Prelude.{ℕ, zero, suc, ◌==◌, nat_eq, List, [], ◌∷◌, ◌++◌, Bool, true, false, not, ◌&&◌, ◌||◌, Option, Some, None, if◌then◌else◌}
-use Rattle.std.specs.Option.{option_map, option_and_then}
+use Rattle.std.specs.Prelude.{ℕ, zero, suc, nat_eq, List, [], ◌∷◌, ◌++◌, Bool, true, false, not, ◌&&◌, ◌||◌, Option, Some, None}
 use Rattle.il_base.specs.declared.element.TheConstants.{I4, STRING}
 use Rattle.il_base.specs.declared.method_flags.TheConstants.{STATIC}
 use Rattle.world_model.specs.declared.known.Known.{Known}
@@ -16,7 +15,7 @@ use Rattle.step_rules.specs.Queries.{Queries, Method, Signature, Code}
 use Rattle.step_rules.specs.State.{State, Next, went, over, nothing, opens, begun}
 use Rattle.step_rules.specs.Words.{has_flag}
 use Rattle.step_rules.specs.Closing.{Callee, callee_of, takes, is_void}
-use Rattle.step_rules.specs.Frames.{frame_of, zero_locals, initializer, initializer_use, with_init}
+use Rattle.step_rules.specs.Frames.{frame_of, zero_locals, initializer, with_init}
 use Rattle.step_rules.specs.Input.{decoded}
 use Rattle.step_rules.specs.Returns.{entry_begins}
 use Rattle.step_rules.specs.Step.{step}
@@ -99,8 +98,11 @@ initializer_frame owner entry c locals s = record s { top = frame_of 0 c.called 
 
 abbrev pub with_initializer : Queries → ℕ → Callee → State → Callee → Beginning
 with_initializer q m entry s c =
-    elim c.method.body [ None ↦ stuck_at m | Some body ↦ good_or_stopped body m (λ code. or_stopped (zero_locals q c.called code) m (λ locals.
-    begins (initializer_frame entry.called.owner entry.called c locals (with_init entry.called.owner begun s)))) ]
+    elim c.method.body [
+      | None ↦ stuck_at m
+      | Some body ↦ good_or_stopped body m (λ code. or_stopped (zero_locals q c.called code) m (λ locals.
+          begins (initializer_frame entry.called.owner entry.called c locals (with_init entry.called.owner begun s))))
+    ]
 
 abbrev pub begins_by : Queries → ℕ → Callee → List Value → State → Option MethodUse → Beginning
 begins_by q m c locals s None = begins (entry_begins c locals s)

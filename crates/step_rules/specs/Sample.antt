@@ -1,25 +1,22 @@
 -- A tiny world for examples: a program's first method is the code of an example, and beside it stand a method that adds two
 -- numbers, a class with a field, one below it, a struct, and some members of the core library.
-use Rattle.std.specs.Prelude.{◌≡◌, ℕ, ◌+◌, ◌==◌, nat_eq, ℤ, pos, negsuc, List, [], ◌∷◌, codes, slice_get, Bool, true, false, ◌&&◌, ◌||◌, Option, Some, None, if◌then◌else◌}
+use Rattle.std.specs.Prelude.{◌≡◌, ℕ, ◌+◌, ◌==◌, nat_eq, ℤ, pos, List, [], ◌∷◌, codes, slice_get, Bool, true, false, ◌&&◌, ◌||◌, Option, Some, None, if◌then◌else◌}
 use Rattle.il_base.specs.declared.body.Form.{Form}
 use Rattle.il_base.specs.declared.body.Form.TheVariants as form
 use Rattle.il_base.specs.declared.element.TheConstants as element
 use Rattle.il_base.specs.declared.method_flags.TheConstants.{STATIC}
 use Rattle.il_base.specs.declared.opcode.TheConstants as opcode
 use Rattle.world_model.specs.declared.known.Known.{Known}
-use Rattle.world_model.specs.declared.known.Known.TheVariants.{Good, Bad}
-use Rattle.world_model.specs.declared.known.BadKind.TheVariants.{Unresolved}
+use Rattle.world_model.specs.declared.known.Known.TheVariants.{Good}
 use Rattle.world_model.specs.declared.expr.TypeExpr.{TypeExpr, out-TypeExpr}
 use Rattle.world_model.specs.declared.expr.TypeExpr.TheOpen.{TypeExpr-F}
 use Rattle.world_model.specs.declared.expr.TypeExpr as expr
 use Rattle.world_model.specs.declared.expr.MethodUse.{MethodUse}
-use Rattle.world_model.specs.declared.expr.FieldUse.{FieldUse}
 use Rattle.world_model.specs.Exprs.{same_expr}
 use Rattle.core_table.specs.declared.names.CoreName.{CoreName}
 use Rattle.core_table.specs.declared.names.CoreName.TheVariants as name
 use Rattle.cil_values.specs.declared.value.Value.TheVariants as value
 use Rattle.cil_values.specs.declared.end.End.{End}
-use Rattle.cil_values.specs.declared.end.End.TheVariants.{Ended, Threw, Stopped, Stuck}
 use Rattle.step_rules.specs.Queries as queries
 use Rattle.step_rules.specs.Queries.{Queries, Instruction, Use, Clause, Kind, catches, finally, Code, Method, Signature, FieldDef, Head, Layout, Shape, reference, integer, structure, no_value, of_field, message, inner, blank}
 use Rattle.step_rules.specs.Members.{CoreCall, idle, prints, of_string}
@@ -28,7 +25,7 @@ use Rattle.cil_values.specs.declared.object.Obj.{Obj}
 use Rattle.step_rules.specs.State.{State, Next, Frame, Running, none}
 use Rattle.step_rules.specs.State as state
 use Rattle.step_rules.specs.Step.{step}
-use Rattle.step_rules.specs.Run.{Outcome, run_from}
+use Rattle.step_rules.specs.Run.{run_from}
 
 -- ---- types: 0 Program, 1 S (a struct), 2 C, 3 D : C, and exceptions by their names
 
