@@ -162,7 +162,7 @@ constructs q here i c vs a s = invoke q c (value.Object a ∷ vs) (state.makes a
 abbrev pub constructs_value : Queries → Here → Instruction → Callee → List Value → ℕ → State → Next
 constructs_value q here i c vs a s =
     invoke q c (value.Pointer (path_into_box a c.called.owner) ∷ vs) (state.makes_value a) s
-      (λ t result bytes. given (option_and_then boxed_in (object_at t a)) t (λ v. gives_made here i v t result bytes))
+    (λ t result bytes. given (option_and_then boxed_in (object_at t a)) t (λ v. gives_made here i v t result bytes))
 
 abbrev pub new_instance : Queries → TypeExpr → Obj
 new_instance q e = object.Instance e (zeros_of (q.cells e))

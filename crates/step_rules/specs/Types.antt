@@ -109,7 +109,8 @@ load_handle q here i s e = had (closed_handle q here e) s (λ c. goes here i (va
 unfoldable pub load_token : Form
 load_token q here i s =
     elim i.operand [
-      typ e ↦ known e s (load_handle q here i s)
-    | queries.field f ↦ closed_field q here f s (λ a. goes here i (value.FieldHandle (record { 0 = a.id }) ∷ s.top.stack) s)
-    | method m ↦ stopped s
-    | _ ↦ stuck s ]
+      | typ e ↦ known e s (load_handle q here i s)
+      | queries.field f ↦ closed_field q here f s (λ a. goes here i (value.FieldHandle (record { 0 = a.id }) ∷ s.top.stack) s)
+      | method m ↦ stopped s
+      | _ ↦ stuck s
+    ]
