@@ -23,3 +23,10 @@ pub mod Input
 pub mod CoreConsole
 pub mod CoreArrays
 pub mod Core
+pub mod Calls
+pub mod Returns
+pub mod Fields
+pub mod Indirect
+pub mod Arrays
+pub mod Types
+pub mod Step

@@ -97,37 +97,63 @@ is_reference_shape _ = false
 unfoldable pub is_reference : Queries → TypeExpr → Bool
 is_reference q e = is_reference_shape (q.shape e)
 
+-- also a value type that has no zero value
 abbrev pub is_value_shape : Shape → Bool
 is_value_shape reference = false
 is_value_shape pointer = false
-is_value_shape no_value = false
 is_value_shape _ = true
 
 unfoldable pub is_value : Queries → TypeExpr → Bool
 is_value q e = is_value_shape (q.shape e)
 
--- ---- loads and stores by a type of an instruction (III.1.1.1, III.4): an integer type works on each of its width, every
--- other on its own
+-- ---- accesses to elements, and through pointers: which places an instruction takes (III.4.8, III.4.27, III.3.42, III.3.62)
 
-abbrev pub suits_shape : TypeExpr → TypeExpr → Shape → Shape → Bool
-suits_shape e place (integer a) (integer b) = same_width a b
-suits_shape e place _ _ = same_expr e place
+pub data Access : Type 0 where
+  -- an integer type: every integer, Boolean, Char or enum of its width
+  by_code : ℕ → Access
+  -- every reference type
+  by_reference : Access
+  -- this type alone
+  by_type : TypeExpr → Access
 
-unfoldable pub suits : Queries → TypeExpr → TypeExpr → Bool
-suits q e place = suits_shape e place (q.shape e) (q.shape place)
+abbrev pub access_shape : TypeExpr → Shape → Access
+access_shape e (integer code) = by_code code
+access_shape e _ = by_type e
 
-abbrev pub shown_shape : Shape → Value → Option Value
-shown_shape (integer code) v = shown code v
-shown_shape _ v = Some v
+-- of an instruction with a type
+unfoldable pub access_of : Queries → TypeExpr → Access
+access_of q e = access_shape e (q.shape e)
 
--- the value of a place as a load of a type that suits it gives it
-unfoldable pub loaded : Queries → TypeExpr → Value → Option Value
-loaded q e v = shown_shape (q.shape e) v
+abbrev pub element_shape : TypeExpr → Shape → Access
+element_shape e reference = by_reference
+element_shape e shape = access_shape e shape
 
--- the value as a store of a type leaves it in a place that the type suits
-abbrev pub stored_shape : Shape → Option Value → Option Value
-stored_shape (integer code) (Some v) = shown code v
-stored_shape _ v = v
+-- of an element instruction with a type: one of a reference type takes any array of references
+unfoldable pub element_access : Queries → TypeExpr → Access
+element_access q e = element_shape e (q.shape e)
 
-unfoldable pub stored : Queries → TypeExpr → TypeExpr → Value → Option Value
-stored q e place v = stored_shape (q.shape place) (fits q e v)
+abbrev pub allows_shape : Access → TypeExpr → Shape → Bool
+allows_shape (by_code a) place (integer b) = same_width a b
+allows_shape (by_code a) place _ = false
+allows_shape by_reference place shape = is_reference_shape shape
+allows_shape (by_type e) place shape = same_expr e place
+
+-- whether an access takes a place of a type
+unfoldable pub allows : Queries → Access → TypeExpr → Bool
+allows q access place = allows_shape access place (q.shape place)
+
+-- the value of a place as an access that takes it loads it
+unfoldable pub loaded : Access → Value → Option Value
+loaded (by_code code) v = shown code v
+loaded by_reference v = Some v
+loaded (by_type e) v = Some v
+
+abbrev pub as_place : Shape → Option Value → Option Value
+as_place (integer code) (Some v) = shown code v
+as_place _ v = v
+
+-- a value as a store by an access leaves it in a place that it takes
+unfoldable pub stored : Queries → Access → TypeExpr → Value → Option Value
+stored q (by_code code) place v = as_place (q.shape place) (narrowed code v)
+stored q by_reference place v = fits_reference v
+stored q (by_type e) place v = fits q e v
