@@ -1,7 +1,7 @@
 use Rattle.std.proofs.Common.{◌≡◌, ◌++◌, drop}
 use Rattle.link_rules.specs.Faults.{numbered}
 use Rattle.link_faults.specs.Supertypes.{bases_of}
-use Rattle.link_faults.proofs.supertypes.bases_of.Given as goal
+use Rattle.link_faults.proofs.bases.bases_of.Given as goal
 
 abbrev pub invariant-loop-row : goal.invariant-loop-row
 invariant-loop-row l =
