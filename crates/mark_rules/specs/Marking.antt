@@ -17,7 +17,8 @@ use Rattle.mark_rules.specs.Properties.{property_needs, event_needs, accessed}
 use Rattle.mark_rules.specs.Attributes.{attribute_needs}
 use Rattle.mark_rules.specs.Dependencies.{dependency_needs}
 use Rattle.mark_rules.specs.Shown.{item_shows, encloser_shown}
-use Rattle.mark_rules.specs.Roots.{Root, start_facts, waiting_facts}
+use Rattle.descriptor_file.specs.declared.root.Root.{Root}
+use Rattle.mark_rules.specs.Roots.{start_facts, waiting_facts}
 
 -- ---- one fact
 

@@ -14,6 +14,10 @@ use Rattle.world_model.specs.declared.members.MethodDefRow.{MethodDefRow}
 use Rattle.world_model.specs.declared.record.AsmRec.{AsmRec}
 use Rattle.world_model.specs.Core.{same_name}
 use Rattle.world_model.specs.Worlds.{known_then, sig_expr, prim_type, type_id}
+use Rattle.descriptor_file.specs.declared.root.Root.{Root}
+use Rattle.descriptor_file.specs.declared.root.RootMember.{RootMember}
+use Rattle.descriptor_file.specs.declared.root.preserve.TheConstants as preserve
+use Rattle.descriptor_file.specs.declared.root.member.TheConstants as member
 use Rattle.link_rules.specs.declared.row_at.RowAt.{RowAt}
 use Rattle.link_rules.specs.declared.member_type.MethodType.{MethodType}
 use Rattle.link_rules.specs.Types.{at_row, is_called, encloser}
@@ -31,36 +35,6 @@ use Rattle.mark_rules.specs.Members.{is_constructor, has_method_row, properties_
 use Rattle.mark_rules.specs.Attributes.{is_property_called}
 use Rattle.mark_rules.specs.Annotations.{good_expr}
 use Rattle.mark_rules.specs.Dependencies.{is_event_called, good_signatures}
-
--- ---- elements of a descriptor
-
--- the kinds of member elements
-pub data MemberKind : Type 0 where
-  method_element : MemberKind
-  field_element : MemberKind
-  property_element : MemberKind
-  event_element : MemberKind
-
--- a member element: a name, or a signature of a method or a field
-pub record RootMember : Type 0 where
-  pub kind : MemberKind
-  pub by_signature : Bool
-  pub text : List ℕ
-
--- which members a `type` element keeps besides those that it holds
-pub data Preserve : Type 0 where
-  nothing : Preserve
-  fields : Preserve
-  methods : Preserve
-  everything : Preserve
-
--- a `type` element, or an `assembly` element without types
-pub record Root : Type 0 where
-  pub asm : List ℕ
-  pub typ : Option (List ℕ)
-  pub required : Bool
-  pub preserve : Preserve
-  pub members : List RootMember
 
 -- ---- the types
 
@@ -145,11 +119,12 @@ abbrev pub all_members : List AsmRec → RowAt → List Fact
 all_members recs t =
     all_methods recs t ++ all_fields recs t ++ flat_map (whole_property recs) (properties_of_type recs t) ++ flat_map (whole_event recs) (events_of_type recs t)
 
-abbrev pub preserved : List AsmRec → RowAt → Preserve → List Fact
-preserved recs t nothing = []
-preserved recs t fields = all_fields recs t
-preserved recs t methods = all_methods recs t
-preserved recs t everything = all_members recs t
+abbrev pub preserved : List AsmRec → RowAt → ℕ → List Fact
+preserved recs t kind =
+    if kind == preserve.FIELDS then all_fields recs t
+    else if kind == preserve.METHODS then all_methods recs t
+    else if kind == preserve.ALL then all_members recs t
+    else []
 
 abbrev pub fits_method : List AsmRec → RootMember → RowAt → Bool
 fits_method recs r at = list_any (method_fits recs r at) (listed (method_row_at recs at))
@@ -158,14 +133,15 @@ abbrev pub fits_field : List AsmRec → RootMember → RowAt → Bool
 fits_field recs r at = list_any (λ (rec : AsmRec). list_any (field_fits recs r at rec) (listed (slice_get rec.field at.row))) (listed (rec_at recs at))
 
 -- the members that a member element names, all overloads; a property or event with its accessors
-abbrev pub member_by : List AsmRec → RowAt → RootMember → MemberKind → List Fact
-member_by recs t r method_element = flat_map (keeps_method recs t) (filter (fits_method recs r) (methods_of_type recs t))
-member_by recs t r field_element = map (marks_field recs) (filter (fits_field recs r) (fields_of_type recs t))
-member_by recs t r property_element = flat_map (whole_property recs) (filter (is_property_called recs r.text) (properties_of_type recs t))
-member_by recs t r event_element = flat_map (whole_event recs) (filter (is_event_called recs r.text) (events_of_type recs t))
+abbrev pub member_by : List AsmRec → RowAt → RootMember → List Fact
+member_by recs t r =
+    if r.kind == member.METHOD then flat_map (keeps_method recs t) (filter (fits_method recs r) (methods_of_type recs t))
+    else if r.kind == member.FIELD then map (marks_field recs) (filter (fits_field recs r) (fields_of_type recs t))
+    else if r.kind == member.PROPERTY then flat_map (whole_property recs) (filter (is_property_called recs r.text) (properties_of_type recs t))
+    else flat_map (whole_event recs) (filter (is_event_called recs r.text) (events_of_type recs t))
 
 abbrev pub root_members : List AsmRec → RowAt → Root → List Fact
-root_members recs t r = preserved recs t r.preserve ++ flat_map (λ (m : RootMember). member_by recs t m m.kind) r.members
+root_members recs t r = preserved recs t r.preserve ++ flat_map (member_by recs t) r.members
 
 -- every type of an assembly but `<Module>`, with all its members
 abbrev pub whole_assembly : List AsmRec → ℕ → List Fact
