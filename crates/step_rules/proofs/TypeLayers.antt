@@ -1,12 +1,12 @@
 -- Types without modifiers, and how they count, by their outermost construct.
-use Rattle.std.proofs.Common.{◌≡◌, ℕ, Bool, sym, ap, ◌∙◌}
+use Rattle.std.proofs.Common.{◌≡◌, ℕ, Bool, Option, sym, ap, ◌∙◌}
 use Rattle.il_base.specs.declared.ids.TypeId.{TypeId}
 use Rattle.world_model.specs.declared.expr.TypeExpr.{TypeExpr, fold-TypeExpr, fold-roll-TypeExpr, out-TypeExpr}
 use Rattle.world_model.specs.declared.expr.TypeExpr.TheOpen.{TypeExpr-F}
 use Rattle.world_model.specs.declared.expr.TypeExpr.TheVariants as expr
 use Rattle.world_model.specs.Exprs.{same_expr, same_in, same_layer}
 use Rattle.world_model.proofs.ExprLayers.{subst_prim, subst_def}
-use Rattle.step_rules.specs.Queries.{Queries}
+use Rattle.step_rules.specs.Queries.{Head}
 use Rattle.step_rules.specs.Closing.{plain, plain_layer, Standing, standing, standing_layer}
 
 abbrev both : TypeExpr → TypeExpr × TypeExpr
@@ -20,14 +20,14 @@ pub plain_def : (t : TypeId) → plain (expr.Def t) ≡ expr.Def t
 unfolding plain
 plain_def t = ap (λ x. x.1) (ap both (sym (expr.rolls-Def t)) ∙ fold-roll-TypeExpr (TypeExpr × TypeExpr) plain_layer (TypeExpr-F.Def t))
 
-module _ (q : Queries) where
-  pub standing_prim : (n : ℕ) → standing q (expr.Prim n) ≡ standing_layer q (TypeExpr-F.Prim n)
+module _ (heads : ℕ → Option Head) where
+  pub standing_prim : (n : ℕ) → standing heads (expr.Prim n) ≡ standing_layer heads (TypeExpr-F.Prim n)
   unfolding standing
-  standing_prim n = ap (fold-TypeExpr Standing (standing_layer q)) (sym (expr.rolls-Prim n)) ∙ fold-roll-TypeExpr Standing (standing_layer q) (TypeExpr-F.Prim n)
+  standing_prim n = ap (fold-TypeExpr Standing (standing_layer heads)) (sym (expr.rolls-Prim n)) ∙ fold-roll-TypeExpr Standing (standing_layer heads) (TypeExpr-F.Prim n)
 
-  pub standing_def : (t : TypeId) → standing q (expr.Def t) ≡ standing_layer q (TypeExpr-F.Def t)
+  pub standing_def : (t : TypeId) → standing heads (expr.Def t) ≡ standing_layer heads (TypeExpr-F.Def t)
   unfolding standing
-  standing_def t = ap (fold-TypeExpr Standing (standing_layer q)) (sym (expr.rolls-Def t)) ∙ fold-roll-TypeExpr Standing (standing_layer q) (TypeExpr-F.Def t)
+  standing_def t = ap (fold-TypeExpr Standing (standing_layer heads)) (sym (expr.rolls-Def t)) ∙ fold-roll-TypeExpr Standing (standing_layer heads) (TypeExpr-F.Def t)
 
 abbrev test : TypeExpr → TypeExpr → Bool
 test = fold-TypeExpr (TypeExpr → Bool) same_layer
