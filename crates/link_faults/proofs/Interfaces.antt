@@ -1,5 +1,5 @@
 -- What a row of InterfaceImpl adds to the graph of interfaces.
-use Rattle.std.proofs.Common.{◌≡◌, ℕ, zero, suc, ◌+◌, ◌-◌, ◌<◌, ◌≤◌, ◌==◌, nat_lt, Bool, true, false, List, [], ◌∷◌, ◌++◌, Option, Some, None, refl, sym, ap, ◌∙◌, arith, length, get_or, take, slice_set, append_assoc}
+use Rattle.std.proofs.Common.{◌≡◌, ℕ, zero, suc, ◌+◌, ◌-◌, ◌<◌, ◌≤◌, ◌==◌, nat_lt, Bool, true, false, List, [], ◌∷◌, ◌++◌, Option, Some, None, refl, sym, ap, ◌∙◌, arith, length, get_or, take, slice_set}
 use Rattle.std.specs.Prelude.{if◌then◌else◌}
 use Rattle.std.specs.List.{flat_map}
 use Rattle.std.proofs.lemmas.List.{append-nil, take_more}
@@ -14,7 +14,7 @@ use Rattle.world_model.specs.Tokens.{token_of}
 use Rattle.link_rules.specs.Cycles.{listed}
 use Rattle.link_rules.specs.Faults.{numbered}
 use Rattle.link_faults.specs.Graphs.{next_in}
-use Rattle.link_faults.specs.Supertypes.{interface_at, interfaces_by, place_of, led_on, nothing_of, interfaces_of}
+use Rattle.link_faults.specs.Supertypes.{interface_at, interfaces_by, place_of, led_on, interfaces_of}
 
 -- ---- lists with a number for each item
 

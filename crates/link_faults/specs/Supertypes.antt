@@ -7,18 +7,12 @@ use Rattle.world_model.specs.declared.types.InterfaceImplRow.{InterfaceImplRow}
 use Rattle.world_model.specs.declared.record.AsmRec.{AsmRec}
 use Rattle.world_model.specs.declared.world.TypeLink.{TypeLink}
 use Rattle.world_model.specs.Tokens.{token_of}
-use Rattle.link_rules.specs.declared.row_at.RowAt.{RowAt}
-use Rattle.link_rules.specs.Types.{at_row}
 use Rattle.link_rules.specs.Members.{is_interface_row}
 use Rattle.link_rules.specs.Cycles.{listed, is_row_of}
 use Rattle.link_rules.specs.Faults.{numbered}
 use Rattle.link_rules.specs.Linked.{links_from}
 use Rattle.link_faults.specs.Graphs.{next_in}
 use Rattle.link_faults.specs.Targets.{target_at, named_target_at}
-
--- what is so of each type, in the order of ids
-abbrev pub of_types : {A : Type 0} → (RowAt → A) → List AsmRec → List A
-of_types f recs = links_from (λ a (rec : AsmRec). numbered (λ k (t : TypeDefRow). f (at_row a k)) 0 rec.type_def) 0 recs
 
 -- ---- bases
 

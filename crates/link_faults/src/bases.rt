@@ -7,7 +7,8 @@ ghost use Rattle.link_faults.specs.Supertypes.{base_target, bases_of, all_bases}
 
 use crate::graph::list_of;
 use crate::scope::Scope;
-use il_base::{AsmId, NoMemory, Seq, type_flags::INTERFACE};
+use il_base::type_flags::INTERFACE;
+use il_base::{AsmId, NoMemory, Seq};
 use std::alloc::Global;
 use world_model::{AsmRec, TypeDefRow};
 

@@ -10,7 +10,8 @@ ghost use Rattle.link_faults.specs.Keys.{code_of_member, code_of_field, field_co
 use crate::codes::{add_count, add_text, add_type, bit};
 use crate::owners::{Member, owners};
 use crate::scope::Scope;
-use il_base::{AsmId, MethodSig, NoMemory, Seq, Sig, method_flags::COMPILER_CONTROLLED};
+use il_base::method_flags::COMPILER_CONTROLLED;
+use il_base::{AsmId, MethodSig, NoMemory, Seq, Sig};
 use std::alloc::Global;
 use world_model::{AsmRec, FieldRow, Known, MethodDefRow};
 

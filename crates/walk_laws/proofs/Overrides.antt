@@ -111,7 +111,7 @@ module _ (recs : List AsmRec) where
       there : method_row_at recs b ≡ Some row
       virtual : is_virtual row ≡ true
 
-    owner_by : (home : RowAt) (k : ℕ) (rec : AsmRec) (t : TypeDefRow) → slice_get recs home.asm ≡ Some rec → slice_get rec.type_def home.row ≡ Some t → owns_method (suc k) t ≡ true
+    pub owner_by : (home : RowAt) (k : ℕ) (rec : AsmRec) (t : TypeDefRow) → slice_get recs home.asm ≡ Some rec → slice_get rec.type_def home.row ≡ Some t → owns_method (suc k) t ≡ true
         → type_of_method recs (at_row home.asm k) ≡ Some home
     owner_by home k rec t there at owns =
         let f = finds (owns_method (suc k)) 0 rec.type_def home.row t at owns in

@@ -14,7 +14,7 @@ use Rattle.link_rules.specs.Members.{bases_from, with_bases, type_count}
 use Rattle.link_rules.specs.Cycles.{listed, led_to, same_row, home_of}
 use Rattle.link_rules.specs.Linked.{assemblies, link_fault_of}
 use Rattle.type_rules.specs.Subtypes.{interfaces_of}
-use Rattle.type_rules.specs.Slots.{is_virtual, method_row_at, slot_within, slot_of}
+use Rattle.type_rules.specs.Slots.{is_virtual, method_row_at, type_of_method, slot_within, slot_of}
 use Rattle.type_rules.specs.Texts.{row_name}
 use Rattle.type_rules.specs.Dispatch.{implied, declares_slot, impl_in, slot_in, class_dispatch}
 
@@ -72,6 +72,10 @@ pub record Answers (recs : List AsmRec) (t : TypeExpr) (slot m : RowAt) : Type 0
 -- in any world
 abbrev pub DispatchAnswers : Type 0
 DispatchAnswers = (recs : List AsmRec) (t : TypeExpr) (slot m : RowAt) → class_dispatch recs t slot ≡ Some m → Answers recs t slot m
+
+-- a method that a type has for a class slot is in the run of that type's definition
+abbrev pub OwnsAnswers : List AsmRec → Type 0
+OwnsAnswers recs = (e : TypeExpr) (slot m : RowAt) → slot_in recs slot e ≡ Some m → type_of_method recs m ≡ home_of recs e
 
 -- ---- names
 

@@ -1,4 +1,4 @@
-ghost use Rattle.walk_laws.specs.Walks.{InLinked, InRuns, BasesWhole, BasesOnce, ImpliedWhole, SlotsWhole, SlotsFound, SlotsOfSlots, DispatchAnswers, NamesWhole};
+ghost use Rattle.walk_laws.specs.Walks.{InLinked, InRuns, BasesWhole, BasesOnce, ImpliedWhole, SlotsWhole, SlotsFound, SlotsOfSlots, DispatchAnswers, OwnsAnswers, NamesWhole};
 
 /// In a linked world a type has its bases within as many steps as there are types, and the definitions of these are
 /// distinct.
@@ -21,9 +21,11 @@ pub fn slots_are_whole()
 {}
 
 /// What a class slot is answered by in a type is a method with that slot in the type or one of its bases, or the body of a
-/// MethodImpl row of one of these for it.
+/// MethodImpl row of one of these for it. In a linked world whose runs of methods follow one another such a method is in the
+/// run of that type's definition.
 pub fn class_dispatch_answers()
-    ensures { DispatchAnswers }
+    ensures answers { DispatchAnswers }
+    ensures owned { InRuns OwnsAnswers }
 {}
 
 /// In a linked world the name of a type with those of its enclosers is found within as many steps as its assembly has types,
