@@ -8,3 +8,4 @@ pub mod Cells
 pub mod Rows
 pub mod Bodies
 pub mod Laid
+pub mod Runs

@@ -2,3 +2,5 @@ pub mod Rows
 pub mod Coded
 pub mod Columns
 pub mod Record
+pub mod Runs
+pub mod Spelled

@@ -141,3 +141,15 @@ module _ (bs : List ℕ) (meets : first_fault (record_demands bs) ≡ None) wher
 
 pub has_is_record : (bs : List ℕ) (r : AsmRec) → HasRecord bs r → IsRecord r
 has_is_record bs r h = subst IsRecord (sym h.is) (is_record bs h.meets)
+
+-- the rows of the tables that runs are in
+pub record Sizes (bs : List ℕ) : Type 0 where
+  pub fields : rows_in (record_at bs) FIELD ≡ count_of (metadata_of bs) FIELD
+  pub methods : rows_in (record_at bs) METHOD_DEF ≡ count_of (metadata_of bs) METHOD_DEF
+  pub params : rows_in (record_at bs) PARAM ≡ count_of (metadata_of bs) PARAM
+  pub events : rows_in (record_at bs) EVENT ≡ count_of (metadata_of bs) EVENT
+  pub properties : rows_in (record_at bs) PROPERTY ≡ count_of (metadata_of bs) PROPERTY
+
+pub size_of : (bs : List ℕ) → first_fault (record_demands bs) ≡ None → Sizes bs
+unfolding counts
+size_of bs meets = record { fields = size bs meets 0x04; methods = size bs meets 0x06; params = size bs meets 0x08; events = size bs meets 0x14; properties = size bs meets 0x17 }
