@@ -15,7 +15,7 @@ use std::alloc::Global;
 use world_model::{BadKind, FieldUse, Known, MemberRefRow, MemberSig, MethodUse, TypeExpr};
 
 /// The method with this name and signature that a parent has.
-#[tactic(auto, unfolding(link_rules::specs::Members::find_method, link_rules::specs::Members::method_of_type, member_search::specs::Wanted::look_for, member_search::specs::Wanted::member_in))]
+#[tactic(auto, using(crate::proofs::Referring::named_method))]
 fn method_found(
     alloc: Global,
     linked: &Linked<'_>,
@@ -26,7 +26,7 @@ fn method_found(
     requires { IsLinked linked.now }
     ensures { IfOk result (λ u. u ≡ method_use linked.now.all.now (find_method linked.now.all.now parent.now name.now wanted)) }
 {
-    let wanted = Wanted::Method(Among::All, wanted);
+    let wanted = Wanted::Method(Among::Named, wanted);
     match find_member(alloc, linked, parent, name, &wanted) {
         Ok(found) => method_use(alloc, linked.all, found),
         Err(error) => Err(error),

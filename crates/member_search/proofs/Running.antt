@@ -1,5 +1,5 @@
 -- The first member with a name and a signature in the run of a type, by the rows of the name.
-use Rattle.std.proofs.Common.{◌≡◌, ℕ, ◌+◌, ◌-◌, ◌<◌, ◌≤◌, List, length, take, drop, get_or, Bool, ◌&&◌, ap, ◌∙◌, arith, length-drop}
+use Rattle.std.proofs.Common.{◌≡◌, ℕ, ◌+◌, ◌-◌, ◌<◌, ◌≤◌, List, length, take, drop, get_or, Bool, true, false, ◌&&◌, not, refl, ap, ◌∙◌, arith, length-drop}
 use Rattle.std.proofs.lemmas.List.{take_all}
 use Rattle.std.specs.Prelude.{slice_get}
 use Rattle.std.specs.List.Sorted.{IsNonDecreasing}
@@ -10,7 +10,7 @@ use Rattle.world_model.specs.declared.types.TypeDefRow.{TypeDefRow}
 use Rattle.world_model.specs.declared.record.AsmRec.{AsmRec}
 use Rattle.world_model.specs.Worlds.{known_then, sig_expr}
 use Rattle.link_rules.specs.Signatures.{names_at, method_type}
-use Rattle.link_rules.specs.Members.{is_method_type, is_field_type}
+use Rattle.link_rules.specs.Members.{is_compiler_controlled, is_method_type, is_field_type, find_in_run}
 use Rattle.member_search.specs.declared.members.Wanted.{Wanted}
 use Rattle.member_search.specs.declared.members.Wanted.TheVariants.{Method, Field}
 use Rattle.member_search.specs.declared.names.Names.{Names}
@@ -21,6 +21,11 @@ use Rattle.member_search.proofs.Places.{places_in_order, run_by_places}
 pub rows_in_order : (rec : AsmRec) (names : Names) (wanted : Wanted) (name : List ℕ) → AreNames rec names → IsNonDecreasing (rows_named wanted names name)
 rows_in_order rec names (Method among w) name are = rw (are.methods name) (places_in_order (is_method_named name) rec.method_def 0)
 rows_in_order rec names (Field w) name are = rw (are.fields name) (places_in_order (is_field_named name) rec.field 0)
+
+-- three tests, the last two of them together
+pub grouped : (a b c : Bool) → (a && (b && c)) ≡ (a && b && c)
+grouped true b c = refl
+grouped false b c = refl
 
 -- all that is behind a place
 pub all_behind : (n : ℕ) (ks : List ℕ) → take (length ks - n) (drop n ks) ≡ drop n ks
@@ -47,7 +52,9 @@ module _ (recs : List AsmRec) (a : ℕ) (rec : AsmRec) (names : Names) (are : Ar
   member_found (Field w) n over =
       let rows = are.fields name in
       let start : ℕ = t.field_list_first - 1 in
-      let has : FieldRow → Bool = λ f. is_field_type targs w (known_then (sig_expr (names_at recs a rec)) f.signature) in
+      let typed : FieldRow → Bool = λ f. is_field_type targs w (known_then (sig_expr (names_at recs a rec)) f.signature) in
+      let has : FieldRow → Bool = λ f. not (is_compiler_controlled f.flags) && typed f in
       ap (λ (ks : List ℕ). first_fitting (λ k. fits_at has (slice_get rec.field k)) (start + (t.field_list_end - t.field_list_first)) (drop n ks)) rows
       ∙ run_by_places (is_field_named name) has (λ k. fits_at has (slice_get rec.field k)) rec.field start (t.field_list_end - t.field_list_first) n
       (λ k f e. ap (fits_at has) e) (rw rows at over.within) (rw rows at over.before) (rw rows at over.behind)
+      ∙ ap (λ (is : FieldRow → Bool). find_in_run is t.field_list_first t.field_list_end rec.field) (λ i f. grouped (is_field_named name f) (not (is_compiler_controlled f.flags)) (typed f) i)

@@ -1,5 +1,5 @@
 -- Members that are looked for in the definition of a type, methods and fields alike.
-use Rattle.std.specs.Prelude.{ℕ, ◌/◌, ◌%◌, ◌==◌, ◌&&◌, List, Bool, true, false, Option, Some, None, slice_get}
+use Rattle.std.specs.Prelude.{ℕ, ◌/◌, ◌%◌, ◌==◌, ◌&&◌, not, List, Bool, false, Option, Some, None, slice_get}
 use Rattle.std.specs.Option.{option_map, option_and_then}
 use Rattle.world_model.specs.declared.expr.TypeExpr.{TypeExpr}
 use Rattle.world_model.specs.declared.members.FieldRow.{FieldRow}
@@ -12,11 +12,11 @@ use Rattle.link_rules.specs.declared.row_at.RowAt.{RowAt}
 use Rattle.link_rules.specs.Types.{at_row}
 use Rattle.link_rules.specs.declared.member_type.MethodType.{MethodType}
 use Rattle.link_rules.specs.Signatures.{names_at, method_type}
-use Rattle.link_rules.specs.Members.{type_home, owner_of, args_of, is_method_type, is_field_type, is_field, find_in_run}
+use Rattle.link_rules.specs.Members.{type_home, owner_of, args_of, is_compiler_controlled, is_method_type, is_field_type, is_field, find_in_run}
 use Rattle.member_search.specs.declared.members.Wanted.{Wanted}
 use Rattle.member_search.specs.declared.members.Wanted.TheVariants.{Method, Field}
 use Rattle.member_search.specs.declared.members.Among.{Among}
-use Rattle.member_search.specs.declared.members.Among.TheVariants.{All, Virtual, PublicVirtual}
+use Rattle.member_search.specs.declared.members.Among.TheVariants.{Named, Virtual, PublicVirtual}
 use Rattle.member_search.specs.declared.names.Names.{Names}
 use Rattle.member_search.specs.declared.owners.Run.{Run}
 use Rattle.member_search.specs.Names.{rows_at}
@@ -24,7 +24,7 @@ use Rattle.member_search.specs.Owners.{method_run, field_run}
 
 -- which methods count, by their flags (II.23.1.10)
 abbrev pub allows : Among → MethodDefRow → Bool
-allows All m = true
+allows Named m = not (is_compiler_controlled m.flags)
 allows Virtual m = m.flags / 0x40 % 2 == 1
 allows PublicVirtual m = m.flags % 8 == 6 && m.flags / 0x40 % 2 == 1
 
@@ -42,12 +42,12 @@ abbrev pub fits_at : {A : Type 0} → (A → Bool) → Option A → Bool
 fits_at test None = false
 fits_at test (Some x) = test x
 
--- whether the member in a row has the signature
+-- whether the member in a row counts and has the signature
 unfoldable pub fits : List AsmRec → ℕ → AsmRec → List TypeExpr → Wanted → ℕ → Bool
 fits recs a rec targs (Method among wanted) k =
     fits_at (λ (m : MethodDefRow). allows among m && is_method_type targs wanted (known_then (method_type (names_at recs a rec)) m.signature)) (slice_get rec.method_def k)
 fits recs a rec targs (Field wanted) k =
-    fits_at (λ (f : FieldRow). is_field_type targs wanted (known_then (sig_expr (names_at recs a rec)) f.signature)) (slice_get rec.field k)
+    fits_at (λ (f : FieldRow). not (is_compiler_controlled f.flags) && is_field_type targs wanted (known_then (sig_expr (names_at recs a rec)) f.signature)) (slice_get rec.field k)
 
 -- a method of this name and signature that counts, where the type has these arguments
 abbrev pub is_allowed : List AsmRec → ℕ → AsmRec → List TypeExpr → List ℕ → Among → MethodType → MethodDefRow → Bool

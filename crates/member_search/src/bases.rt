@@ -1,15 +1,17 @@
 ghost use Rattle.std.specs.Prelude.{◌≡◌, IfOk};
 ghost use Rattle.std.specs.Option.{option_and_then, option_copied};
-ghost use Rattle.link_rules.specs.Members.{array_type, owner_of, args_of, type_home, base_at, base_of};
+ghost use Rattle.link_rules.specs.Members.{array_type, owner_of, args_of, type_home, is_named, is_interface_row, base_at, base_of};
+ghost use Rattle.link_rules.specs.Cycles.{is_interface_at, is_interface};
 ghost use Rattle.member_search.specs.Linked.{IsLinked};
 
 use crate::homes::type_home;
 use crate::linked::{Linked, Scope, assembly_at};
 use core_table::ARRAY;
+use il_base::type_flags::INTERFACE;
 use il_base::{NoMemory, TypeId};
 use link_rules::RowAt;
 use std::alloc::Global;
-use world_model::{AsmRec, TypeExpr, index_in, prim_type, type_id};
+use world_model::{AsmRec, TypeDefRow, TypeExpr, index_in, prim_type, type_id};
 
 /// The type System.Array of the core library.
 pub fn array_type(all: &[AsmRec]) -> Result<Option<TypeId>, NoMemory>
@@ -72,14 +74,64 @@ pub fn definition(all: &[AsmRec], ty: &TypeExpr) -> Result<Option<RowAt>, NoMemo
     }
 }
 
-/// The base of a type definition, as its row names it.
+/// Interface, of a type's flags (II.23.1.15).
+fn is_interface_row(row: &TypeDefRow) -> bool
+    ensures { result ≡ is_interface_row row.now }
+{
+    row.flags / INTERFACE % 2 == 1
+}
+
+/// Whether a type definition is an interface.
+pub fn is_interface_at(all: &[AsmRec], at: RowAt) -> bool
+    ensures { result ≡ is_interface_at all.now at }
+{
+    match assembly_at(all, at.asm) {
+        Some(rec) => match rec.type_def.get(at.row as usize) {
+            Some(row) => is_interface_row(row),
+            None => false,
+        },
+        None => false,
+    }
+}
+
+/// Whether a type is an interface, alone or with arguments.
+#[tactic(auto, unfolding(link_rules::specs::Cycles::is_interface))]
+pub fn is_interface(all: &[AsmRec], ty: &TypeExpr) -> Result<bool, NoMemory>
+    ensures { IfOk result (λ is. is ≡ is_interface all.now ty.now) }
+{
+    match definition(all, ty) {
+        Ok(Some(at)) => Ok(is_interface_at(all, at)),
+        Ok(None) => Ok(false),
+        Err(error) => Err(error),
+    }
+}
+
+/// Whether this is a class or an interface, alone or with arguments: what a base can be.
+#[tactic(auto, unfolding(link_rules::specs::Members::is_named))]
+fn is_named(ty: &TypeExpr) -> bool
+    ensures { result ≡ is_named ty.now }
+{
+    match ty {
+        TypeExpr::Prim(_) => true,
+        TypeExpr::Def(_) => true,
+        TypeExpr::Inst(_, _) => true,
+        TypeExpr::Array(_) => false,
+        TypeExpr::ByRef(_) => false,
+        TypeExpr::Var(_) => false,
+        TypeExpr::MVar(_) => false,
+        TypeExpr::Mod { .. } => false,
+    }
+}
+
+/// The base that the row of a class names: a class or an interface, alone or with arguments. An interface has none,
+/// whatever its row names (II.22.37).
 pub fn base_at<'a>(linked: &Linked<'a>, at: RowAt) -> Option<&'a TypeExpr>
     requires { IsLinked linked.now }
     ensures { option_copied result ≡ base_at linked.now.all.now at }
 {
     let rec = assembly_at(linked.all, at.asm)?;
     let row = rec.type_def.get(at.row as usize)?;
-    if row.extends == 0 {
+    if row.extends == 0 || is_interface_row(row) {
         return None;
     }
     let scope = Scope {
@@ -88,7 +140,8 @@ pub fn base_at<'a>(linked: &Linked<'a>, at: RowAt) -> Option<&'a TypeExpr>
         rec,
     };
     match scope.token_type(row.extends) {
-        Ok(base) => Some(base),
+        Ok(base) if is_named(base) => Some(base),
+        Ok(_) => None,
         Err(_) => None,
     }
 }

@@ -1,7 +1,7 @@
 ghost use Rattle.std.specs.Prelude.{◌≡◌, IfOk};
 ghost use Rattle.world_model.specs.Worlds.{known_then, sig_expr};
 ghost use Rattle.link_rules.specs.Signatures.{names_at, method_type};
-ghost use Rattle.link_rules.specs.Members.{is_method_type, is_field_type};
+ghost use Rattle.link_rules.specs.Members.{is_compiler_controlled, is_method_type, is_field_type};
 ghost use Rattle.member_search.specs.Names.{first_fitting, AreNames};
 ghost use Rattle.member_search.specs.Linked.{IsLinked, IsScope};
 ghost use Rattle.member_search.specs.Wanted.{allows, run_in, rows_named, fits, member_in, member_at, look_for};
@@ -11,6 +11,7 @@ use crate::linked::{Linked, Scope, assembly_at};
 use crate::method_types::{method_type, same_method_type, sig_type};
 use crate::names::{Names, first_from, rows_at};
 use crate::owners::Run;
+use il_base::method_flags::COMPILER_CONTROLLED;
 use il_base::{MethodSig, NoMemory, Sig};
 use link_rules::{MethodType, RowAt};
 use std::alloc::Global;
@@ -19,7 +20,8 @@ use world_model::{Known, MethodDefRow, TypeDefRow, TypeExpr};
 /// Among which methods of a type one is looked for (II.23.1.10).
 #[derive(Clone, Copy, Debug, PartialEq, Eq)]
 pub enum Among {
-    All,
+    /// Those that a reference can name: all but compiler-controlled ones.
+    Named,
     Virtual,
     PublicVirtual,
 }
@@ -31,12 +33,19 @@ pub enum Wanted {
     Field(TypeExpr),
 }
 
+/// CompilerControlled, of a member's flags: no reference names such a member (II.23.1.5, II.23.1.10).
+fn is_compiler_controlled(flags: u16) -> bool
+    ensures { result ≡ is_compiler_controlled flags }
+{
+    flags % 8 == COMPILER_CONTROLLED
+}
+
 /// Whether a method counts.
 fn allows(among: Among, row: &MethodDefRow) -> bool
     ensures { result ≡ allows among row.now }
 {
     match among {
-        Among::All => true,
+        Among::Named => !is_compiler_controlled(row.flags),
         Among::Virtual => row.flags / 0x40 % 2 == 1,
         Among::PublicVirtual => row.flags % 8 == 6 && row.flags / 0x40 % 2 == 1,
     }
@@ -110,7 +119,7 @@ fn is_field_type(
     }
 }
 
-/// Whether the member in a row, from 0, has this signature where its type has these arguments.
+/// Whether the member in a row, from 0, counts and has this signature where its type has these arguments.
 #[tactic(auto, unfolding(crate::specs::Wanted::fits))]
 fn fits(
     alloc: Global,
@@ -131,7 +140,10 @@ fn fits(
             None => Ok(false),
         },
         Wanted::Field(wanted) => match scope.rec.field.get(k as usize) {
-            Some(row) => is_field_type(alloc, scope, targs, wanted, &row.signature),
+            Some(row) if !is_compiler_controlled(row.flags) => {
+                is_field_type(alloc, scope, targs, wanted, &row.signature)
+            }
+            Some(_) => Ok(false),
             None => Ok(false),
         },
     }

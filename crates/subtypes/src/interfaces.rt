@@ -1,57 +1,56 @@
 //! The interfaces that the rows of a type name (II.22.23).
 
-ghost use Rattle.std.specs.Prelude.{◌≡◌, ◌++◌, ◌∷◌, [], slice_get, IfOk, OnOk};
+ghost use Rattle.std.specs.Prelude.{◌≡◌, ◌++◌, ◌∷◌, [], Some, slice_get, IfOk, OnOk};
 ghost use Rattle.std.specs.Option.{option_map_or};
 ghost use Rattle.link_rules.specs.Types.{at_row};
-ghost use Rattle.link_rules.specs.Cycles.{interfaces_in, interfaces_at};
-ghost use Rattle.type_rules.specs.Subtypes.{is_named, interfaces_of};
+ghost use Rattle.link_rules.specs.Cycles.{only_interface, interfaces_in, interfaces_at};
+ghost use Rattle.type_rules.specs.Subtypes.{interfaces_of};
 ghost use Rattle.member_search.specs.Linked.{IsScope};
 ghost use Rattle.type_tables.specs.Tables.{AreRowTables, IsTables};
-ghost use Rattle.subtypes.specs.Named.{named_by, row_interface};
+ghost use Rattle.subtypes.specs.Named.{with_args, row_interface};
 
 use il_base::NoMemory;
 use link_rules::RowAt;
-use member_search::bases::{args_of, definition};
+use member_search::bases::{args_of, definition, is_interface};
 use member_search::linked::Scope;
 use member_search::params::token_of;
 use std::alloc::Global;
 use type_tables::tables::{Rows, Tables};
-use world_model::TypeExpr;
+use world_model::{AsmRec, TypeExpr};
 
-/// Whether this is a class or an interface, alone or with arguments: what a base or an interface can be.
-#[tactic(auto, unfolding(type_rules::specs::Subtypes::is_named))]
-fn is_named(ty: &TypeExpr) -> bool
-    ensures { result ≡ is_named ty.now }
-{
-    match ty {
-        TypeExpr::Prim(_) => true,
-        TypeExpr::Def(_) => true,
-        TypeExpr::Inst(_, _) => true,
-        TypeExpr::Array(_) => false,
-        TypeExpr::ByRef(_) => false,
-        TypeExpr::Var(_) => false,
-        TypeExpr::MVar(_) => false,
-        TypeExpr::Mod { .. } => false,
-    }
-}
-
-/// Puts such a type at the end, with these arguments put in; any other adds nothing.
-pub(crate) fn add_named(
+/// Puts a type at the end, with these arguments put in.
+pub(crate) fn add_type(
     alloc: Global,
     args: &[TypeExpr],
     ty: &TypeExpr,
     found: &mut Vec<TypeExpr>,
 ) -> Result<(), NoMemory>
-    ensures { OnOk result (found.new.items ≡ found.old.items ++ named_by args.now (ty.now ∷ [])) }
+    ensures { OnOk result (found.new.items ≡ found.old.items ++ with_args args.now (ty.now ∷ [])) }
 {
-    if is_named(ty) {
-        let made = ty.subst(alloc, args, &[])?;
-        found.push(made)?;
+    let made = ty.subst(alloc, args, &[])?;
+    found.push(made)?;
+    Ok(())
+}
+
+/// Puts an interface at the end, with these arguments put in; any other type adds nothing.
+fn add_if_interface(
+    alloc: Global,
+    all: &[AsmRec],
+    args: &[TypeExpr],
+    ty: &TypeExpr,
+    found: &mut Vec<TypeExpr>,
+) -> Result<(), NoMemory>
+    ensures { OnOk result (found.new.items ≡ found.old.items ++ with_args args.now (only_interface all.now (Some ty.now))) }
+{
+    let is = is_interface(all, ty)?;
+    if is {
+        add_type(alloc, args, ty, found)?;
     }
     Ok(())
 }
 
-/// Puts the interface that a row, from 0, names at the end, with these arguments put in.
+/// Puts the interface that a row, from 0, names at the end, with these arguments put in. A row that names something else
+/// adds nothing.
 fn add_interface(
     alloc: Global,
     scope: &Scope<'_>,
@@ -66,7 +65,7 @@ fn add_interface(
         return Ok(());
     };
     match scope.token_type(row.interface) {
-        Ok(ty) => add_named(alloc, args, ty, found),
+        Ok(ty) => add_if_interface(alloc, scope.linked.all, args, ty, found),
         Err(_) => Ok(()),
     }
 }
@@ -81,7 +80,7 @@ fn add_row_interfaces(
 ) -> Result<(), NoMemory>
     requires scope { IsScope rows.now.scope }
     requires tables { AreRowTables rows.now.scope.rec.now rows.now.tables.now }
-    ensures { OnOk result (found.new.items ≡ found.old.items ++ named_by args.now (interfaces_in rows.now.scope.linked.all.now (at_row rows.now.scope.asm row) rows.now.scope.rec.now)) }
+    ensures { OnOk result (found.new.items ≡ found.old.items ++ with_args args.now (interfaces_in rows.now.scope.linked.all.now (at_row rows.now.scope.asm row) rows.now.scope.rec.now)) }
 {
     let token = token_of(0x02, row as usize)?;
     for k in rows.tables.interfaces.rows_with(token) {
@@ -100,7 +99,7 @@ pub(crate) fn add_interfaces(
     found: &mut Vec<TypeExpr>,
 ) -> Result<(), NoMemory>
     requires { IsTables tables.now }
-    ensures { OnOk result (found.new.items ≡ found.old.items ++ named_by args.now (interfaces_at tables.now.world.now.recs at)) }
+    ensures { OnOk result (found.new.items ≡ found.old.items ++ with_args args.now (interfaces_at tables.now.world.now.recs at)) }
 {
     match tables.rows_at(at.asm) {
         Some(rows) => add_row_interfaces(alloc, &rows, args, at.row, found),

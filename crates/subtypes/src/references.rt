@@ -10,6 +10,7 @@ ghost use Rattle.type_tables.specs.Tables.{IsTables};
 
 use core_table::{ENUM, VALUE_TYPE};
 use il_base::NoMemory;
+use il_base::element::{OBJECT, STRING};
 use link_rules::RowAt;
 use member_search::bases::{base_at, definition};
 use type_tables::tables::Tables;
@@ -81,7 +82,7 @@ pub fn is_reference(tables: &Tables<'_>, ty: &TypeExpr) -> Result<bool, NoMemory
     ensures { IfOk result (λ is. is ≡ is_reference tables.now.world.now.recs ty.now) }
 {
     match ty {
-        TypeExpr::Prim(code) => Ok(*code == 0x0e || *code == 0x1c),
+        TypeExpr::Prim(code) => Ok(*code == STRING || *code == OBJECT),
         TypeExpr::Def(_) => is_class(tables, ty),
         TypeExpr::Inst(_, _) => is_class(tables, ty),
         TypeExpr::Array(_) => Ok(true),

@@ -82,7 +82,7 @@ fn is_below(
 
 /// Whether a value of the first type can stand where one of the second is wanted: they are one, the second is a base or an
 /// interface of the first or of one of these, or both are arrays and the first one's element is a reference type that can
-/// stand for the second one's (I.8.7). An array can stand for System.Array.
+/// stand for the second one's (I.8.7). An array can stand for System.Array, an interface for System.Object.
 pub fn is_subtype(
     alloc: Global,
     tables: &Tables<'_>,

@@ -1,18 +1,19 @@
-//! One step up from a type: its base and its interfaces (I.8.7).
+//! One step up from a type: its base and its interfaces; System.Object from an interface (I.8.7).
 
 ghost use Rattle.std.specs.Prelude.{◌≡◌, ◌++◌, IfOk, OnOk};
 ghost use Rattle.std.specs.Option.{option_map};
 ghost use Rattle.world_model.specs.declared.expr.TypeExpr as expr;
 ghost use Rattle.link_rules.specs.Members.{array_type, base_at};
 ghost use Rattle.link_rules.specs.Cycles.{listed, interfaces_at};
-ghost use Rattle.type_rules.specs.Subtypes.{bases_of, interfaces_of, up};
+ghost use Rattle.type_rules.specs.Subtypes.{bases_of, interfaces_of, object_above, up};
 ghost use Rattle.type_tables.specs.Tables.{IsTables};
-ghost use Rattle.subtypes.specs.Named.{named_by};
+ghost use Rattle.subtypes.specs.Named.{with_args};
 
-use crate::interfaces::{add_interfaces, add_named};
+use crate::interfaces::{add_interfaces, add_type};
 use il_base::NoMemory;
+use il_base::element::OBJECT;
 use link_rules::RowAt;
-use member_search::bases::{args_of, array_type, base_at, definition};
+use member_search::bases::{args_of, array_type, base_at, definition, is_interface};
 use std::alloc::Global;
 use type_tables::tables::Tables;
 use world_model::{AsmRec, TypeExpr};
@@ -26,11 +27,11 @@ fn add_base(
     found: &mut Vec<TypeExpr>,
 ) -> Result<(), NoMemory>
     requires { IsTables tables.now }
-    ensures { OnOk result (found.new.items ≡ found.old.items ++ named_by args.now (listed (base_at tables.now.world.now.recs at))) }
+    ensures { OnOk result (found.new.items ≡ found.old.items ++ with_args args.now (listed (base_at tables.now.world.now.recs at))) }
 {
     let linked = tables.linked();
     match base_at(&linked, at) {
-        Some(base) => add_named(alloc, args, base, found),
+        Some(base) => add_type(alloc, args, base, found),
         None => Ok(()),
     }
 }
@@ -44,7 +45,7 @@ fn add_supertypes_of_row(
     found: &mut Vec<TypeExpr>,
 ) -> Result<(), NoMemory>
     requires { IsTables tables.now }
-    ensures { OnOk result (found.new.items ≡ found.old.items ++ (named_by args.now (listed (base_at tables.now.world.now.recs at)) ++ named_by args.now (interfaces_at tables.now.world.now.recs at))) }
+    ensures { OnOk result (found.new.items ≡ found.old.items ++ (with_args args.now (listed (base_at tables.now.world.now.recs at)) ++ with_args args.now (interfaces_at tables.now.world.now.recs at))) }
 {
     add_base(alloc, tables, args, at, found)?;
     add_interfaces(alloc, tables, args, at, found)?;
@@ -69,6 +70,32 @@ fn add_supertypes_of_type(
     }
 }
 
+/// Puts System.Object at the end where a type is an interface.
+fn add_object(all: &[AsmRec], ty: &TypeExpr, found: &mut Vec<TypeExpr>) -> Result<(), NoMemory>
+    ensures { OnOk result (found.new.items ≡ found.old.items ++ object_above all.now ty.now) }
+{
+    let is = is_interface(all, ty)?;
+    if is {
+        found.push(TypeExpr::Prim(OBJECT))?;
+    }
+    Ok(())
+}
+
+/// Puts the base and the interfaces of a type at the end, then System.Object where it is an interface.
+fn add_supertypes(
+    alloc: Global,
+    tables: &Tables<'_>,
+    ty: &TypeExpr,
+    found: &mut Vec<TypeExpr>,
+) -> Result<(), NoMemory>
+    requires { IsTables tables.now }
+    ensures { OnOk result (found.new.items ≡ found.old.items ++ (bases_of tables.now.world.now.recs ty.now ++ (interfaces_of tables.now.world.now.recs ty.now ++ object_above tables.now.world.now.recs ty.now))) }
+{
+    add_supertypes_of_type(alloc, tables, ty, found)?;
+    add_object(tables.world.recs.as_slice(), ty, found)?;
+    Ok(())
+}
+
 /// Puts System.Array at the end.
 fn add_array(all: &[AsmRec], found: &mut Vec<TypeExpr>) -> Result<(), NoMemory>
     ensures { OnOk result (found.new.items ≡ found.old.items ++ listed (option_map (λ t. expr.Def t) (array_type all.now))) }
@@ -83,7 +110,8 @@ fn add_array(all: &[AsmRec], found: &mut Vec<TypeExpr>) -> Result<(), NoMemory>
     }
 }
 
-/// Puts what is one step above a type at the end: its base, then its interfaces; System.Array for an array.
+/// Puts what is one step above a type at the end: its base, then its interfaces; System.Object for an interface,
+/// System.Array for an array.
 #[tactic(auto, unfolding(type_rules::specs::Subtypes::up))]
 pub(crate) fn add_up(
     alloc: Global,
@@ -96,18 +124,18 @@ pub(crate) fn add_up(
 {
     match ty {
         TypeExpr::Array(_) => add_array(tables.world.recs.as_slice(), found),
-        TypeExpr::Prim(_) => add_supertypes_of_type(alloc, tables, ty, found),
-        TypeExpr::Def(_) => add_supertypes_of_type(alloc, tables, ty, found),
-        TypeExpr::Inst(_, _) => add_supertypes_of_type(alloc, tables, ty, found),
-        TypeExpr::ByRef(_) => add_supertypes_of_type(alloc, tables, ty, found),
-        TypeExpr::Var(_) => add_supertypes_of_type(alloc, tables, ty, found),
-        TypeExpr::MVar(_) => add_supertypes_of_type(alloc, tables, ty, found),
-        TypeExpr::Mod { .. } => add_supertypes_of_type(alloc, tables, ty, found),
+        TypeExpr::Prim(_) => add_supertypes(alloc, tables, ty, found),
+        TypeExpr::Def(_) => add_supertypes(alloc, tables, ty, found),
+        TypeExpr::Inst(_, _) => add_supertypes(alloc, tables, ty, found),
+        TypeExpr::ByRef(_) => add_supertypes(alloc, tables, ty, found),
+        TypeExpr::Var(_) => add_supertypes(alloc, tables, ty, found),
+        TypeExpr::MVar(_) => add_supertypes(alloc, tables, ty, found),
+        TypeExpr::Mod { .. } => add_supertypes(alloc, tables, ty, found),
     }
 }
 
-/// What is one step above a type: its base, then its interfaces, with the type's arguments put in; System.Array for an
-/// array.
+/// What is one step above a type: its base, then its interfaces, with the type's arguments put in; for an interface
+/// System.Object after these, for an array System.Array.
 pub fn up(alloc: Global, tables: &Tables<'_>, ty: &TypeExpr) -> Result<Vec<TypeExpr>, NoMemory>
     requires { IsTables tables.now }
     ensures { IfOk result (λ found. found.items ≡ up tables.now.world.now.recs ty.now) }

@@ -13,7 +13,8 @@ use Rattle.core_table.specs.declared.tokens.TheConstants.{OBJECT, VALUE_TYPE, EX
 use Rattle.core_table.specs.Names.{text_of}
 use Rattle.core_table.specs.Record.{core_record, record_with, type_rows, type_row}
 use Rattle.link_rules.specs.declared.core_type_name.CoreTypeName.{CoreTypeName}
-use Rattle.link_rules.specs.CoreNames.{added_type, core_with}
+use Rattle.link_rules.specs.Members.{is_interface_row}
+use Rattle.link_rules.specs.CoreNames.{added_row, core_with}
 
 -- a base at a lower level
 abbrev bases : List ℕ
@@ -72,7 +73,7 @@ module _ (names : List CoreTypeName) where
   core = core_with core_record names
 
   abbrev added : List TypeDefRow
-  added = map (added_type core_record) names
+  added = map (added_row core_record) names
 
   rows_are : core.type_def ≡ core_record.type_def ++ added
   unfolding core_with
@@ -82,7 +83,7 @@ module _ (names : List CoreTypeName) where
   unfolding core_with core_record record_with
   no_interfaces = refl
 
-  added_right : (xs : List CoreTypeName) → list_all (is_right_row core_record.type_def) (map (added_type core_record) xs) ≡ true
+  added_right : (xs : List CoreTypeName) → list_all (is_right_row core_record.type_def) (map (added_row core_record) xs) ≡ true
   added_right [] = refl
   added_right (x ∷ xs) = added_right xs
 
@@ -109,15 +110,26 @@ module _ (names : List CoreTypeName) where
       let g : nat_lt 1 (length rows) ≡ true = lt-ltb 1 (length rows) (omega (arith, f)) in
       rw (e, g) refl
 
-  record Object : Type 0 where
-    row : TypeDefRow
-    there : slice_get core.type_def 1 ≡ Some row
-    prim : prim_of row ≡ Some 0x1c
-    base : row.extends ≡ 0
+  pub record Object : Type 0 where
+    pub row : TypeDefRow
+    pub there : slice_get core.type_def 1 ≡ Some row
+    pub prim : prim_of row ≡ Some 0x1c
+    pub base : row.extends ≡ 0
+    pub class : is_interface_row row ≡ false
 
-  object_row : Object
+  pub object_row : Object
   unfolding core_with core_record record_with type_rows type_row text_of prim_of prims
-  object_row = record { row = _; there = refl; prim = refl; base = refl }
+  object_row = record { row = _; there = refl; prim = refl; base = refl; class = refl }
+
+  -- System.Array
+  pub record ArrayRow : Type 0 where
+    pub row : TypeDefRow
+    pub there : slice_get core.type_def 21 ≡ Some row
+    pub class : is_interface_row row ≡ false
+
+  pub array_row : ArrayRow
+  unfolding core_with core_record record_with type_rows type_row text_of
+  array_row = record { row = _; there = refl; class = refl }
 
   lowest : level 0 < level OBJECT
   unfolding level
@@ -126,7 +138,7 @@ module _ (names : List CoreTypeName) where
   some_same : (n m : ℕ) (o : Option ℕ) → o ≡ Some n → o ≡ Some m → n ≡ m
   some_same n m o e f = let g : Some n ≡ Some m = sym e ∙ f in cc
 
-  object_first : (n : ℕ) → prim_of object_row.row ≡ Some n → position (is_code_of n) core.type_def ≡ Some 1
+  pub object_first : (n : ℕ) → prim_of object_row.row ≡ Some n → position (is_code_of n) core.type_def ≡ Some 1
   object_first n e =
       let f : 0x1c ≡ n = some_same 0x1c n (prim_of object_row.row) object_row.prim e in
       subst (λ (m : ℕ). position (is_code_of m) core.type_def ≡ Some 1) f (first_at (is_code_of 0x1c) core.type_def (length added) first_prim long_types)

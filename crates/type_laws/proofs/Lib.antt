@@ -2,9 +2,10 @@ pub mod Uses
 pub mod Within
 pub mod Reaching
 pub mod Bounded
-pub mod Upwards
-pub mod CoreRows
 pub mod Places
+pub mod Upwards
+pub mod Rising
+pub mod CoreRows
 pub mod CoreHomes
 pub mod Ways
 pub mod Subtypes

@@ -1,13 +1,23 @@
 -- Definitions of types by their ids: where each stands.
-use Rattle.std.proofs.Common.{◌≡◌, ℕ, zero, suc, ◌+◌, ◌-◌, ◌<◌, Bool, true, false, nat_lt, List, [], ◌∷◌, length, Some, refl, sym, ap, subst, ◌∙◌, arith}
+use Rattle.std.proofs.Common.{◌≡◌, ℕ, zero, suc, ◌+◌, ◌-◌, ◌<◌, Bool, true, false, nat_eq, nat_lt, List, [], ◌∷◌, length, Some, refl, sym, ap, subst, ◌∙◌, arith}
 use Rattle.std.specs.Prelude.{if◌then◌else◌, slice_get}
-use Rattle.std.proofs.lemmas.Bool.{lt-ltb, le-ltb, ltb-true, ltb-false}
+use Rattle.std.specs.Bool.{Decides}
+use Rattle.std.proofs.lemmas.Bool.{lt-ltb, le-ltb, ltb-true, ltb-false, and_parts, and_from, eqb-true, eq-eqb}
 use Rattle.il_base.specs.declared.ids.TypeId.{TypeId}
 use Rattle.world_model.specs.declared.record.AsmRec.{AsmRec}
 use Rattle.world_model.specs.Worlds.{rows_before, types_in}
 use Rattle.link_rules.specs.declared.row_at.RowAt.{RowAt}
 use Rattle.link_rules.specs.Types.{at_row}
+use Rattle.link_rules.specs.Cycles.{same_row}
 use Rattle.link_rules.specs.Members.{home_from, type_home, type_count}
+
+pub rows_decide : (x y : RowAt) → Decides (same_row x y) (x ≡ y)
+rows_decide x y = (
+  λ h.
+      let p = and_parts (nat_eq x.asm y.asm) (nat_eq x.row y.row) h in
+      λ i. at_row (eqb-true x.asm y.asm p.0 i) (eqb-true x.row y.row p.1 i),
+  λ h. and_from (nat_eq x.asm y.asm) (nat_eq x.row y.row) (eq-eqb x.asm y.asm (ap (λ (r : RowAt). r.asm) h)) (eq-eqb x.row y.row (ap (λ (r : RowAt). r.row) h)),
+)
 
 pub home_at : (recs : List AsmRec) (i a k : ℕ) (rec : AsmRec) → slice_get recs a ≡ Some rec → k < length rec.type_def
     → home_from types_in i recs (rows_before types_in recs a + k) ≡ Some (at_row (i + a) k)

@@ -9,14 +9,15 @@ use Rattle.world_model.specs.declared.record.AsmRec.{AsmRec}
 use Rattle.world_model.specs.Exprs.{levels, same_expr}
 use Rattle.world_model.proofs.ExprLayers.{levels_array}
 use Rattle.world_model.proofs.SameExpr.{same_decides}
+use Rattle.link_rules.specs.Members.{is_named_in, is_named}
 use Rattle.link_rules.specs.Linked.{assemblies, link_fault_of}
-use Rattle.type_rules.specs.Subtypes.{is_named_in, is_named, up_in, up, is_reference, IsSubtype, leads_up, element_in, element_of, are_elements, is_below, is_subtype}
+use Rattle.type_rules.specs.Subtypes.{up_in, up, is_reference, IsSubtype, leads_up, element_in, element_of, are_elements, is_below, is_subtype}
 use Rattle.type_rules.specs.Subtypes as sub
 use Rattle.type_laws.specs.Decisions.{SubtypeDecides}
 use Rattle.type_laws.proofs.Within.{In, in_any, any_in}
 use Rattle.type_laws.proofs.Reaching.{Leads}
-use Rattle.type_laws.proofs.Upwards.{out_is, up_named}
-use Rattle.type_laws.proofs.Ways.{up_found, way}
+use Rattle.type_laws.proofs.Upwards.{out_is}
+use Rattle.type_laws.proofs.Ways.{up_all_named, up_found, way}
 
 -- ---- elements of arrays
 
@@ -164,7 +165,7 @@ module _ (inputs : List AsmRec) (sound : link_fault_of inputs ≡ None) where
   step_found : (a b d : TypeExpr) → list_any (same_expr b) (up all a) ≡ true → is_subtype all b d ≡ true → is_subtype all a d ≡ true
   step_found a b d is h =
       let i = in_any same_expr same_decides b (up all a) is in
-      let w = way all b d (named_below all (levels b) b d (up_named all a b i) h) in
+      let w = way all b d (named_below all (levels b) b d (up_all_named inputs sound a b i) h) in
       led_found (suc w.steps) a d (b, i, w.leads)
 
   array_way : (x y d : TypeExpr) (k : ℕ) → Leads (up all) k (expr.Array y) d → is_reference all x ≡ true → ((e : TypeExpr) → is_subtype all y e ≡ true → is_subtype all x e ≡ true)

@@ -1,12 +1,12 @@
 -- In a linked world a way up passes each definition once, so the search finds its end.
-use Rattle.std.proofs.Common.{◌≡◌, ℕ, zero, suc, ◌+◌, ◌<◌, ◌≤◌, Bool, true, false, nat_eq, List, [], ◌∷◌, ◌++◌, length, Option, Some, None, ◌⊎◌, inl, inr, refl, sym, ap, subst, ◌∙◌, arith}
-use Rattle.std.specs.Prelude.{slice_get, if◌then◌else◌}
-use Rattle.std.specs.Bool.{Decides}
+use Rattle.std.proofs.Common.{◌≡◌, ℕ, zero, suc, ◌+◌, ◌<◌, ◌≤◌, Bool, true, false, List, [], ◌∷◌, ◌++◌, length, Option, Some, None, ◌⊎◌, inl, inr, refl, sym, ap, subst, ◌∙◌, arith}
+use Rattle.std.specs.Prelude.{slice_get, ◌||◌, if◌then◌else◌}
 use Rattle.std.specs.Option.{option_and_then}
-use Rattle.std.proofs.lemmas.Bool.{and_parts, and_from, or_parts, eqb-true, eq-eqb, cases_lt, true≢false}
+use Rattle.std.proofs.lemmas.Bool.{or_parts, cases_lt, true≢false}
 use Rattle.std.proofs.lemmas.List.{length-append}
 use Rattle.il_base.specs.declared.ids.TypeId.{TypeId}
 use Rattle.world_model.specs.declared.expr.TypeExpr.{TypeExpr}
+use Rattle.world_model.specs.declared.expr.TypeExpr.TheVariants as expr
 use Rattle.world_model.specs.declared.types.TypeDefRow.{TypeDefRow}
 use Rattle.world_model.specs.declared.record.AsmRec.{AsmRec}
 use Rattle.world_model.specs.Exprs.{same_expr}
@@ -16,26 +16,28 @@ use Rattle.link_rules.specs.declared.link_error.LinkError.{LinkError}
 use Rattle.link_rules.specs.declared.row_at.RowAt.{RowAt}
 use Rattle.link_rules.specs.CoreNames.{missing_names, core_with}
 use Rattle.link_rules.specs.Types.{or_else, at_row}
-use Rattle.link_rules.specs.Members.{type_home, owner_of, base_at, type_count}
-use Rattle.link_rules.specs.Cycles.{listed, is_on_cycle, same_row, home_of, interfaces_at, supertypes, field_values}
+use Rattle.link_rules.specs.declared.core_type_name.CoreTypeName.{CoreTypeName}
+use Rattle.link_rules.specs.Members.{type_home, owner_of, is_named, base_at, type_count}
+use Rattle.link_rules.specs.Cycles.{is_on_cycle, same_row, home_of, is_interface_at, is_interface, base_rows, interface_rows, field_values}
 use Rattle.link_rules.specs.Faults.{first_of, is_cyclic_type, cyclic_type, cyclic_types, duplicate_assembly, cyclic_nesting, duplicate_member, link_fault}
 use Rattle.link_rules.specs.Linked.{assemblies, link_fault_of}
 use Rattle.type_rules.specs.Subtypes.{up, above, leads_up}
-use Rattle.type_laws.proofs.Within.{In, in_any, any_in, in_listed, in_flat}
+use Rattle.type_laws.proofs.Within.{In, in_any, any_in}
 use Rattle.type_laws.proofs.Reaching.{Leads, Walks, walks, found, Led, led, cyclic}
 use Rattle.type_laws.proofs.Bounded.{no_walk}
-use Rattle.type_laws.proofs.Upwards.{up_named, homes}
+use Rattle.type_laws.proofs.Upwards.{ways, base_step, interface_step, up_named, homes}
+use Rattle.type_laws.proofs.Rising.{Step, step, no_round}
 use Rattle.type_laws.proofs.CoreRows.{place_front}
-use Rattle.type_laws.proofs.CoreHomes.{core_never}
-use Rattle.type_laws.proofs.Places.{IsType, id_of, id_below, one_by_id, home_is_type, TypeAt, type_at, place_within, place_has}
+use Rattle.type_laws.proofs.CoreHomes.{object_home, object_class, object_no_interface, object_no_base, array_class, no_base_cycle, no_interface_cycle}
+use Rattle.type_laws.proofs.Places.{rows_decide, IsType, id_of, id_below, one_by_id, home_is_type, TypeAt, type_at, place_within, place_has}
 
 -- ---- no fault
 
-none_first : {A : Type 0} (o p : Option A) → or_else o p ≡ None → o ≡ None
+pub none_first : {A : Type 0} (o p : Option A) → or_else o p ≡ None → o ≡ None
 none_first None p e = refl
 none_first (Some x) p e = e
 
-none_second : {A : Type 0} (o p : Option A) → or_else o p ≡ None → p ≡ None
+pub none_second : {A : Type 0} (o p : Option A) → or_else o p ≡ None → p ≡ None
 none_second None p e = e
 none_second (Some x) p e = cc
 
@@ -49,26 +51,21 @@ none_at look i (y ∷ xs) (suc k) x e is =
     let z : i + suc k ≡ suc i + k = omega arith in
     ap (λ (n : ℕ). look n x) z ∙ none_at look (suc i) xs k x (none_second (look i y) (first_of look (suc i) xs) e) is
 
-none_of : {A B : Type 0} (look : ℕ → A → Option B) (xs : List A) (k : ℕ) (x : A) → first_of look 0 xs ≡ None → slice_get xs k ≡ Some x → look k x ≡ None
+pub none_of : {A B : Type 0} (look : ℕ → A → Option B) (xs : List A) (k : ℕ) (x : A) → first_of look 0 xs ≡ None → slice_get xs k ≡ Some x → look k x ≡ None
 none_of look xs k x e is = let z : k ≡ 0 + k = omega arith in ap (λ (n : ℕ). look n x) z ∙ none_at look 0 xs k x e is
 
 not_some : (b : Bool) (x : LinkError) → (if b then Some x else None) ≡ None → b ≡ false
 not_some true x e = cc
 not_some false x e = refl
 
-rows_decide : (x y : RowAt) → Decides (same_row x y) (x ≡ y)
-rows_decide x y = (
-  λ h.
-      let p = and_parts (nat_eq x.asm y.asm) (nat_eq x.row y.row) h in
-      λ i. at_row (eqb-true x.asm y.asm p.0 i) (eqb-true x.row y.row p.1 i),
-  λ h. and_from (nat_eq x.asm y.asm) (nat_eq x.row y.row) (eq-eqb x.asm y.asm (ap (λ (r : RowAt). r.asm) h)) (eq-eqb x.row y.row (ap (λ (r : RowAt). r.row) h)),
-)
-
 -- ---- no definition leads to itself
 
 module _ (inputs : List AsmRec) (sound : link_fault_of inputs ≡ None) where
-  abbrev all : List AsmRec
+  abbrev pub all : List AsmRec
   all = assemblies inputs
+
+  abbrev names : List CoreTypeName
+  names = missing_names (inputs ++ core_record ∷ [])
 
   no_cycle : cyclic_types all inputs ≡ None
   unfolding link_fault
@@ -82,57 +79,118 @@ module _ (inputs : List AsmRec) (sound : link_fault_of inputs ≡ None) where
       not_some (is_cyclic_type all (at_row i k)) _
       (none_of (cyclic_type all i) rec.type_def k row (none_of (λ j (r : AsmRec). first_of (cyclic_type all j) 0 r.type_def) inputs i rec no_cycle e) f)
 
-  on_none : (i k : ℕ) (rec : AsmRec) (row : TypeDefRow) → slice_get inputs i ≡ Some rec → slice_get rec.type_def k ≡ Some row
-      → is_on_cycle same_row (supertypes all) (type_count all) (at_row i k) ≡ false
-  unfolding is_cyclic_type
-  on_none i k rec row e f =
-      (or_parts (is_on_cycle same_row (supertypes all) (type_count all) (at_row i k)) (is_on_cycle same_row (field_values all) (type_count all) (at_row i k)) (not_cyclic i k rec row e f)).0
+  record OnNone (at : RowAt) : Type 0 where
+    base : is_on_cycle same_row (base_rows all) (type_count all) at ≡ false
+    interface : is_on_cycle same_row (interface_rows all) (type_count all) at ≡ false
 
-  never_input : (n : ℕ) (x : RowAt) (rec : AsmRec) → slice_get inputs x.asm ≡ Some rec → x.row < length rec.type_def → n ≤ type_count all → Leads (supertypes all) (suc n) x x → ⊥
-  never_input n x rec e lt le l =
-      let row = place_has rec.type_def x.row lt in
-      true≢false (sym (cyclic same_row rows_decide (supertypes all) (type_count all) n x le l) ∙ on_none x.asm x.row rec row.0 e row.1)
+  on_none : (at : RowAt) → is_cyclic_type all at ≡ false → OnNone at
+  unfolding is_cyclic_type
+  on_none at h =
+      let b = is_on_cycle same_row (base_rows all) (type_count all) at in
+      let i = is_on_cycle same_row (interface_rows all) (type_count all) at in
+      let v = is_on_cycle same_row (field_values all) (type_count all) at in
+      let p = or_parts (b || i) v h in
+      let q = or_parts b i p.0 in
+      record { base = q.0; interface = q.1 }
+
+  input_none : (x : RowAt) (rec : AsmRec) → slice_get inputs x.asm ≡ Some rec → x.row < length rec.type_def → OnNone x
+  input_none x rec e lt = let row = place_has rec.type_def x.row lt in on_none x (not_cyclic x.asm x.row rec row.0 e row.1)
+
+  never_on : (next : RowAt → List RowAt) (n : ℕ) (x : RowAt) → is_on_cycle same_row next (type_count all) x ≡ false → n ≤ type_count all → Leads next (suc n) x x → ⊥
+  never_on next n x none le l = true≢false (sym (cyclic same_row rows_decide next (type_count all) n x le l) ∙ none)
 
   input_front : (a : ℕ) (rec : AsmRec) → slice_get inputs a ≡ Some rec → slice_get all a ≡ Some rec
   unfolding assemblies
-  input_front a rec e = place_front inputs (core_with core_record (missing_names core_record inputs) ∷ []) a rec e
-
-  never_core : (n : ℕ) (x : RowAt) → x.asm ≡ length inputs → Leads (supertypes all) (suc n) x x → ⊥
-  unfolding assemblies
-  never_core n x e l = core_never inputs (missing_names core_record inputs) n x e l
+  input_front a rec e = place_front inputs (core_with core_record names ∷ []) a rec e
 
   long : length all ≡ suc (length inputs)
   unfolding assemblies
-  long = length-append inputs (core_with core_record (missing_names core_record inputs) ∷ []) ∙ omega arith
+  long = length-append inputs (core_with core_record names ∷ []) ∙ omega arith
 
-  never_by : (n : ℕ) (x : RowAt) (at : TypeAt all x) → (x.asm < length inputs) ⊎ (length inputs ≤ x.asm) → n ≤ type_count all → Leads (supertypes all) (suc n) x x → ⊥
-  never_by n x at (inl lt) le l =
+  -- ---- the core library
+
+  core_bases : (n : ℕ) (x : RowAt) → x.asm ≡ length inputs → Leads (base_rows all) (suc n) x x → ⊥
+  unfolding assemblies
+  core_bases n x e l = no_base_cycle inputs names n x e l
+
+  core_interfaces : (n : ℕ) (x : RowAt) → x.asm ≡ length inputs → Leads (interface_rows all) (suc n) x x → ⊥
+  unfolding assemblies
+  core_interfaces n x e l = no_interface_cycle inputs names n x e l
+
+  -- System.Object's definition
+  abbrev pub top : RowAt
+  top = at_row (length inputs) 1
+
+  pub top_home : home_of all (expr.Prim 0x1c) ≡ Some top
+  unfolding assemblies
+  top_home = object_home inputs names
+
+  pub top_class : is_interface_at all top ≡ false
+  unfolding assemblies
+  top_class = object_class inputs names
+
+  pub top_base : base_at all top ≡ None
+  unfolding assemblies
+  top_base = object_no_base inputs names
+
+  pub top_interfaces : interface_rows all top ≡ []
+  unfolding assemblies
+  top_interfaces = object_no_interface inputs names
+
+  pub arrays : (x : TypeExpr) → is_interface all (expr.Array x) ≡ false
+  unfolding assemblies
+  arrays x = array_class inputs names x
+
+  -- ---- no definition comes back to itself
+
+  never_by : (n : ℕ) (x : RowAt) (at : TypeAt all x) → (x.asm < length inputs) ⊎ (length inputs ≤ x.asm) → n ≤ type_count all
+      → (Leads (base_rows all) (suc n) x x → ⊥) × (Leads (interface_rows all) (suc n) x x → ⊥)
+  never_by n x at (inl lt) le =
       let rec = place_has inputs x.asm lt in
       let same : Some at.rec ≡ Some rec.0 = sym at.there ∙ input_front x.asm rec.0 rec.1 in
       let is : at.rec ≡ rec.0 = cc in
       let below : x.row < length at.rec.type_def = at.below in
-      never_input n x rec.0 rec.1 (subst (λ (r : AsmRec). x.row < length r.type_def) is below) le l
-  never_by n x at (inr ge) le l =
+      let none = input_none x rec.0 rec.1 (subst (λ (r : AsmRec). x.row < length r.type_def) is below) in
+      (never_on (base_rows all) n x none.base le, never_on (interface_rows all) n x none.interface le)
+  never_by n x at (inr ge) le =
       let lt = place_within all x.asm at.rec at.there in
-      never_core n x (omega (arith, long, lt, ge)) l
+      let is : x.asm ≡ length inputs = omega (arith, long, lt, ge) in
+      (core_bases n x is, core_interfaces n x is)
 
-  never : (n : ℕ) (x : RowAt) → IsType all x → n ≤ type_count all → Leads (supertypes all) (suc n) x x → ⊥
-  never n x p le l = never_by n x (type_at all x p) (cases_lt x.asm (length inputs)) le l
+  pub never : (n : ℕ) (x : RowAt) → IsType all x → n ≤ type_count all → Leads (ways all top) (suc n) x x → ⊥
+  never n x p le l =
+      let v = never_by n x (type_at all x p) (cases_lt x.asm (length inputs)) le in
+      no_round all top top_class top_base top_interfaces n x v.0 v.1 l
 
   home_type : (o : Option TypeId) (at : RowAt) → option_and_then (type_home all) o ≡ Some at → IsType all at
   home_type None at e = cc
   home_type (Some t) at e = home_is_type all t at e
 
-  stay : (x y : RowAt) → IsType all x → In y (supertypes all x) → IsType all y
-  unfolding supertypes
-  stay x y p h =
-      let m = in_flat (λ e. listed (home_of all e)) y (listed (base_at all x) ++ interfaces_at all x) h in
-      home_type (owner_of all m.0) y (in_listed y (home_of all m.0) m.2)
+  pub home_of_type : (e : TypeExpr) (at : RowAt) → home_of all e ≡ Some at → IsType all at
+  home_of_type e at is = home_type (owner_of all e) at is
+
+  pub top_type : IsType all top
+  top_type = home_of_type (expr.Prim 0x1c) top top_home
+
+  stay_by : (x y : RowAt) → Step all top top_class top_base top_interfaces x y → IsType all y
+  stay_by x y (Step.of_base h) = let s = base_step all x y h in home_of_type s.0 y s.2
+  stay_by x y (Step.of_interface h) = let s = interface_step all x y h in home_of_type s.0 y s.2
+  stay_by x y (Step.of_top e) = subst (IsType all) (sym e) top_type
+
+  stay : (x y : RowAt) → IsType all x → In y (ways all top x) → IsType all y
+  stay x y p h = stay_by x y (step all top top_class top_base top_interfaces x y h)
+
+  -- no way from a definition has as many steps as there are types
+  pub no_long_way : (x : RowAt) → IsType all x → Walks (ways all top) (type_count all) x → ⊥
+  no_long_way x p w = no_walk (ways all top) (IsType all) (id_of all) (type_count all) stay (id_below all) (one_by_id all) never x p w
+
+  pub up_all_named : (e y : TypeExpr) → In y (up all e) → is_named y ≡ true
+  up_all_named e y h = up_named all top top_home top_class arrays e y h
 
   no_way : (e : TypeExpr) → Walks (up all) (suc (suc (type_count all))) e → ⊥
   no_way e w =
-      let h = homes all (type_count all) w.0 (up_named all e w.0 w.1) w.2 in
-      no_walk (supertypes all) (IsType all) (id_of all) (type_count all) stay (id_below all) (one_by_id all) never h.home (home_type (owner_of all w.0) h.home h.is) h.walks
+      let h = homes all top top_home top_class arrays (type_count all) w.0 (up_all_named e w.0 w.1) w.2 in
+      no_long_way h.home (home_of_type w.0 h.home h.is) h.walks
 
   -- ---- the search up
 

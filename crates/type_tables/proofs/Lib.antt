@@ -1,3 +1,4 @@
 pub mod Uses
 pub mod Worlds
 pub mod Grouped
+pub mod Owned

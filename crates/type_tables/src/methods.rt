@@ -1,12 +1,13 @@
 //! Methods by their ids and rows.
 
-ghost use Rattle.std.specs.Prelude.{◌≡◌, suc, Some, slice_get, IfOk};
+ghost use Rattle.std.specs.Prelude.{◌≡◌, suc, Some, None, slice_get, slice_index_or, IfOk};
 ghost use Rattle.std.specs.List.{position_from};
 ghost use Rattle.std.specs.Option.{option_copied, option_map, option_and_then};
 ghost use Rattle.world_model.specs.Worlds.{rows_before};
 ghost use Rattle.link_rules.specs.Members.{methods_in, owns_method, generic_method};
 ghost use Rattle.type_rules.specs.Slots.{method_row_at, method_home, type_of_method, type_of_row};
 ghost use Rattle.type_rules.specs.Dispatch.{good_use, method_id};
+ghost use Rattle.type_rules.specs.Searches.{has_owner};
 ghost use Rattle.type_tables.specs.Uses.{use_in};
 ghost use Rattle.type_tables.specs.Tables.{AreRowTables, IsTables};
 
@@ -75,16 +76,23 @@ fn owner_beyond(rec: &AsmRec, row: u32) -> Option<usize>
         .position(|t| owns_method(row, t))
 }
 
+/// The type that has a method, both by their rows from 0, as the tables have it.
+fn owner_of_row(tables: &RowTables, row: u32) -> Option<u32>
+    ensures { result ≡ slice_index_or tables.now.owners.items row None }
+{
+    match tables.owners.get(row as usize) {
+        Some(owner) => *owner,
+        None => None,
+    }
+}
+
 /// The type of an assembly that has a method, both by their rows from 0.
 fn owner_row(rec: &AsmRec, tables: &RowTables, row: u32) -> Result<Option<u32>, NoMemory>
     requires { AreRowTables rec.now tables.now }
     ensures { IfOk result (λ owner. owner ≡ position_from (owns_method (suc row)) 0 rec.now.type_def) }
 {
     if (row as usize) < rec.method_def.len() {
-        return match tables.owners.get(row as usize) {
-            Some(owner) => Ok(*owner),
-            None => Ok(None),
-        };
+        return Ok(owner_of_row(tables, row));
     }
     match owner_beyond(rec, row) {
         Some(t) => {
@@ -93,6 +101,18 @@ fn owner_row(rec: &AsmRec, tables: &RowTables, row: u32) -> Result<Option<u32>, 
         }
         None => Ok(None),
     }
+}
+
+/// Whether the run of a type of an assembly has a method, by its row from 0 (II.22.37).
+#[tactic(auto, using(crate::proofs::Owned::is_there))]
+pub fn has_owner(rec: &AsmRec, tables: &RowTables, row: u32) -> bool
+    requires { AreRowTables rec.now tables.now }
+    ensures { result ≡ has_owner rec.now row }
+{
+    if (row as usize) < rec.method_def.len() {
+        return owner_of_row(tables, row).is_some();
+    }
+    owner_beyond(rec, row).is_some()
 }
 
 /// The type that has a method.
