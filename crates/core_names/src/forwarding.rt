@@ -93,13 +93,7 @@ fn forwarded_to(all: &[AsmRec], rec: &AsmRec, namespace: &[u8], name: &[u8]) -> 
 }
 
 /// Whether an assembly is the last and lacks a name.
-fn is_last_without(
-    all: &[AsmRec],
-    a: usize,
-    rec: &AsmRec,
-    namespace: &[u8],
-    name: &[u8],
-) -> bool
+fn is_last_without(all: &[AsmRec], a: usize, rec: &AsmRec, namespace: &[u8], name: &[u8]) -> bool
     requires { a < length all.now }
     ensures { result ≡ (suc a == length all.now && not (is_some (type_in rec.now None namespace.now name.now))) }
 {

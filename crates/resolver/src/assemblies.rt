@@ -13,11 +13,7 @@ use std::alloc::Global;
 use world_model::AsmRec;
 
 /// Adds types without members to the last assembly, the core library.
-fn add_to_last(
-    alloc: Global,
-    all: &mut Seq<AsmRec>,
-    names: &[CoreTypeName],
-) -> Result<(), NoMemory>
+fn add_to_last(alloc: Global, all: &mut Seq<AsmRec>, names: &[CoreTypeName]) -> Result<(), NoMemory>
     ensures { OnOk result ((inputs : List AsmRec) → (last : AsmRec) → all.old ≡ inputs ++ last ∷ [] → all.new ≡ inputs ++ core_with last names.now ∷ []) }
 {
     match all.pop() {

@@ -1,5 +1,5 @@
 -- What the core library says of Object and Console, whatever names are added to it.
-use Rattle.std.proofs.Common.{◌≡◌, ◌+◌, ℕ, List, [], length, map, Bool, true, Some, None, refl, ◌∙◌, arith}
+use Rattle.std.proofs.Common.{◌≡◌, ◌+◌, ℕ, List, [], length, map, Bool, true, false, Some, None, refl, ◌∙◌, arith}
 use Rattle.std.specs.Prelude.{slice_get, position, codes, nat_lt}
 use Rattle.std.specs.List.{position_or_len}
 use Rattle.std.proofs.lemmas.Bool.{lt-ltb}
@@ -11,7 +11,8 @@ use Rattle.core_table.specs.Names.{text_of}
 use Rattle.core_table.specs.Record.{core_record, record_with, type_rows, type_row}
 use Rattle.link_rules.specs.declared.core_type_name.CoreTypeName.{CoreTypeName}
 use Rattle.link_rules.specs.Types.{encloser, type_in}
-use Rattle.link_rules.specs.CoreNames.{added_type, core_with}
+use Rattle.link_rules.specs.Members.{is_interface_row}
+use Rattle.link_rules.specs.CoreNames.{added_row, core_with}
 
 pub record IsCore (core : AsmRec) : Type 0 where
   pub object : type_in core None (codes "System") (codes "Object") ≡ Some 1
@@ -24,6 +25,7 @@ pub record IsCore (core : AsmRec) : Type 0 where
   pub console_is : slice_get core.type_def 22 ≡ Some console_row
   pub console_base : console_row.extends ≡ 0x02000002
   pub console_prim : prim_of console_row ≡ None
+  pub console_class : is_interface_row console_row ≡ false
   pub first_object : position (is_code_of 0x1c) core.type_def ≡ Some 1
   pub more : ℕ
   pub long : length core.type_def ≡ 23 + more
@@ -36,7 +38,7 @@ first_at p rows more e f =
 
 module _ (names : List CoreTypeName) where
   abbrev added : List TypeDefRow
-  added = map (added_type core_record) names
+  added = map (added_row core_record) names
 
   count : length core_record.type_def ≡ 59
   unfolding core_record record_with type_rows
@@ -63,6 +65,7 @@ module _ (names : List CoreTypeName) where
     console_is = refl;
     console_base = refl;
     console_prim = refl;
+    console_class = refl;
     first_object = first_at (is_code_of 0x1c) (core_with core_record names).type_def (36 + length added) first_prim long_types;
     more = 36 + length added;
     long = long_types;

@@ -179,7 +179,7 @@ module _ (rec : AsmRec) (l : Linkable rec) (t : TwoTypes rec rec.type_def) where
 -- ---- by the tests
 
 abbrev core_of : AsmRec → AsmRec
-core_of rec = core_with core_record (missing_names core_record (rec ∷ []))
+core_of rec = core_with core_record (missing_names (rec ∷ core_record ∷ []))
 
 world_is : (rec : AsmRec) → assemblies (rec ∷ []) ≡ rec ∷ core_of rec ∷ []
 unfolding assemblies
@@ -197,7 +197,7 @@ module _ (rec : AsmRec) (l : Linkable rec) where
   types = two_types rec rec.type_def l.types
 
   abbrev core_is : IsCore (core_of rec)
-  core_is = core_types_are (missing_names core_record (rec ∷ []))
+  core_is = core_types_are (missing_names (rec ∷ core_record ∷ []))
 
   pub links_where : is_linked_thin rec ≡ true → all_differ rec.method_def ≡ true → link_fault_of (rec ∷ []) ≡ None
   links_where e d =

@@ -12,8 +12,8 @@ use Rattle.world_model.specs.Thin.{is_thin_flags, same_method, all_differ}
 use Rattle.world_model.specs.Worlds.{known_then}
 use Rattle.link_rules.specs.declared.member_type.MethodType.{MethodType}
 use Rattle.link_rules.specs.Signatures.{names_at, method_type, same_method_type}
-use Rattle.link_rules.specs.Members.{is_in_run, owns_method}
-use Rattle.link_rules.specs.Faults.{same_key, repeat_from, first_repeat, numbered, MemberKey, same_member_key, member_key, is_private_scope, method_key, repeated_row, repeated_method}
+use Rattle.link_rules.specs.Members.{is_in_run, owns_method, is_compiler_controlled}
+use Rattle.link_rules.specs.Faults.{same_key, repeat_from, first_repeat, numbered, MemberKey, same_member_key, member_key, method_key, repeated_row, repeated_method}
 use Rattle.agreement.proofs.Members.{and_left, and_right, both}
 use Rattle.thin_links.proofs.Linkable.{is_compared, TwoTypes}
 use Rattle.thin_links.proofs.Leading.{Each}
@@ -133,7 +133,7 @@ not_zero : (n : ℕ) (b : Bool) → (n == 0) ≡ b → nat_le 1 n ≡ true → b
 not_zero n false e f = refl
 not_zero n true e f = let g : nat_le 1 0 ≡ true = subst (λ m. nat_le 1 m ≡ true) (eqb-true n 0 e) f in absurd (true≢false (sym g))
 
-public_flags : (flags : ℕ) → is_thin_flags flags ≡ true → is_private_scope flags ≡ false
+public_flags : (flags : ℕ) → is_thin_flags flags ≡ true → is_compiler_controlled flags ≡ false
 public_flags flags e =
     let f = and_left (nat_le 1 (flags % 8)) (nat_le (flags % 8) 6) (and_left _ (flags / 8 == 2 || flags / 8 == 18) e) in
     not_zero (flags % 8) (flags % 8 == 0) refl f

@@ -20,6 +20,7 @@ use Rattle.agreement.proofs.Left.{Left, is_left}
 use Rattle.agreement.proofs.Types.{HasScope, has_scope, core_type, base_met, met_name, left_type, new_type_named}
 use Rattle.agreement.proofs.AgainTypes.{met_has_type, met_from, is_first}
 use Rattle.agreement.proofs.Agreement.{left_length}
+use Rattle.link_rules.specs.Members.{is_interface_row}
 use Rattle.thin_links.specs.Linking.{extends_first, is_called_module, are_linked_types, is_linked_thin}
 use Rattle.thin_links.proofs.Linkable.{is_compared, Linkable, TwoTypes, two_types, apart_linkable, thin_is_apart}
 use Rattle.thin_links.proofs.Tokens.{table_is}
@@ -163,14 +164,18 @@ module _ (rec : AsmRec) (flags : List Bool) where
 
   -- ---- its types are linked
 
-  first_by : (t : TypeDefRow) (o : Option (List ℕ)) → In t rec.type_def → core_type_of rec t.extends ≡ o → extends_first t ≡ false → (type_token_by rec flags t.extends o == token_of 0x02 1) ≡ false
+  first_by : (t : TypeDefRow) (o : Option (List ℕ)) → In t rec.type_def → core_type_of rec t.extends ≡ o → (t.extends == token_of 0x02 1) ≡ false → (type_token_by rec flags t.extends o == token_of 0x02 1) ≡ false
   first_by t None h e f = f
   first_by t (Some name) h e f =
       let i = index_by after name (index_in 0x01 (type_ref_token rec flags name)) (base_named t name h e) in
       not_first (type_ref_token rec flags name) _ refl (table_is 0x01 (type_ref_token rec flags name) i.0 i.1)
 
   first_stays : (t : TypeDefRow) → In t rec.type_def → extends_first t ≡ false → extends_first (moved_type_def rec flags t) ≡ false
-  first_stays t h e = first_by t (core_type_of rec t.extends) h refl e
+  first_stays t h e = stays_by (is_interface_row t) e
+    where
+      stays_by : (b : Bool) → (not b && (t.extends == token_of 0x02 1)) ≡ false → (not b && ((moved_type_def rec flags t).extends == token_of 0x02 1)) ≡ false
+      stays_by true f = refl
+      stays_by false f = first_by t (core_type_of rec t.extends) h refl f
 
   is_not : (b : Bool) → not b ≡ true → b ≡ false
   is_not true e = cc

@@ -15,9 +15,9 @@ use Rattle.world_model.specs.Core.{same_name, is_core_name, is_core_row, is_core
 use Rattle.world_model.specs.Thin.{is_own_name, is_thin_type_ref}
 use Rattle.world_model.specs.Worlds.{row_below, types_in, type_id, rows_before, core_types, prim_type}
 use Rattle.link_rules.specs.declared.row_at.RowAt.{RowAt}
-use Rattle.link_rules.specs.Types.{or_else, at_row, has_name, is_called, assembly_named, assembly_at, type_in, top_type, ref_type_by, ref_type, ref_at, definition_at}
-use Rattle.link_rules.specs.Signatures.{definition_expr, known_expr, named_type, spec_type_at, token_type}
-use Rattle.link_rules.specs.Members.{home_from, type_home, owner_of, good_type}
+use Rattle.link_rules.specs.Types.{or_else, at_row, has_name, is_called, assembly_named, assembly_at, type_in, top_type, ref_type_by, ref_type, ref_at, listed_at, ref_definition, definition_at}
+use Rattle.link_rules.specs.Signatures.{prim_at, definition_expr, known_expr, named_type, spec_type_at, token_type}
+use Rattle.link_rules.specs.Members.{home_from, type_home, owner_of, good_type, is_named, only_named}
 use Rattle.link_rules.specs.Cycles.{home_of}
 use Rattle.agreement.proofs.Members.{and_left, and_right, in_at, list_all_in}
 use Rattle.agreement.proofs.Equal.{name_same}
@@ -171,7 +171,17 @@ module _ (rec core : AsmRec) (l : Linkable rec) (c : IsCore core) where
 
   -- the definition of what a token names
   abbrev pub led : Known TypeExpr → Option RowAt
-  led k = option_and_then (home_of world) (good_type k)
+  led k = option_and_then (home_of world) (only_named (good_type k))
+
+  -- a definition is a class or an interface
+  named_by : (at : RowAt) (o : Option ℕ) → is_named (elim o [ Some n ↦ expr.Prim n | None ↦ expr.Def (type_id world at.asm at.row) ]) ≡ true
+  unfolding is_named expr.out-TypeExpr denote.Hole.Carrier.out
+  named_by at None = refl
+  named_by at (Some n) = refl
+
+  led_home : (at : RowAt) → led (known_expr world (Some at)) ≡ home_of world (definition_expr world at)
+  unfolding definition_expr
+  led_home at = ap (λ b. option_and_then (home_of world) (if b then Some (definition_expr world at) else None)) (named_by at (prim_at world at))
 
   pub data Leads (token : ℕ) (to : Option RowAt) : Type 0 where
     nothing : to ≡ None → Leads token to
@@ -185,7 +195,7 @@ module _ (rec core : AsmRec) (l : Linkable rec) (c : IsCore core) where
 
   own_leads_by : (token k : ℕ) (below : Bool) → index_in 0x02 token ≡ Some k → nat_lt k (length rec.type_def) ≡ below
       → Leads token (led (known_expr world (option_map (at_row 0) (if below then Some k else None))))
-  own_leads_by token k true e f = let h : k < length rec.type_def = ltb-true k (length rec.type_def) f in own k e h (own_home k h)
+  own_leads_by token k true e f = let h : k < length rec.type_def = ltb-true k (length rec.type_def) f in own k e h (led_home (at_row 0 k) ∙ own_home k h)
   own_leads_by token k false e f = nothing refl
 
   own_leads : (token : ℕ) (o : Option ℕ) → index_in 0x02 token ≡ o → Leads token (led (known_expr world (option_map (at_row 0) (row_below (length rec.type_def) o))))
@@ -193,29 +203,33 @@ module _ (rec core : AsmRec) (l : Linkable rec) (c : IsCore core) where
   own_leads token (Some k) e = own_leads_by token k (nat_lt k (length rec.type_def)) e refl
 
   thin_ref : (token : ℕ) (row : TypeRefRow) (outer : ℕ → Option RowAt) (b : Bool) → is_system_type rec (codes "Object") row ≡ b → (b || is_system_type rec (codes "Console") row) ≡ true
-      → Leads token (led (known_expr world (ref_type_by world 0 rec row outer (index_in 0x01 row.resolution_scope))))
+      → Leads token (led (known_expr world (option_and_then (listed_at world) (ref_type_by world 0 rec row outer (index_in 0x01 row.resolution_scope)))))
   thin_ref token row outer true e f =
-      object (ap (λ o. led (known_expr world o)) (ref_found (codes "Object") 1 c.object row (system_ref rec (codes "Object") row e) outer) ∙ object_home)
+      object
+      (ap (λ o. led (known_expr world (option_and_then (listed_at world) o))) (ref_found (codes "Object") 1 c.object row (system_ref rec (codes "Object") row e) outer) ∙ led_home (at_row 1 1) ∙ object_home)
   thin_ref token row outer false e f =
-      console (ap (λ o. led (known_expr world o)) (ref_found (codes "Console") 22 c.console row (system_ref rec (codes "Console") row f) outer) ∙ console_home)
+      console
+      (ap (λ o. led (known_expr world (option_and_then (listed_at world) o))) (ref_found (codes "Console") 22 c.console row (system_ref rec (codes "Console") row f) outer) ∙ led_home (at_row 1 22) ∙ console_home)
 
   ref_leads_row : (token n : ℕ) (o : Option TypeRefRow) → ((row : TypeRefRow) → o ≡ Some row → is_thin_type_ref rec row ≡ true)
-      → Leads token (led (known_expr world (option_and_then (λ (row : TypeRefRow). ref_type_by world 0 rec row (ref_type world 0 rec n) (index_in 0x01 row.resolution_scope)) o)))
+      → Leads token
+      (led (known_expr world (option_and_then (listed_at world) (option_and_then (λ (row : TypeRefRow). ref_type_by world 0 rec row (ref_type world 0 rec n) (index_in 0x01 row.resolution_scope)) o))))
   ref_leads_row token n None h = nothing refl
   ref_leads_row token n (Some row) h = thin_ref token row (ref_type world 0 rec n) (is_system_type rec (codes "Object") row) refl (h row refl)
 
-  ref_leads_at : (token n k : ℕ) → Leads token (led (known_expr world (ref_type world 0 rec n k)))
+  ref_leads_at : (token n k : ℕ) → Leads token (led (known_expr world (option_and_then (listed_at world) (ref_type world 0 rec n k))))
   unfolding ref_type
   ref_leads_at token zero k = nothing refl
   ref_leads_at token (suc n) k =
       ref_leads_row token n (slice_get rec.type_ref k) (λ row e. list_all_in (is_thin_type_ref rec) rec.type_ref row l.type_refs (in_at rec.type_ref k row e))
 
-  ref_leads : (token : ℕ) (o : Option ℕ) → Leads token (led (known_expr world (option_and_then (ref_at world 0 rec) o)))
+  ref_leads : (token : ℕ) (o : Option ℕ) → Leads token (led (known_expr world (option_and_then (ref_definition world 0 rec) o)))
+  unfolding ref_definition
   ref_leads token None = nothing refl
   ref_leads token (Some k) = ref_leads_at token (length rec.type_ref) k
 
   definition_leads : (token : ℕ) (b : Bool)
-      → Leads token (led (known_expr world (if b then option_map (at_row 0) (row_below (types_in rec) (index_in 0x02 token)) else option_and_then (ref_at world 0 rec) (index_in 0x01 token))))
+      → Leads token (led (known_expr world (if b then option_map (at_row 0) (row_below (types_in rec) (index_in 0x02 token)) else option_and_then (ref_definition world 0 rec) (index_in 0x01 token))))
   definition_leads token true = own_leads token (index_in 0x02 token) refl
   definition_leads token false = ref_leads token (index_in 0x01 token)
 
@@ -259,13 +273,13 @@ module _ (rec core : AsmRec) (l : Linkable rec) (c : IsCore core) where
       ∙ ref_found (codes "Object") 1 c.object o.row (system_ref rec (codes "Object") o.row o.names) (ref_type world 0 rec n)
 
   pub token_is_object : (token : ℕ) → ObjectToken token → led (token_type world 0 rec token) ≡ Some (at_row 1 1)
-  unfolding token_type named_type definition_at
+  unfolding token_type named_type definition_at ref_definition
   token_is_object token o =
       let n : (n : ℕ) × (length rec.type_ref ≡ suc n) = some_length rec.type_ref o.index o.row o.is in
       ap (λ t. led (if t == 0x1b then spec_type_at world 0 rec (option_and_then (slice_get rec.type_spec) (index_in 0x1b token)) else known_expr world
-      (if t == 0x02 then option_map (at_row 0) (row_below (types_in rec) (index_in 0x02 token)) else option_and_then (ref_at world 0 rec) (index_in 0x01 token)))) o.table
-      ∙ ap (λ k. led (known_expr world (option_and_then (ref_at world 0 rec) k))) o.is_index
-      ∙ ap (λ k. led (known_expr world k)) (ref_is_object token o n.0 n.1) ∙ object_home
+      (if t == 0x02 then option_map (at_row 0) (row_below (types_in rec) (index_in 0x02 token)) else option_and_then (ref_definition world 0 rec) (index_in 0x01 token)))) o.table
+      ∙ ap (λ k. led (known_expr world (option_and_then (ref_definition world 0 rec) k))) o.is_index
+      ∙ ap (λ k. led (known_expr world (option_and_then (listed_at world) k))) (ref_is_object token o n.0 n.1) ∙ led_home (at_row 1 1) ∙ object_home
 
   -- the base of Console in the core library
   pub core_token : led (token_type world 1 core 0x02000002) ≡ Some (at_row 1 1)
@@ -273,13 +287,13 @@ module _ (rec core : AsmRec) (l : Linkable rec) (c : IsCore core) where
   core_token =
       let long = c.long in
       let below : nat_lt 1 (length core.type_def) ≡ true = lt-ltb 1 (length core.type_def) (omega (arith, long)) in
-      ap (λ b. led (known_expr world (option_map (at_row 1) (if b then Some 1 else None)))) below ∙ object_home
+      ap (λ b. led (known_expr world (option_map (at_row 1) (if b then Some 1 else None)))) below ∙ led_home (at_row 1 1) ∙ object_home
 
   -- a type of the record itself
   pub token_is_own : (token k : ℕ) → index_in 0x02 token ≡ Some k → k < length rec.type_def → led (token_type world 0 rec token) ≡ Some (at_row 0 k)
   unfolding token_type named_type definition_at
   token_is_own token k e h =
       ap (λ t. led (if t == 0x1b then spec_type_at world 0 rec (option_and_then (slice_get rec.type_spec) (index_in 0x1b token)) else known_expr world
-      (if t == 0x02 then option_map (at_row 0) (row_below (types_in rec) (index_in 0x02 token)) else option_and_then (ref_at world 0 rec) (index_in 0x01 token)))) (table_is 0x02 token k e)
+      (if t == 0x02 then option_map (at_row 0) (row_below (types_in rec) (index_in 0x02 token)) else option_and_then (ref_definition world 0 rec) (index_in 0x01 token)))) (table_is 0x02 token k e)
       ∙ ap (λ o. led (known_expr world (option_map (at_row 0) (row_below (types_in rec) o)))) e
-      ∙ ap (λ b. led (known_expr world (option_map (at_row 0) (if b then Some k else None)))) (lt-ltb k (length rec.type_def) h) ∙ own_home k h
+      ∙ ap (λ b. led (known_expr world (option_map (at_row 0) (if b then Some k else None)))) (lt-ltb k (length rec.type_def) h) ∙ led_home (at_row 0 k) ∙ own_home k h

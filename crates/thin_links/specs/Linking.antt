@@ -4,6 +4,7 @@ use Rattle.std.specs.List.{list_all}
 use Rattle.world_model.specs.declared.types.TypeDefRow.{TypeDefRow}
 use Rattle.world_model.specs.declared.record.AsmRec.{AsmRec}
 use Rattle.world_model.specs.Tokens.{token_of, index_in}
+use Rattle.link_rules.specs.Members.{is_interface_row}
 use Rattle.world_model.specs.Core.{same_name, is_core_name, core_member}
 use Rattle.world_model.specs.Thin.{no_rows, has_no_other_rows, is_own_name, are_two_types, is_thin_type_ref, is_thin_method, is_entry_at}
 
@@ -21,9 +22,9 @@ is_thin_apart rec =
 abbrev pub is_called_module : TypeDefRow → Bool
 is_called_module t = same_name t.name (codes "<Module>") && no_rows t.namespace
 
--- a type whose base is the first row
+-- a type whose base is the first row; an interface has no base
 abbrev pub extends_first : TypeDefRow → Bool
-extends_first t = t.extends == token_of 0x02 1
+extends_first t = not (is_interface_row t) && t.extends == token_of 0x02 1
 
 abbrev pub are_linked_types : List TypeDefRow → Bool
 are_linked_types [] = true

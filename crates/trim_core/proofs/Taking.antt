@@ -38,9 +38,9 @@ module _ (file : List ℕ) (small : length file ≤ most_bytes) (inputs : List A
       rw e refl
 
   -- the world's first record is the file's
-  pub first_is : (w : World) → w ≡ world_of inputs → w.recs ≡ record_at file ∷ (core_with core_record (missing_names core_record inputs) ∷ [])
+  pub first_is : (w : World) → w ≡ world_of inputs → w.recs ≡ record_at file ∷ (core_with core_record (missing_names (inputs ++ core_record ∷ [])) ∷ [])
   unfolding world_in assemblies
-  first_is w e = ap (λ (v : World). v.recs) e ∙ ap (λ (xs : List AsmRec). xs ++ core_with core_record (missing_names core_record inputs) ∷ []) a.one
+  first_is w e = ap (λ (v : World). v.recs) e ∙ ap (λ (xs : List AsmRec). xs ++ core_with core_record (missing_names (inputs ++ core_record ∷ [])) ∷ []) a.one
 
   pub taken : (w : World) → link_fault_of inputs ≡ None → w ≡ world_of inputs → is_thin (record_at file) ≡ true → TakenWorld file w
   taken w h e t = record {
@@ -49,7 +49,7 @@ module _ (file : List ℕ) (small : length file ≤ most_bytes) (inputs : List A
     has = a.has;
     thin = t;
     linked = fault_is ∙ h;
-    others = core_with core_record (missing_names core_record inputs) ∷ [];
+    others = core_with core_record (missing_names (inputs ++ core_record ∷ [])) ∷ [];
     stands = first_is w e;
   }
 

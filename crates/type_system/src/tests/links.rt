@@ -1,12 +1,12 @@
 //! What a link of assemblies answers.
 
 use super::build::*;
-use il_base::{AsmId, NoMemory, Seq};
+use il_base::{AsmId, Boxed, NoMemory, Seq, Sig};
 use link_rules::LinkError;
 use resolver::link;
 use std::alloc::Global;
 use std::test::Fail;
-use world_model::{AsmRec, BadKind, ExportedTypeRow, Known, NestedClassRow};
+use world_model::{AsmRec, BadKind, ExportedTypeRow, Known, NestedClassRow, TypeSpecRow, World};
 
 /// An assembly of a name, without types of its own.
 fn named(alloc: Global, name: &[u8]) -> Result<AsmRec, NoMemory> {
@@ -120,5 +120,45 @@ fn assemblies_that_forward_to_each_other(rt: HostRuntime) -> Result<(), Fail> {
     let mut recs = Seq::new(alloc);
     push_forwarding(alloc, &mut recs)?;
     assert!(rt; is_unresolved(alloc, recs)?);
+    Ok(())
+}
+
+/// The same, with `int modopt(T)` as a TypeSpec row.
+fn fill_modified(rec: &mut AsmRec, alloc: Global) -> Result<(), NoMemory> {
+    fill_user(rec, alloc)?;
+    let inner = Boxed::new(alloc, Sig::Prim(0x08))?;
+    rec.type_spec.push(TypeSpecRow {
+        signature: Known::Good(Sig::Mod {
+            required: false,
+            token: 0x0100_0002,
+            inner,
+        }),
+    })
+}
+
+/// `App`, and `A` that forwards `T` to the core library, which has no such type.
+fn push_modified(alloc: Global, recs: &mut Seq<AsmRec>) -> Result<(), NoMemory> {
+    push_filled(recs, alloc, fill_modified)?;
+    recs.push(forwarding(alloc, b"A", b"System.Runtime")?)
+}
+
+/// Whether a token of `App` names a type.
+fn is_found(world: &World, token: u32) -> bool {
+    match world.type_at(AsmId(0), token) {
+        Some(Known::Good(_)) => true,
+        Some(Known::Bad(_)) => false,
+        None => false,
+    }
+}
+
+/// A modifier finds the type; a reference to it as an operand or a base doesn't.
+#[test]
+fn names_that_only_modifiers_use(rt: HostRuntime) -> Result<(), Fail> {
+    let alloc = rt.alloc();
+    let mut recs = Seq::new(alloc);
+    push_modified(alloc, &mut recs)?;
+    let world = world(alloc, recs)?;
+    assert!(rt; is_found(&world, 0x1b00_0001));
+    assert!(rt; !is_found(&world, 0x0100_0002));
     Ok(())
 }
