@@ -18,6 +18,8 @@ pub const VIRTUAL: u16 = 0x146;
 pub const ABSTRACT: u16 = 0x546;
 /// public virtual
 pub const OVERRIDE: u16 = 0x46;
+/// compiler-controlled
+pub const COMPILER_CONTROLLED: u16 = 0x00;
 /// private final virtual newslot: an explicit implementation
 pub const EXPLICIT: u16 = 0x161;
 /// private virtual newslot
