@@ -226,6 +226,35 @@ pub fn static_field(rec: &mut AsmRec, alloc: Global, name: &[u8]) -> Result<(), 
     })
 }
 
+/// A struct with one instance field of the type of a TypeDef row, by way of the TypeRef row of System.ValueType.
+pub fn value_with_field(
+    rec: &mut AsmRec,
+    alloc: Global,
+    name: &[u8],
+    base: u32,
+    field: u32,
+) -> Result<(), NoMemory> {
+    define(rec, alloc, 0x0010_0109, name, base, 1, 0)?;
+    rec.field.push(FieldRow {
+        flags: 0x06,
+        name: text(alloc, b"field")?,
+        signature: Known::Good(Sig::Named {
+            value: true,
+            token: field,
+        }),
+    })
+}
+
+/// An interface without methods whose row has a base, which no interface has.
+pub fn interface_with_base(
+    rec: &mut AsmRec,
+    alloc: Global,
+    name: &[u8],
+    extends: u32,
+) -> Result<(), NoMemory> {
+    define(rec, alloc, 0xa1, name, extends, 0, 0)
+}
+
 /// An interface whose methods, so many, are to be pushed next.
 pub fn interface(
     rec: &mut AsmRec,

@@ -17,7 +17,7 @@ fn named(alloc: Global, name: &[u8]) -> Result<AsmRec, NoMemory> {
 }
 
 /// Why assemblies don't link: the assembly, the demand and the row.
-fn fault(alloc: Global, recs: Seq<AsmRec>) -> Result<Option<(u32, u8, u32)>, NoMemory> {
+pub fn fault(alloc: Global, recs: Seq<AsmRec>) -> Result<Option<(u32, u8, u32)>, NoMemory> {
     match link(alloc, recs) {
         Ok(_) => Ok(None),
         Err(LinkError::Bad { file, why, token }) => Ok(Some((file, why, token))),
