@@ -124,6 +124,9 @@ fn assemblies_that_forward_to_each_other(rt: HostRuntime) -> Result<(), Fail> {
     Ok(())
 }
 
+/// compiler-controlled
+const COMPILER_CONTROLLED: u16 = 0x00;
+
 /// `class A`, whose method `M` is compiler-controlled and whose method `N` is public, and references to both.
 fn fill_controlled(rec: &mut AsmRec, alloc: Global) -> Result<(), NoMemory> {
     begin(rec, alloc, b"App")?;
