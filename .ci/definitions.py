@@ -1,16 +1,15 @@
 #!/usr/bin/env python3
-"""Checks that docs/DEFINITIONS.md lists every definition by its file: the part behind the heading "Every definition, by file".
+"""Prints every definition by its file, with each file's first comment, in the order of crates.txt.
 
-    definitions.py            says what differs, with code 1
-    definitions.py --write    writes that part anew
+    definitions.py            prints them
+    definitions.py --write    does nothing: no page has the list
 """
 import os
 import re
 import sys
 
 ROOT = os.path.dirname(os.path.dirname(os.path.abspath(__file__)))
-PAGE = os.path.join(ROOT, "docs", "DEFINITIONS.md")
-HEADING = "## Every definition, by file"
+HEADING = "# Every definition, by file"
 # A public definition, also one of a family that stands inside another; fields of records aren't any.
 PUBLIC = re.compile(
     r"^(?:(?:unfoldable |abbrev )?pub (?:(?:data|record) )?|  (?:unfoldable |abbrev )?pub (?:data|record) |  (?:unfoldable |abbrev )pub )"
@@ -21,12 +20,8 @@ WORDS = {"mod", "use", "ruleset", "data", "record"}
 
 
 def crates():
-    """The crates in the order of the page, and behind them those that are new."""
     with open(os.path.join(ROOT, "crates.txt")) as lines:
-        named = [line.split(":")[0].split()[0] for line in lines if ":" in line and not line.startswith("#")]
-    with open(PAGE) as page:
-        told = re.findall(r"^### `(\w+)`", page.read(), re.M)
-    return [crate for crate in told if crate in named] + [crate for crate in named if crate not in told]
+        return [line.split(":")[0].split()[0] for line in lines if ":" in line and not line.startswith("#")]
 
 
 def files(folder):
@@ -56,24 +51,17 @@ def listing():
         lines = [line(os.path.join(folder, name + ".antt"), name) for name in files(folder)]
         lines = [found for found in lines if found]
         if lines:
-            parts += ["### `%s`" % crate, "\n".join(lines)]
+            parts += ["## `%s`" % crate, "\n".join(lines)]
     return "\n\n".join(parts) + "\n"
 
 
 def main(words):
-    with open(PAGE) as page:
-        head, _, told = page.read().partition(HEADING)
-    told, wanted = HEADING + told, listing()
     if words == ["--write"]:
-        with open(PAGE, "w") as page:
-            page.write(head + wanted)
-    elif words:
+        return 0
+    if words:
         sys.stderr.write(__doc__)
         return 2
-    elif told != wanted:
-        for gone in sorted(set(told.split("\n")) ^ set(wanted.split("\n"))):
-            sys.stderr.write("definitions: %s\n" % gone[:120])
-        return 1
+    sys.stdout.write(listing())
     return 0
 
 

@@ -1,5 +1,5 @@
 -- The whole file, by its parts.
-use Rattle.std.proofs.Common.{◌≡◌, ℕ, ◌+◌, ◌-◌, ◌^◌, ◌<◌, List, [], length, map, ap, subst, arith}
+use Rattle.std.proofs.Common.{◌≡◌, ℕ, ◌+◌, ◌-◌, ◌^◌, ◌<◌, List, [], length, map, ap, sym, ◌∙◌, subst, arith}
 use Rattle.world_model.specs.declared.record.AsmRec.{AsmRec}
 use Rattle.world_model.specs.declared.record.UserText.{UserText}
 use Rattle.file_layout.specs.Bytes.{aligned}
@@ -8,7 +8,8 @@ use Rattle.file_layout.specs.Image.{Parts, image_bytes, image_length}
 use Rattle.file_layout.specs.Bodies.{code_behind}
 use Rattle.file_layout.specs.Cells.{CellTables, pools_of}
 use Rattle.file_layout.specs.Rows.{cells_of}
-use Rattle.file_layout.specs.Laid.{streams_with, streams_of, parts_of, laid, laid_length}
+use Rattle.file_layout.specs.Laid.{streams_with, streams_of, parts_of, laid}
+use Rattle.written_image.proofs.Sizes.{image_size}
 use Rattle.metadata_writer.specs.Written.{IsPut}
 
 -- the metadata of a record
@@ -34,10 +35,11 @@ abbrev pub parts_put : AsmRec → List ℕ → List ℕ → Parts
 parts_put rec code metadata = record { bits = rec.bits; entry = rec.entry; subsystem = rec.subsystem; code = code; metadata = metadata }
 
 pub length_is : (rec : AsmRec) (code metadata : List ℕ) → code ≡ code_behind [] (map (λ m. m.body) rec.method_def)
-    → IsPut metadata (metadata_bytes (streams_of rec)) → image_length (parts_put rec code metadata) ≡ laid_length rec
-unfolding parts_of
+    → IsPut metadata (metadata_bytes (streams_of rec)) → image_length (parts_put rec code metadata) ≡ length (laid rec)
+unfolding laid parts_of
 length_is rec code metadata ec hm =
-    same_length (parts_put rec code metadata) (parts_put rec (code_behind [] (map (λ m. m.body) rec.method_def)) (metadata_bytes (streams_of rec))) (ap length ec) hm.len
+    let exact = parts_put rec (code_behind [] (map (λ m. m.body) rec.method_def)) (metadata_bytes (streams_of rec)) in
+    same_length (parts_put rec code metadata) exact (ap length ec) hm.len ∙ sym (image_size exact)
 
 pub laid_is : (rec : AsmRec) (code metadata : List ℕ) → code ≡ code_behind [] (map (λ m. m.body) rec.method_def)
     → IsPut metadata (metadata_bytes (streams_of rec)) → length metadata < 2 ^ 29 → image_bytes (parts_put rec code metadata) ≡ laid rec

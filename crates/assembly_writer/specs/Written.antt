@@ -3,7 +3,7 @@ use Rattle.std.specs.Prelude.{◌≡◌, ◌⊎◌, ℕ, ◌<◌, ◌≤◌, [],
 use Rattle.world_model.specs.declared.record.AsmRec.{AsmRec}
 use Rattle.file_layout.specs.Metadata.{metadata_bytes}
 use Rattle.file_layout.specs.Bodies.{code_behind}
-use Rattle.file_layout.specs.Laid.{streams_of, laid_length}
+use Rattle.file_layout.specs.Laid.{streams_of, laid}
 use Rattle.metadata_writer.specs.Written.{IsPut}
 use Rattle.assembly_writer.specs.declared.error.WriteError.{WriteError}
 use Rattle.assembly_writer.specs.declared.error.WriteError.TheVariants.{Limit, NoMemory}
@@ -29,7 +29,7 @@ most_bytes = 268435456
 abbrev pub PassesLimit : AsmRec → ℕ → Type 0
 PassesLimit rec found =
     ((found ≡ users_length rec) × (most_users < found))
-    ⊎ ((users_length rec ≤ most_users) × (found ≡ laid_length rec) × (most_bytes < found))
+    ⊎ ((users_length rec ≤ most_users) × (found ≡ length (laid rec)) × (most_bytes < found))
 
 -- why a record isn't written: limit 7, unless memory ran out
 abbrev pub Refuses : AsmRec → WriteError → Type 0

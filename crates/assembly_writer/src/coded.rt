@@ -2,7 +2,7 @@
 
 ghost use Rattle.std.specs.Prelude.{◌≡◌, ◌+◌, ◌*◌, ◌<◌, ◌≤◌, ◌^◌, ◌==◌, length, position, unwrap_or, IfSome};
 ghost use Rattle.cli_format.specs.Coded.{tag_bits_of, targets_of};
-ghost use Rattle.file_layout.specs.Cells.{tag_of, coded_of};
+ghost use Rattle.cli_format.specs.Tokens.{tag_of, coded_of};
 
 use cli_format::{CodedIndex, first_tag, tag_bits, targets};
 
@@ -57,7 +57,7 @@ fn above_tag(index: CodedIndex, row: u32) -> u32
 }
 
 /// The number of a token, 0 for none.
-#[tactic(auto, unfolding(file_layout::specs::Cells::coded_of))]
+#[tactic(auto, unfolding(cli_format::specs::Tokens::coded_of))]
 pub fn coded(index: CodedIndex, token: u32) -> u32
     ensures { result ≡ coded_of index token }
 {

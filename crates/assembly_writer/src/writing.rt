@@ -1,5 +1,5 @@
 ghost use Rattle.std.specs.Prelude.{◌≡◌, ◌+◌, ◌<◌, ◌≤◌, ◌^◌, ◌++◌, length, IfErr, IfOk, OnErr, OnOk, IsTrue, ◌↔◌};
-ghost use Rattle.file_layout.specs.Laid.{laid, laid_length, streams_of, streams_with};
+ghost use Rattle.file_layout.specs.Laid.{laid, streams_of, streams_with};
 ghost use Rattle.image_writer.specs.Views.{HasPlaces};
 ghost use Rattle.assembly_writer.specs.CanWrite.{CanWrite};
 ghost use Rattle.assembly_writer.specs.Written.{IsContent, Refuses, users_length, most_users, most_bytes};
@@ -80,7 +80,7 @@ fn write_content(
     requires content { IsContent content.now rec.now }
     requires users { users_length rec.now ≤ most_users }
     ensures written { OnOk result (out.new.items ≡ out.old.items ++ laid rec.now) }
-    ensures short { OnOk result (laid_length rec.now ≤ most_bytes) }
+    ensures short { OnOk result (length (laid rec.now) ≤ most_bytes) }
     ensures refused { IfErr result (Refuses rec.now) }
     ensures unchanged { OnErr result (out.new.items ≡ out.old.items) }
 {
@@ -111,7 +111,7 @@ fn write_content(
 pub fn write(alloc: Global, rec: &AsmRec, out: &mut Vec<u8>) -> Result<(), WriteError>
     requires { CanWrite rec.now }
     ensures written { OnOk result (out.new.items ≡ out.old.items ++ laid rec.now) }
-    ensures short { OnOk result ((laid_length rec.now ≤ most_bytes) × (users_length rec.now ≤ most_users)) }
+    ensures short { OnOk result ((length (laid rec.now) ≤ most_bytes) × (users_length rec.now ≤ most_users)) }
     ensures refused { IfErr result (Refuses rec.now) }
     ensures unchanged { OnErr result (out.new.items ≡ out.old.items) }
 {

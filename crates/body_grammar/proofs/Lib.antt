@@ -9,3 +9,8 @@ pub mod ReadOperands
 pub mod ReadCode
 pub mod ReadClauses
 pub mod ReadBodies
+pub mod FaultBodies
+pub mod FaultHeaders
+pub mod FaultCode
+pub mod FaultSections
+pub mod FirstFaults

@@ -27,23 +27,23 @@ by_tiny false f g = g refl
 -- ---- headers
 
 -- the bytes of a header
-abbrev header_text : Header → List ℕ
+abbrev pub header_text : Header → List ℕ
 header_text h = cond h.tiny ((2 + 4 * h.size) % 256 ∷ [])
     (flags_byte h.sects h.init ∷ 48 ∷ [] ++ little_bytes 2 h.max_stack ++ little_bytes 4 (h.size % 4294967296) ++ little_bytes 4 h.locals)
 
-record IsTinyHeader (h : Header) : Type 0 where
+pub record IsTinyHeader (h : Header) : Type 0 where
   pub size : h.size < 64
   pub init : h.init ≡ false
   pub sects : h.sects ≡ false
   pub max_stack : h.max_stack ≡ 8
   pub locals : h.locals ≡ 0
 
-record IsFatHeader (h : Header) : Type 0 where
+pub record IsFatHeader (h : Header) : Type 0 where
   pub size : h.size < 4294967296
   pub max_stack : h.max_stack < 65536
   pub locals : h.locals < 4294967296
 
-record TakesHeader (bs : List ℕ) (h : Header) : Type 0 where
+pub record TakesHeader (bs : List ℕ) (h : Header) : Type 0 where
   pub tiny : h.tiny ≡ true → IsTinyHeader h
   pub fat : h.tiny ≡ false → IsFatHeader h
   pub within : header_size h.tiny ≤ length bs
@@ -106,7 +106,7 @@ fat_takes first bs h fits e0 e =
       spelled = j4;
     })
 
-header_takes : (bs : List ℕ) (h : Header) → IsBytes bs → header_at bs ≡ Ok h → TakesHeader bs h
+pub header_takes : (bs : List ℕ) (h : Header) → IsBytes bs → header_at bs ≡ Ok h → TakesHeader bs h
 unfolding header_at
 header_takes bs h fits e =
     let p = bind_ok (field_at 1 bs 0) (λ first. cond (eqb (first % 4) 2) (Ok (record { tiny = true; init = false; sects = false; max_stack = 8; size = first / 4; locals = 0 })) (fat_at first bs)) h e in
@@ -193,13 +193,13 @@ record Known (bs : List ℕ) (h : Header) (code : List Instr) : Type 0 where
   pub spelled : take h.size (drop (header_size h.tiny) bs) ≡ code_bytes code
 
 -- the header's bytes are those of a body that has its fields
-header_same : (h : Header) (code : List Instr) (fat : Bool) (hs : List Handler) → length (code_bytes code) ≡ h.size
+pub header_same : (h : Header) (code : List Instr) (fat : Bool) (hs : List Handler) → length (code_bytes code) ≡ h.size
     → header_text h ≡ header_bytes (made h code fat hs) h.sects (length (code_bytes code))
 unfolding header_bytes
 header_same h code fat hs e = ap (λ (n : ℕ). cond h.tiny ((2 + 4 * n) % 256 ∷ [])
     (flags_byte h.sects h.init ∷ 48 ∷ [] ++ little_bytes 2 h.max_stack ++ little_bytes 4 (n % 4294967296) ++ little_bytes 4 h.locals)) (sym e)
 
-no_handlers_offend : (start : ℕ → Bool) (size : ℕ) → offender start size [] ≡ None
+pub no_handlers_offend : (start : ℕ → Bool) (size : ℕ) → offender start size [] ≡ None
 unfolding offender_from
 no_handlers_offend start size = refl
 

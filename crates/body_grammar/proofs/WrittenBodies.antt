@@ -60,7 +60,7 @@ length-head true n reserved two = refl
 
 -- ---- headers
 
-tiny_again : (size : ℕ) (rest : List ℕ) → size < 64
+pub tiny_again : (size : ℕ) (rest : List ℕ) → size < 64
     → header_at ((2 + 4 * size) % 256 ∷ rest) ≡ Ok (record { tiny = true; init = false; sects = false; max_stack = 8; size = size; locals = 0 })
 unfolding header_at
 tiny_again size rest lt =
@@ -79,7 +79,7 @@ fat_from false true stack size locals bs e0 e1 e2 e3 e4 = rw (e0, e1, e2, e3, e4
 fat_from true false stack size locals bs e0 e1 e2 e3 e4 = rw (e0, e1, e2, e3, e4) refl
 fat_from true true stack size locals bs e0 e1 e2 e3 e4 = rw (e0, e1, e2, e3, e4) refl
 
-fat_again : (sects init : Bool) (stack size locals : ℕ) (rest : List ℕ) → stack < 2 ^ 16 → size < 2 ^ 32 → locals < 2 ^ 32
+pub fat_again : (sects init : Bool) (stack size locals : ℕ) (rest : List ℕ) → stack < 2 ^ 16 → size < 2 ^ 32 → locals < 2 ^ 32
     → header_at ((flags_byte sects init ∷ 48 ∷ [] ++ little_bytes 2 stack ++ little_bytes 4 (size % 4294967296) ++ little_bytes 4 locals) ++ rest)
     ≡ Ok (record { tiny = false; init = init; sects = sects; max_stack = stack; size = size; locals = locals })
 fat_again sects init stack size locals rest h0 h1 h2 =
@@ -91,14 +91,14 @@ fat_again sects init stack size locals rest h0 h1 h2 =
     (field_in 4 locals 0 8 [] (take 8 x) (drop 12 x) refl refl (omega arith))
 
 -- the header of a spelling
-abbrev header_of : Filler → Body → Header
+abbrev pub header_of : Filler → Body → Header
 header_of f b = record { tiny = b.tiny; init = b.init; sects = f.sects; max_stack = b.max_stack; size = length (code_bytes b.code); locals = b.locals }
 
-by_header : {P : Type 0} (tiny : Bool) → (tiny ≡ true → P) → (tiny ≡ false → P) → P
+pub by_header : {P : Type 0} (tiny : Bool) → (tiny ≡ true → P) → (tiny ≡ false → P) → P
 by_header true f g = f refl
 by_header false f g = g refl
 
-header_again : (f : Filler) (b : Body) (rest : List ℕ) → IsFiller f b → HasSpelling b
+pub header_again : (f : Filler) (b : Body) (rest : List ℕ) → IsFiller f b → HasSpelling b
     → header_at (header_bytes b f.sects (length (code_bytes b.code)) ++ rest) ≡ Ok (header_of f b)
 unfolding header_bytes
 header_again f b rest fits h =
@@ -107,7 +107,7 @@ header_again f b rest fits h =
     (λ t. let k = h.tiny t in rw (t, k.init, k.max_stack, k.locals, fits.tiny t) (tiny_again size rest k.size))
     (λ t. let k = h.fat t in rw t (fat_again f.sects b.init b.max_stack size b.locals rest k.max_stack k.size k.locals))
 
-length-header : (b : Body) (sects : Bool) (size : ℕ) → length (header_bytes b sects size) ≡ header_size b.tiny
+pub length-header : (b : Body) (sects : Bool) (size : ℕ) → length (header_bytes b sects size) ≡ header_size b.tiny
 unfolding header_bytes
 length-header b sects size =
     by_header {P = length (cond b.tiny ((2 + 4 * size) % 256 ∷ []) (flags_byte sects b.init ∷ 48 ∷ [] ++ little_bytes 2 b.max_stack ++ little_bytes 4 (size % 4294967296) ++ little_bytes 4 b.locals)) ≡ header_size b.tiny} b.tiny

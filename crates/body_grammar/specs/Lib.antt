@@ -4,3 +4,4 @@ pub mod Instructions
 pub mod HandlerRules
 pub mod Bodies
 pub mod BodySpelling
+pub mod FirstFault

@@ -1,7 +1,9 @@
 //! What the grammar of bodies says: each function states a law of its definitions and does nothing.
-ghost use Rattle.std.specs.Prelude.{◌≡◌, ℕ, ◌<◌, ◌≤◌, ◌++◌, List, length, take, get_or, Ok};
+ghost use Rattle.std.specs.Prelude.{◌≡◌, ℕ, ◌<◌, ◌≤◌, ◌++◌, List, length, take, get_or, Ok, Err};
 ghost use Rattle.il_base.specs.declared.body.Body.{Body};
 ghost use Rattle.body_grammar.specs.Bodies.{body_at};
+ghost use Rattle.body_grammar.specs.declared.body.Fault.{Fault};
+ghost use Rattle.body_grammar.specs.FirstFault.{IsFirstFault};
 ghost use Rattle.body_grammar.specs.BodySpelling.{HasSpelling, IsSpelledBy, body_bytes};
 
 /// Whatever spells a body is read as that body, also with other bytes behind it.
@@ -23,4 +25,10 @@ pub fn written_body_is_spelled()
 /// What is written of a body is read again as that body, also with other bytes behind it.
 pub fn written_body_is_read()
     ensures { (b : Body) (rest : List ℕ) → HasSpelling b → body_at (body_bytes b ++ rest) ≡ Ok (b, length (body_bytes b)) }
+{}
+
+/// Where bytes have no body in front, the fault is at the first byte of the header that no body allows, or at the first
+/// instruction that no body has there; a fault in the handler section comes after a header and a code of some body.
+pub fn fault_is_first()
+    ensures { (bs : List ℕ) (f : Fault) → ((i : ℕ) → get_or bs i 0 < 256) → body_at bs ≡ Err f → IsFirstFault bs f }
 {}

@@ -7,6 +7,7 @@ mod body_laws;
 
 pub use body::{Fault, Header, Inline, Range, Row};
 pub use body_laws::{
-    read_body_is_spelled, spelled_body_is_read, written_body_is_read, written_body_is_spelled,
+    fault_is_first, read_body_is_spelled, spelled_body_is_read, written_body_is_read,
+    written_body_is_spelled,
 };
 pub use il_base::outside::{BODY, FILTER, FLOAT, INSTRUCTION};

@@ -3,6 +3,7 @@ pub mod Image
 pub mod Columns
 pub mod Streams
 pub mod Coded
+pub mod Tokens
 pub mod Tables
 pub mod Heaps
 pub mod Metadata

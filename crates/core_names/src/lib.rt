@@ -1,7 +1,8 @@
-//! The core library with the names that modifiers use: in go the core library's record and the inputs, out comes the record
+//! The core library with the names that modifiers use: in go the inputs and the core library's record, out comes the record
 //! with a type without members for each name that it lacks. `link_rules/specs/CoreNames` defines it.
 #![tactic(auto)]
 
+mod forwarding;
 mod missing;
 mod modifiers;
 mod with_names;

@@ -1,48 +1,18 @@
 //! The names that modifiers use and that the core library lacks.
 
-ghost use Rattle.std.specs.Prelude.{◌≡◌, ◌++◌, [], OnOk, IfOk, slice_get, suc};
+ghost use Rattle.std.specs.Prelude.{◌≡◌, [], OnOk, IfOk, slice_get};
 ghost use Rattle.std.specs.List.{list_any, flat_map};
 ghost use Rattle.std.specs.Option.{option_and_then};
-ghost use Rattle.world_model.specs.Tokens.{index_in, token_of};
-ghost use Rattle.link_rules.specs.Types.{encloser_in, encloser, type_from, type_in};
+ghost use Rattle.world_model.specs.Tokens.{index_in};
 ghost use Rattle.link_rules.specs.Cycles.{add_new, add_all, listed};
-ghost use Rattle.link_rules.specs.CoreNames.{same_core_name, is_missing, missing_name, missing_at, missing_in, missing_names};
+ghost use Rattle.link_rules.specs.CoreNames.{same_core_name, missing_name, missing_at, missing_in, missing_names};
 
+use crate::forwarding::{is_missing, scope_assembly};
 use crate::modifiers::modifiers_in;
 use il_base::{NoMemory, Seq};
 use link_rules::CoreTypeName;
 use std::alloc::Global;
-use world_model::{AsmRec, NestedClassRow, TypeRefRow, index_in, is_core_scope};
-
-/// Whether a type of an assembly is nested.
-fn encloser_in(token: u64, rows: &[NestedClassRow]) -> Option<u32>
-    ensures { result ≡ encloser_in token rows.now }
-{
-    for row in rows {
-        if u64::from(row.nested_class) == token {
-            return index_in(0x02, row.enclosing_class);
-        }
-    }
-    None
-}
-
-/// Whether the core library has no type of this namespace and name that isn't nested.
-#[tactic(auto, unfolding(link_rules::specs::Types::type_in, link_rules::specs::Types::encloser))]
-fn is_missing(core: &AsmRec, namespace: &[u8], name: &[u8]) -> bool
-    ensures { result ≡ is_missing core.now (type_in core.now None namespace.now name.now) }
-{
-    let mut token = 0x0200_0000u64;
-    for row in core.type_def.as_slice() {
-        token = token.saturating_add(1);
-        if row.name.as_slice() == name
-            && row.namespace.as_slice() == namespace
-            && encloser_in(token, core.nested_class.as_slice()).is_none()
-        {
-            return false;
-        }
-    }
-    true
-}
+use world_model::{AsmRec, TypeRefRow, index_in};
 
 fn is_same(a: &CoreTypeName, namespace: &[u8], name: &[u8]) -> bool
     ensures { result ≡ same_core_name (record { namespace = namespace.now; name = name.now }) a.now }
@@ -81,19 +51,19 @@ fn add(
     Ok(())
 }
 
-/// Adds the name of a reference in the core library to a type that it lacks.
+/// Adds the name of a reference in the core library to a type that it lacks, by the place of the assembly that refers.
 fn add_missing(
     alloc: Global,
-    core: &AsmRec,
+    all: &[AsmRec],
+    a: usize,
     rec: &AsmRec,
     row: &TypeRefRow,
     names: &mut Seq<CoreTypeName>,
 ) -> Result<(), NoMemory>
-    ensures { OnOk result (names.new ≡ add_all same_core_name names.old (missing_name core.now rec.now row.now)) }
+    ensures { OnOk result (names.new ≡ add_all same_core_name names.old (missing_name all.now a rec.now row.now)) }
 {
-    if is_core_scope(rec, row.resolution_scope)
-        && is_missing(core, row.namespace.as_slice(), row.name.as_slice())
-    {
+    let scope = scope_assembly(all, a, rec, row);
+    if is_missing(all, scope, row.namespace.as_slice(), row.name.as_slice()) {
         add(alloc, names, row.namespace.as_slice(), row.name.as_slice())?;
     }
     Ok(())
@@ -101,52 +71,51 @@ fn add_missing(
 
 fn add_at(
     alloc: Global,
-    core: &AsmRec,
+    all: &[AsmRec],
+    a: usize,
     rec: &AsmRec,
     token: u32,
     names: &mut Seq<CoreTypeName>,
 ) -> Result<(), NoMemory>
-    ensures { OnOk result (names.new ≡ add_all same_core_name names.old (missing_at core.now rec.now token)) }
+    ensures { OnOk result (names.new ≡ add_all same_core_name names.old (missing_at all.now a rec.now token)) }
 {
     let Some(at) = index_in(0x01, token) else {
         return Ok(());
     };
     match rec.type_ref.get(at as usize) {
         None => Ok(()),
-        Some(row) => add_missing(alloc, core, rec, row, names),
+        Some(row) => add_missing(alloc, all, a, rec, row, names),
     }
 }
 
-/// Adds the names that the modifiers of an assembly use.
+/// Adds the names that the modifiers of the assembly at a place use.
 #[tactic(auto, using(crate::proofs::Adding::add_all_step))]
 fn add_in(
     alloc: Global,
-    core: &AsmRec,
+    all: &[AsmRec],
+    a: usize,
     rec: &AsmRec,
     names: &mut Seq<CoreTypeName>,
 ) -> Result<(), NoMemory>
-    ensures { OnOk result (names.new ≡ add_all same_core_name names.old (missing_in core.now rec.now)) }
+    ensures { OnOk result (names.new ≡ add_all same_core_name names.old (missing_in all.now a rec.now)) }
 {
     let found = modifiers_in(alloc, rec)?;
     let tokens = found.as_slice();
     for token in tokens {
-        add_at(alloc, core, rec, *token, names)?;
+        add_at(alloc, all, a, rec, *token, names)?;
     }
     Ok(())
 }
 
-/// The names that modifiers of these assemblies use and that the core library lacks, each once, as they are met.
-#[tactic(auto, using(crate::proofs::Adding::add_all_step), unfolding(link_rules::specs::CoreNames::missing_names))]
-pub fn missing_names(
-    alloc: Global,
-    core: &AsmRec,
-    recs: &[AsmRec],
-) -> Result<Seq<CoreTypeName>, NoMemory>
-    ensures { IfOk result (λ names. names ≡ missing_names core.now recs.now) }
+/// The names that modifiers of these assemblies use and that the core library lacks, each once, as they are met. The last
+/// assembly is the core library as its table has it.
+#[tactic(auto, unfolding(link_rules::specs::CoreNames::missing_names))]
+pub fn missing_names(alloc: Global, all: &[AsmRec]) -> Result<Seq<CoreTypeName>, NoMemory>
+    ensures { IfOk result (λ names. names ≡ missing_names all.now) }
 {
     let mut names = Seq::new(alloc);
-    for rec in recs {
-        add_in(alloc, core, rec, &mut names)?;
+    for (a, rec) in all.iter().enumerate() {
+        add_in(alloc, all, a, rec, &mut names)?;
     }
     Ok(names)
 }

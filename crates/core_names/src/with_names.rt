@@ -1,7 +1,7 @@
 //! The core library with more types.
 
 ghost use Rattle.std.specs.Prelude.{◌≡◌, ◌+◌, ◌++◌, map, OnOk, IfOk};
-ghost use Rattle.link_rules.specs.CoreNames.{added_type, core_with};
+ghost use Rattle.link_rules.specs.CoreNames.{added_row, core_with};
 
 use core_table::{OBJECT, STATIC_TYPE};
 use il_base::{NoMemory, Seq};
@@ -20,8 +20,8 @@ fn row_behind(count: usize) -> Result<u32, NoMemory>
 }
 
 /// A type without members (II.22.37).
-fn added_type(alloc: Global, core: &AsmRec, name: &CoreTypeName) -> Result<TypeDefRow, NoMemory>
-    ensures { IfOk result (λ row. row ≡ added_type core.now name.now) }
+fn added_row(alloc: Global, core: &AsmRec, name: &CoreTypeName) -> Result<TypeDefRow, NoMemory>
+    ensures { IfOk result (λ row. row ≡ added_row core.now name.now) }
 {
     let field = row_behind(core.field.len())?;
     let method = row_behind(core.method_def.len())?;
@@ -43,7 +43,7 @@ pub fn add_names(alloc: Global, core: &mut AsmRec, names: &[CoreTypeName]) -> Re
     ensures { OnOk result (core.new ≡ core_with core.old names.now) }
 {
     for name in names {
-        let row = added_type(alloc, core, name)?;
+        let row = added_row(alloc, core, name)?;
         core.type_def.push(row)?;
     }
     Ok(())

@@ -1,8 +1,6 @@
 -- Cells that name items, and the numbers that stand for them once the heaps are made.
-use Rattle.std.specs.Prelude.{ℕ, ◌+◌, ◌*◌, ◌/◌, ◌%◌, ◌^◌, List, [], ◌∷◌, map, position, unwrap_or, ◌==◌, if◌then◌else◌}
+use Rattle.std.specs.Prelude.{ℕ, List, [], ◌∷◌, map}
 use Rattle.std.specs.List.{flat_map}
-use Rattle.cli_format.specs.declared.column.CodedIndex.{CodedIndex}
-use Rattle.cli_format.specs.Coded.{targets_of, tag_bits_of, first_tag_of}
 use Rattle.file_layout.specs.declared.cell.Cell.{Cell}
 use Rattle.file_layout.specs.declared.cell.Cell.TheVariants.{Number, Text, Blob, Guid}
 use Rattle.file_layout.specs.Interning.{each_once}
@@ -12,16 +10,6 @@ use Rattle.file_layout.specs.TableStream.{Tables}
 -- tables by their numbers, from 0; a row is its cells
 abbrev pub CellTables : Type 0
 CellTables = List (List (List Cell))
-
--- ---- coded indices (II.24.2.6)
-
--- the tag that names a table
-abbrev pub tag_of : CodedIndex → ℕ → ℕ
-tag_of index t = first_tag_of index + unwrap_or (position (λ u. u == t) (targets_of index)) 0
-
--- the row above the tag; 0 for no token
-unfoldable pub coded_of : CodedIndex → ℕ → ℕ
-coded_of index token = if token == 0 then 0 else token % 16777216 * 2 ^ tag_bits_of index + tag_of index (token / 16777216)
 
 -- ---- the items that cells name, but for the empty ones
 

@@ -18,10 +18,11 @@ use Rattle.world_model.specs.declared.assemblies.AssemblyRefRow.{AssemblyRefRow}
 use Rattle.world_model.specs.declared.record.AsmRec.{AsmRec}
 use Rattle.blob_grammar.specs.Signatures.{method_bytes, field_bytes, locals_bytes}
 use Rattle.cli_format.specs.declared.column.CodedIndex.TheVariants.{TypeDefOrRef, MemberRefParent, ResolutionScope}
+use Rattle.cli_format.specs.Tokens.{coded_of}
 use Rattle.file_layout.specs.Bodies.{rvas_behind}
 use Rattle.file_layout.specs.declared.cell.Cell.{Cell}
 use Rattle.file_layout.specs.declared.cell.Cell.TheVariants.{Number, Text, Blob, Guid}
-use Rattle.file_layout.specs.Cells.{CellTables, coded_of}
+use Rattle.file_layout.specs.Cells.{CellTables}
 
 -- ---- signatures; one without a reading isn't written
 

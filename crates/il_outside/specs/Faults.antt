@@ -1,6 +1,10 @@
 -- Counts of faults.
-use Rattle.std.specs.Prelude.{ℕ, ◌-◌, ◌^◌, ◌<◌, ◌≤◌}
+use Rattle.std.specs.Prelude.{◌≡◌, ℕ, ◌+◌, ◌-◌, ◌^◌, min}
 
--- A count rose: it is above what it was. At its last value, 2^64 - 1, it stays, and that is to rise too.
+-- the number after one more call: at 2^64 - 1 it stays
+abbrev pub raised : ℕ → ℕ
+raised n = min (n + 1) (2 ^ 64 - 1)
+
+-- A count rose by one: one call failed. That it stays at its last value is to rise too.
 abbrev pub Rose : ℕ → ℕ → Type 0
-Rose old new = (old ≤ new) × (old < 2 ^ 64 - 1 → old < new)
+Rose old new = new ≡ raised old

@@ -1,5 +1,5 @@
 -- The objects in memory: which call fails, and what stands under a name.
-use Rattle.std.specs.Prelude.{◌≡◌, ◌==◌, ℕ, ◌+◌, ◌-◌, ◌^◌, min, Bool, List, [], ◌∷◌, take, drop, Option, Some, None, Result, Ok, Err, ⊤, if◌then◌else◌, find, is_some}
+use Rattle.std.specs.Prelude.{◌≡◌, ◌==◌, ℕ, Bool, List, [], ◌∷◌, take, drop, Option, Some, None, Result, Ok, Err, ⊤, if◌then◌else◌, find, is_some}
 use Rattle.std.specs.Option.{option_map}
 use Rattle.std.specs.Str.{bytes_eq}
 use Rattle.il_outside.specs.declared.folder.FolderError.{FolderError}
@@ -11,10 +11,6 @@ use Rattle.il_outside.specs.declared.mem_streams.MemSource.{MemSource}
 use Rattle.il_outside.specs.declared.mem_streams.MemSink.{MemSink}
 use Rattle.il_outside.specs.Folder.{FolderState}
 use Rattle.il_outside.specs.Streams.{SourceState, SinkState}
-
--- the number after one more call: at 2^64 - 1 it stays
-abbrev pub raised : ℕ → ℕ
-raised n = min (n + 1) (2 ^ 64 - 1)
 
 abbrev pub is_named : List ℕ → NamedFile → Bool
 is_named name f = bytes_eq f.name name

@@ -1,8 +1,8 @@
 ghost use Rattle.std.specs.Prelude.{◌≡◌, ◌<◌, [], None, OnOk, OnErr, IfOk, IfSome, length, take, position, is_some, if◌then◌else◌};
 ghost use Rattle.std.specs.Option.{option_map};
-ghost use Rattle.il_outside.specs.Faults.{Rose};
+ghost use Rattle.il_outside.specs.Faults.{Rose, raised};
 ghost use Rattle.il_outside.specs.Folder.{KeepsFiles, Tells, WritesFile, ReadFaults, WriteFaults};
-ghost use Rattle.il_outside.specs.Memory.{raised, is_named, file_in, put_file, fails_at, mem_read, mem_folder_state, AnswersRead, AnswersWrite};
+ghost use Rattle.il_outside.specs.Memory.{is_named, file_in, put_file, fails_at, mem_read, mem_folder_state, AnswersRead, AnswersWrite};
 
 use crate::folder::{Folder, FolderError};
 use il_base::{NoMemory, Seq, Text};

@@ -1,8 +1,8 @@
 ghost use Rattle.std.specs.Prelude.{◌≡◌, ◌==◌, if◌then◌else◌, ◌+◌, ◌-◌, ◌<◌, ◌≤◌, ◌↔◌, ◌++◌, [], length, take, drop, min, MatchResult, IfOk, OnOk, OnErr, IsErr, IsErrOf, Ok, IsTrue, Contains};
 ghost use Rattle.std.specs.Io.KnownBytes.{Consumes, Keeps, IsAtEnd, WriteAppends};
-ghost use Rattle.il_outside.specs.Faults.{Rose};
+ghost use Rattle.il_outside.specs.Faults.{Rose, raised};
 ghost use Rattle.il_outside.specs.Streams.{SinkFaults};
-ghost use Rattle.il_outside.specs.Memory.{raised, mem_source_state, mem_sink_state};
+ghost use Rattle.il_outside.specs.Memory.{mem_source_state, mem_sink_state};
 
 use crate::sink::{Sink, SinkError};
 use crate::source::{Failed, Source};

@@ -1,4 +1,4 @@
--- What a row of InterfaceImpl adds to the graph of supertypes.
+-- What a row of InterfaceImpl adds to the graph of interfaces.
 use Rattle.std.proofs.Common.{◌≡◌, ℕ, zero, suc, ◌+◌, ◌-◌, ◌<◌, ◌≤◌, ◌==◌, nat_lt, Bool, true, false, List, [], ◌∷◌, ◌++◌, Option, Some, None, refl, sym, ap, ◌∙◌, arith, length, get_or, take, slice_set, append_assoc}
 use Rattle.std.specs.Prelude.{if◌then◌else◌}
 use Rattle.std.specs.List.{flat_map}
@@ -14,8 +14,7 @@ use Rattle.world_model.specs.Tokens.{token_of}
 use Rattle.link_rules.specs.Cycles.{listed}
 use Rattle.link_rules.specs.Faults.{numbered}
 use Rattle.link_faults.specs.Graphs.{next_in}
-use Rattle.link_faults.specs.Targets.{target_at}
-use Rattle.link_faults.specs.Supertypes.{bases_of, interfaces_by, place_of, led_on, supers_of}
+use Rattle.link_faults.specs.Supertypes.{interface_at, interfaces_by, place_of, led_on, nothing_of, interfaces_of}
 
 -- ---- lists with a number for each item
 
@@ -41,19 +40,17 @@ module _ {A : Type 0} (f : ℕ → A → List ℕ) (ys : List ℕ) where
 
 -- ---- a row
 
-module _ (all : List AsmRec) (links : List TypeLink) (a : ℕ) (rows : List InterfaceImplRow) (row : InterfaceImplRow) where
+module _ (all : List AsmRec) (links : List TypeLink) (flags : List Bool) (a : ℕ) (rows : List InterfaceImplRow) (row : InterfaceImplRow) where
   abbrev added : ℕ → List ℕ
-  added k = if row.class == token_of 0x02 (suc k) then listed (target_at all links a row.interface) else []
+  added k = if row.class == token_of 0x02 (suc k) then listed (interface_at all links flags a row.interface) else []
 
-  one_more : (k : ℕ) (t : TypeDefRow) → supers_of all links a rows k t ++ added k ≡ supers_of all links a (rows ++ row ∷ []) k t
+  one_more : (k : ℕ) (t : TypeDefRow) → interfaces_of all links flags a rows k t ++ added k ≡ interfaces_of all links flags a (rows ++ row ∷ []) k t
   one_more k t =
-      append_assoc (bases_of all links a k t) (flat_map (interfaces_by all links a (token_of 0x02 (suc k))) rows) (added k)
-      ∙ ap (λ (xs : List ℕ). bases_of all links a k t ++ xs)
-      (ap (λ (xs : List ℕ). flat_map (interfaces_by all links a (token_of 0x02 (suc k))) rows ++ xs) (sym (append-nil (added k)))
-      ∙ sym (flat_map-append (interfaces_by all links a (token_of 0x02 (suc k))) rows (row ∷ [])))
+      ap (λ (xs : List ℕ). flat_map (interfaces_by all links flags a (token_of 0x02 (suc k))) rows ++ xs) (sym (append-nil (added k)))
+      ∙ sym (flat_map-append (interfaces_by all links flags a (token_of 0x02 (suc k))) rows (row ∷ []))
 
-  nothing : (k : ℕ) (t : TypeDefRow) → added k ≡ [] → supers_of all links a rows k t ≡ supers_of all links a (rows ++ row ∷ []) k t
-  nothing k t e = sym (append-nil (supers_of all links a rows k t)) ∙ ap (λ (xs : List ℕ). supers_of all links a rows k t ++ xs) (sym e) ∙ one_more k t
+  nothing : (k : ℕ) (t : TypeDefRow) → added k ≡ [] → interfaces_of all links flags a rows k t ≡ interfaces_of all links flags a (rows ++ row ∷ []) k t
+  nothing k t e = sym (append-nil (interfaces_of all links flags a rows k t)) ∙ ap (λ (xs : List ℕ). interfaces_of all links flags a rows k t ++ xs) (sym e) ∙ one_more k t
 
   nothing_either : (b : Bool) → ◌≡◌ {A = List ℕ} (if b then [] else []) []
   nothing_either true = refl
@@ -65,34 +62,31 @@ module _ (all : List AsmRec) (links : List TypeLink) (a : ℕ) (rows : List Inte
       (Decides-like _ (λ f. omega arith) (λ f. omega arith) (Decides-eqb row.class (token_of 0x02 (suc k))))
       (Decides-eqb k n)
 
-  led_by : (ts : List TypeDefRow) (b : Bool) (to : Option ℕ) → nat_lt row.class 0x02000001 ≡ b → target_at all links a row.interface ≡ to
-      → led_on (numbered (supers_of all links a rows) 0 ts) (if b then None else Some (row.class - 0x02000001)) to ≡ numbered (supers_of all links a (rows ++ row ∷ [])) 0 ts
+  led_by : (ts : List TypeDefRow) (b : Bool) (to : Option ℕ) → nat_lt row.class 0x02000001 ≡ b → interface_at all links flags a row.interface ≡ to
+      → led_on (numbered (interfaces_of all links flags a rows) 0 ts) (if b then None else Some (row.class - 0x02000001)) to ≡ numbered (interfaces_of all links flags a (rows ++ row ∷ [])) 0 ts
   led_by ts true to e f =
-      numbered_like (supers_of all links a rows) (supers_of all links a (rows ++ row ∷ [])) 0 ts
+      numbered_like (interfaces_of all links flags a rows) (interfaces_of all links flags a (rows ++ row ∷ [])) 0 ts
       (λ k t le. let lt = ltb-true row.class 0x02000001 e in nothing k t (rw (ne_eqb row.class (token_of 0x02 (suc k)) (λ g. absurd (omega arith))) refl))
   led_by ts false None e f =
-      numbered_like (supers_of all links a rows) (supers_of all links a (rows ++ row ∷ [])) 0 ts
+      numbered_like (interfaces_of all links flags a rows) (interfaces_of all links flags a (rows ++ row ∷ [])) 0 ts
       (λ k t le. nothing k t (rw f (nothing_either (row.class == token_of 0x02 (suc k)))))
   led_by ts false (Some to) e f =
       let le = ltb-false row.class 0x02000001 e in
       let n : ℕ = row.class - 0x02000001 in
-      set_numbered (supers_of all links a rows) (to ∷ []) ts 0 n n (omega arith)
-      ∙ numbered_like (with_more (supers_of all links a rows) (to ∷ []) n) (supers_of all links a (rows ++ row ∷ [])) 0 ts
-      (λ k t z. ap (λ (b : Bool). supers_of all links a rows k t ++ (if b then to ∷ [] else [])) (sym (place_test n k le refl))
-      ∙ ap (λ (o : Option ℕ). supers_of all links a rows k t ++ (if row.class == token_of 0x02 (suc k) then listed o else [])) (sym f)
+      set_numbered (interfaces_of all links flags a rows) (to ∷ []) ts 0 n n (omega arith)
+      ∙ numbered_like (with_more (interfaces_of all links flags a rows) (to ∷ []) n) (interfaces_of all links flags a (rows ++ row ∷ [])) 0 ts
+      (λ k t z. ap (λ (b : Bool). interfaces_of all links flags a rows k t ++ (if b then to ∷ [] else [])) (sym (place_test n k le refl))
+      ∙ ap (λ (o : Option ℕ). interfaces_of all links flags a rows k t ++ (if row.class == token_of 0x02 (suc k) then listed o else [])) (sym f)
       ∙ one_more k t)
 
-  pub led_more : (ts : List TypeDefRow) → led_on (numbered (supers_of all links a rows) 0 ts) (place_of row.class) (target_at all links a row.interface) ≡ numbered (supers_of all links a (rows ++ row ∷ [])) 0 ts
-  led_more ts = led_by ts (nat_lt row.class 0x02000001) (target_at all links a row.interface) refl refl
-
-pub led_none : (all : List AsmRec) (links : List TypeLink) (a : ℕ) (ts : List TypeDefRow) → numbered (bases_of all links a) 0 ts ≡ numbered (supers_of all links a []) 0 ts
-led_none all links a ts = numbered_like (bases_of all links a) (supers_of all links a []) 0 ts (λ k t le. sym (append-nil (bases_of all links a k t)))
+  pub led_more : (ts : List TypeDefRow) → led_on (numbered (interfaces_of all links flags a rows) 0 ts) (place_of row.class) (interface_at all links flags a row.interface) ≡ numbered (interfaces_of all links flags a (rows ++ row ∷ [])) 0 ts
+  led_more ts = led_by ts (nat_lt row.class 0x02000001) (interface_at all links flags a row.interface) refl refl
 
 -- one row after the other
-pub led_step : (all : List AsmRec) (links : List TypeLink) (a : ℕ) (rows : List InterfaceImplRow) (i : ℕ) (d : InterfaceImplRow) (graph new : List (List ℕ)) (ts : List TypeDefRow) → i < length rows
-    → graph ≡ numbered (supers_of all links a (take i rows)) 0 ts → new ≡ led_on graph (place_of (get_or rows i d).class) (target_at all links a (get_or rows i d).interface)
-    → new ≡ numbered (supers_of all links a (take (i + 1) rows)) 0 ts
-led_step all links a rows i d graph new ts lt e f =
+pub led_step : (all : List AsmRec) (links : List TypeLink) (flags : List Bool) (a : ℕ) (rows : List InterfaceImplRow) (i : ℕ) (d : InterfaceImplRow) (graph new : List (List ℕ)) (ts : List TypeDefRow) → i < length rows
+    → graph ≡ numbered (interfaces_of all links flags a (take i rows)) 0 ts → new ≡ led_on graph (place_of (get_or rows i d).class) (interface_at all links flags a (get_or rows i d).interface)
+    → new ≡ numbered (interfaces_of all links flags a (take (i + 1) rows)) 0 ts
+led_step all links flags a rows i d graph new ts lt e f =
     let row = get_or rows i d in
-    f ∙ ap (λ (g : List (List ℕ)). led_on g (place_of row.class) (target_at all links a row.interface)) e ∙ led_more all links a (take i rows) row ts
-    ∙ ap (λ (rs : List InterfaceImplRow). numbered (supers_of all links a rs) 0 ts) (sym (take_more rows i d lt))
+    f ∙ ap (λ (g : List (List ℕ)). led_on g (place_of row.class) (interface_at all links flags a row.interface)) e ∙ led_more all links flags a (take i rows) row ts
+    ∙ ap (λ (rs : List InterfaceImplRow). numbered (interfaces_of all links flags a rs) 0 ts) (sym (take_more rows i d lt))

@@ -15,9 +15,9 @@ use Rattle.world_model.specs.Exprs.{same_expr}
 use Rattle.world_model.specs.Worlds.{known_then, sig_expr, names_by}
 use Rattle.link_rules.specs.declared.member_type.MethodType.{MethodType}
 use Rattle.link_rules.specs.Signatures.{names_at, method_type, same_method_type}
-use Rattle.link_rules.specs.Members.{good_type}
+use Rattle.link_rules.specs.Members.{is_compiler_controlled, good_type}
 use Rattle.link_rules.specs.Laws.{TellSignatures, TellMethods}
-use Rattle.link_rules.specs.Faults.{numbered, same_type_key, type_key, same_member_key, member_key, is_private_scope, field_key, method_key, first_repeat, repeated_row, repeated_type, repeated_field, repeated_method}
+use Rattle.link_rules.specs.Faults.{numbered, same_type_key, type_key, same_member_key, member_key, field_key, method_key, first_repeat, repeated_row, repeated_type, repeated_field, repeated_method}
 use Rattle.link_faults.specs.declared.owners.Member.TheVariants as member
 use Rattle.link_faults.specs.Codes.{type_code, method_code, member_code, type_key_code}
 use Rattle.link_faults.specs.Keys.{good, type_codes, code_of_member, owner_in, code_of_field, field_codes, code_of_method, method_codes}
@@ -64,7 +64,7 @@ module _ (all : List AsmRec) (links : List TypeLink) (a : ℕ) (rec : AsmRec) (t
 
     field_coded : (k : ℕ) (f : FieldRow) → option_map (member_code type_code) (field_key all a rec k f) ≡ code_of_field all links a (owner_in member.Field rec k) f
     field_coded k f =
-        if_coded (member_code type_code) (is_private_scope f.flags) (member_key f.name (owner_in member.Field rec k) (known_then (sig_expr (names_at all a rec)) f.signature)) _
+        if_coded (member_code type_code) (is_compiler_controlled f.flags) (member_key f.name (owner_in member.Field rec k) (known_then (sig_expr (names_at all a rec)) f.signature)) _
         (member_coded type_code f.name (owner_in member.Field rec k) (known_then (sig_expr (names_at all a rec)) f.signature)
         ∙ ap (λ (o : Option TypeExpr). code_of_member f.name (owner_in member.Field rec k) (option_map type_code o))
         (ap (λ (x : Known TypeExpr). good x) (type_told f.signature) ∙ good_same (known_then (sig_expr (names_by all links a)) f.signature)))
@@ -83,7 +83,7 @@ module _ (all : List AsmRec) (links : List TypeLink) (a : ℕ) (rec : AsmRec) (t
 
     method_coded : (k : ℕ) (m : MethodDefRow) → option_map (member_code method_code) (method_key all a rec k m) ≡ code_of_method all links a (owner_in member.Method rec k) m
     method_coded k m =
-        if_coded (member_code method_code) (is_private_scope m.flags) (member_key m.name (owner_in member.Method rec k) (known_then (method_type (names_at all a rec)) m.signature)) _
+        if_coded (member_code method_code) (is_compiler_controlled m.flags) (member_key m.name (owner_in member.Method rec k) (known_then (method_type (names_at all a rec)) m.signature)) _
         (member_coded method_code m.name (owner_in member.Method rec k) (known_then (method_type (names_at all a rec)) m.signature)
         ∙ ap (λ (x : Known MethodType). code_of_member m.name (owner_in member.Method rec k) (option_map method_code (good x))) (method_told m.signature))
 

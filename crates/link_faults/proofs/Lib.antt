@@ -11,8 +11,8 @@ pub mod Renamed
 pub mod Around
 pub mod Ids
 pub mod Defined
-pub mod Interfaces
 pub mod Typed
+pub mod Interfaces
 pub mod SupersTold
 pub mod HeldLayers
 pub mod Unsubstituted

@@ -12,7 +12,7 @@ use Rattle.world_model.specs.Tokens.{token_of}
 use Rattle.world_model.specs.Worlds.{rows_before, types_in}
 use Rattle.core_table.specs.declared.tokens.TheConstants.{VALUE_TYPE, ENUM}
 use Rattle.link_rules.specs.declared.row_at.RowAt.{RowAt}
-use Rattle.link_rules.specs.Members.{base_at}
+use Rattle.link_rules.specs.Members.{is_interface_row, base_at}
 use Rattle.link_rules.specs.Cycles.{listed, home_of, is_core_row_at, extends_core, is_value_type}
 use Rattle.link_rules.specs.Laws.{TellTokens}
 use Rattle.link_faults.specs.Targets.{id_of, target_of}
@@ -80,7 +80,7 @@ module _ (all : List AsmRec) where
     base_id : option_map (id_of all) (option_and_then (home_of all) (base_at all at)) ≡ base_target all links at.asm t.row
     base_id =
         id_of_base all (base_at all at) ∙ ap (option_and_then (target_of all)) (base_is all links told at t)
-        ∙ base_by all links told at.asm t.rec t.there t.row (t.row.extends == 0)
+        ∙ base_by all links told at.asm t.rec t.there t.row (t.row.extends == 0 || is_interface_row t.row)
 
     extends_told : (token j : ℕ) → token ≡ 0x02000001 + j → extends_core all token at ≡ is_core_type all token (base_target all links at.asm t.row)
     extends_told token j is = core_by token j is (option_and_then (home_of all) (base_at all at)) (base_types (base_at all at)) (base_target all links at.asm t.row) base_id

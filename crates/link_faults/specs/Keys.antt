@@ -15,7 +15,8 @@ use Rattle.world_model.specs.Worlds.{known_then, all_known, sig_expr, names_by}
 use Rattle.link_rules.specs.Types.{encloser}
 use Rattle.link_rules.specs.Signatures.{method_type}
 use Rattle.link_rules.specs.Cycles.{listed}
-use Rattle.link_rules.specs.Faults.{is_private_scope, numbered}
+use Rattle.link_rules.specs.Members.{is_compiler_controlled}
+use Rattle.link_rules.specs.Faults.{numbered}
 use Rattle.link_faults.specs.declared.owners.Member.{Member}
 use Rattle.link_faults.specs.declared.owners.Member.TheVariants as member
 use Rattle.link_faults.specs.Owners.{owns}
@@ -46,7 +47,7 @@ owner_in kind rec k = position_from (owns kind (suc k)) 0 rec.type_def
 
 abbrev pub code_of_field : List AsmRec → List TypeLink → ℕ → Option ℕ → FieldRow → Option (List ℕ)
 code_of_field all links a owner f =
-    if is_private_scope f.flags then None else code_of_member f.name owner (option_map type_code (field_type all links a f.signature))
+    if is_compiler_controlled f.flags then None else code_of_member f.name owner (option_map type_code (field_type all links a f.signature))
 
 abbrev pub field_codes : List AsmRec → List TypeLink → ℕ → AsmRec → List (Option (List ℕ))
 field_codes all links a rec = numbered (λ k f. code_of_field all links a (owner_in member.Field rec k) f) 0 rec.field
@@ -69,7 +70,7 @@ code_of_known all links a k = option_map method_code (good (known_then (method_t
 
 abbrev pub code_of_method : List AsmRec → List TypeLink → ℕ → Option ℕ → MethodDefRow → Option (List ℕ)
 code_of_method all links a owner m =
-    if is_private_scope m.flags then None else code_of_member m.name owner (code_of_known all links a m.signature)
+    if is_compiler_controlled m.flags then None else code_of_member m.name owner (code_of_known all links a m.signature)
 
 abbrev pub method_codes : List AsmRec → List TypeLink → ℕ → AsmRec → List (Option (List ℕ))
 method_codes all links a rec = numbered (λ k m. code_of_method all links a (owner_in member.Method rec k) m) 0 rec.method_def

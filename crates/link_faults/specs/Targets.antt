@@ -7,7 +7,7 @@ use Rattle.world_model.specs.declared.record.AsmRec.{AsmRec}
 use Rattle.world_model.specs.declared.world.TypeLink.{TypeLink}
 use Rattle.world_model.specs.Worlds.{known_or, type_link_at, rows_before, types_in}
 use Rattle.link_rules.specs.declared.row_at.RowAt.{RowAt}
-use Rattle.link_rules.specs.Members.{type_count, owner_of, good_type}
+use Rattle.link_rules.specs.Members.{type_count, owner_of, only_named, good_type}
 
 abbrev pub id_of : List AsmRec → RowAt → ℕ
 id_of all at = rows_before types_in all at.asm + at.row
@@ -26,3 +26,7 @@ target_of all e = option_and_then (id_below (type_count all)) (owner_of all e)
 
 abbrev pub target_at : List AsmRec → List TypeLink → ℕ → ℕ → Option ℕ
 target_at all links a token = option_and_then (target_of all) (linked all links a token)
+
+-- only where the token names a class or an interface
+abbrev pub named_target_at : List AsmRec → List TypeLink → ℕ → ℕ → Option ℕ
+named_target_at all links a token = option_and_then (target_of all) (only_named (linked all links a token))

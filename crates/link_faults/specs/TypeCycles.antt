@@ -6,7 +6,7 @@ use Rattle.world_model.specs.Worlds.{type_id}
 use Rattle.link_rules.specs.Types.{at_row}
 use Rattle.link_rules.specs.Members.{type_home}
 use Rattle.link_rules.specs.Laws.{TellTokens, TellSignatures, TellMethods}
-use Rattle.link_faults.specs.Supertypes.{all_supers}
+use Rattle.link_faults.specs.Supertypes.{all_bases, interface_flags, all_interfaces}
 use Rattle.link_faults.specs.Values.{all_values, all_held}
 use Rattle.link_faults.specs.declared.cycles.Graphs.{Graphs}
 use Rattle.link_faults.specs.declared.cycles.GraphLevels.{GraphLevels}
@@ -18,14 +18,16 @@ pub record Tells (all : List AsmRec) (links : List TypeLink) : Type 0 where
   pub signatures : TellSignatures all links
   pub methods : TellMethods all links
 
--- the graphs of supertypes and of value types in fields
+-- the graphs of bases, of interfaces and of value types in fields
 pub record AreGraphs (all : List AsmRec) (links : List TypeLink) (graphs : Graphs) : Type 0 where
-  pub supers : graphs.supers.items ≡ all_supers all links
+  pub bases : graphs.bases.items ≡ all_bases all links
+  pub interfaces : graphs.interfaces.items ≡ all_interfaces all links (interface_flags all)
   pub held : graphs.held.items ≡ all_held all links (all_values all links)
 
--- levels of both graphs
+-- levels of the three graphs
 pub record AreLeveled (graphs : Graphs) (levels : GraphLevels) : Type 0 where
-  pub supers : AreLevels levels.supers.items graphs.supers.items
+  pub bases : AreLevels levels.bases.items graphs.bases.items
+  pub interfaces : AreLevels levels.interfaces.items graphs.interfaces.items
   pub held : AreLevels levels.held.items graphs.held.items
 
 -- there is a type in this row of this assembly

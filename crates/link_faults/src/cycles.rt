@@ -1,4 +1,4 @@
-//! Types on a cycle: over bases and interfaces, or over the value types in instance fields.
+//! Types on a cycle: of bases, of interfaces, or of the value types in instance fields.
 
 ghost use Rattle.std.specs.Prelude.{◌≡◌, ◌≤◌, length, take, IfOk};
 ghost use Rattle.std.specs.Bool.{OnTrue};
@@ -8,12 +8,13 @@ ghost use Rattle.link_rules.specs.Laws.{AreTypeLinks};
 ghost use Rattle.link_faults.specs.Graphs.{IsAcyclic};
 ghost use Rattle.link_faults.specs.TypeCycles.{Tells, AreGraphs, AreLeveled, HasType, HasAssembly};
 
+use crate::bases::all_bases;
 use crate::found::row_fault;
 use crate::held::all_held;
+use crate::interface_rows::{all_interfaces, interface_flags};
 use crate::levels::{is_on_cycle, levels_of};
 use crate::ranks::is_acyclic;
 use crate::scope::Scope;
-use crate::supertypes::all_supers;
 use crate::value_types::all_values;
 use il_base::{NoMemory, Seq};
 use link_laws::laws::links_tell;
@@ -24,16 +25,19 @@ use world_model::{AsmRec, TypeLink, type_id};
 /// What each type leads to, in the order of ids.
 #[derive(Drop)]
 struct Graphs {
-    /// Its base and its interfaces.
-    supers: Vec<Seq<u32>>,
+    /// Its base.
+    bases: Vec<Seq<u32>>,
+    /// Its interfaces.
+    interfaces: Vec<Seq<u32>>,
     /// The value types in the instance fields of a value type.
     held: Vec<Seq<u32>>,
 }
 
-/// Levels of both graphs.
+/// Levels of the three graphs.
 #[derive(Drop)]
 struct GraphLevels {
-    supers: Vec<u32>,
+    bases: Vec<u32>,
+    interfaces: Vec<u32>,
     held: Vec<u32>,
 }
 
@@ -41,18 +45,28 @@ impl Graphs {
     fn of(alloc: Global, scope: &Scope<'_>) -> Result<Graphs, NoMemory>
         ensures { IfOk result (λ graphs. AreGraphs scope.now.all.now scope.now.links.now graphs) }
     {
-        let supers = all_supers(alloc, scope)?;
+        let bases = all_bases(alloc, scope)?;
+        let flags = interface_flags(alloc, scope)?;
+        let interfaces = all_interfaces(alloc, scope, &flags)?;
         let values = all_values(alloc, scope)?;
         let held = all_held(alloc, scope, &values)?;
-        Ok(Graphs { supers, held })
+        Ok(Graphs {
+            bases,
+            interfaces,
+            held,
+        })
     }
 
     /// Whether no type is on a cycle: true only where none is.
     fn are_acyclic(&self, alloc: Global) -> Result<bool, NoMemory>
-        ensures supers { IfOk result (λ yes. OnTrue yes (IsAcyclic self.now.supers.items)) }
+        ensures bases { IfOk result (λ yes. OnTrue yes (IsAcyclic self.now.bases.items)) }
+        ensures interfaces { IfOk result (λ yes. OnTrue yes (IsAcyclic self.now.interfaces.items)) }
         ensures held { IfOk result (λ yes. OnTrue yes (IsAcyclic self.now.held.items)) }
     {
-        if !is_acyclic(alloc, &self.supers)? {
+        if !is_acyclic(alloc, &self.bases)? {
+            return Ok(false);
+        }
+        if !is_acyclic(alloc, &self.interfaces)? {
             return Ok(false);
         }
         is_acyclic(alloc, &self.held)
@@ -61,9 +75,14 @@ impl Graphs {
     fn levels(&self, alloc: Global) -> Result<GraphLevels, NoMemory>
         ensures { IfOk result (λ levels. AreLeveled self.now levels) }
     {
-        let supers = levels_of(alloc, &self.supers)?;
+        let bases = levels_of(alloc, &self.bases)?;
+        let interfaces = levels_of(alloc, &self.interfaces)?;
         let held = levels_of(alloc, &self.held)?;
-        Ok(GraphLevels { supers, held })
+        Ok(GraphLevels {
+            bases,
+            interfaces,
+            held,
+        })
     }
 
     /// Whether the type in this row of an assembly is on a cycle.
@@ -85,13 +104,12 @@ impl Graphs {
         let Some(id) = type_id(scope.all, file, at) else {
             return Err(NoMemory);
         };
-        if is_on_cycle(
-            alloc,
-            &self.supers,
-            levels.supers.as_slice(),
-            scope.types,
-            id.0,
-        )? {
+        let bases = levels.bases.as_slice();
+        if is_on_cycle(alloc, &self.bases, bases, scope.types, id.0)? {
+            return Ok(true);
+        }
+        let interfaces = levels.interfaces.as_slice();
+        if is_on_cycle(alloc, &self.interfaces, interfaces, scope.types, id.0)? {
             return Ok(true);
         }
         is_on_cycle(alloc, &self.held, levels.held.as_slice(), scope.types, id.0)
@@ -145,7 +163,7 @@ impl Graphs {
     }
 }
 
-/// The first type among those of the first assemblies, `inputs` of them, that is on a cycle of bases and interfaces or of
+/// The first type among those of the first assemblies, `inputs` of them, that is on a cycle of bases, of interfaces or of
 /// value types in instance fields (II.10.3, II.22.37). `links` are the links of the type tokens of all assemblies.
 pub fn cyclic_types(
     alloc: Global,

@@ -13,12 +13,12 @@ use il_base::{AsmId, NoMemory, Seq, TypeId};
 use std::alloc::Global;
 use world_model::{AsmRec, FieldRow, TypeDefRow, TypeExpr};
 
-/// Whether the type of an id is a value type.
-fn has_flag(values: &[bool], id: TypeId) -> bool
-    ensures { result ≡ unwrap_or (slice_get values.now id.0) false }
+/// Whether the type of an id has a flag among these, which are in the order of ids.
+pub(crate) fn has_flag(flags: &[bool], id: TypeId) -> bool
+    ensures { result ≡ unwrap_or (slice_get flags.now id.0) false }
 {
-    match values.get(id.0 as usize) {
-        Some(value) => *value,
+    match flags.get(id.0 as usize) {
+        Some(flag) => *flag,
         None => false,
     }
 }

@@ -2,6 +2,7 @@
 //! in, and the first fault comes out, as `link_rules` defines it (`Faults`).
 #![tactic(auto)]
 
+mod bases;
 mod codes;
 mod cycles;
 mod duplicates;
@@ -9,6 +10,7 @@ mod first;
 mod found;
 mod graph;
 mod held;
+mod interface_rows;
 mod levels;
 mod member_keys;
 mod names;
@@ -18,7 +20,6 @@ mod ranks;
 mod repeats;
 mod scope;
 mod signatures;
-mod supertypes;
 mod targets;
 mod type_keys;
 mod value_types;

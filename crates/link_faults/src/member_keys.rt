@@ -3,23 +3,22 @@
 ghost use Rattle.std.specs.Prelude.{◌≡◌, ◌<◌, length, slice_index_or, None, IfOk};
 ghost use Rattle.std.specs.Option.{option_map};
 ghost use Rattle.world_model.specs.Worlds.{sig_expr, names_by};
-ghost use Rattle.link_rules.specs.Members.{good_type};
-ghost use Rattle.link_rules.specs.Faults.{is_private_scope};
+ghost use Rattle.link_rules.specs.Members.{good_type, is_compiler_controlled};
 ghost use Rattle.link_faults.specs.Codes.{type_code};
 ghost use Rattle.link_faults.specs.Keys.{code_of_member, code_of_field, field_codes, codes_of_types, code_of_parts, code_of_signature, code_of_known, code_of_method, method_codes};
 
 use crate::codes::{add_count, add_text, add_type, bit};
 use crate::owners::{Member, owners};
 use crate::scope::Scope;
-use il_base::{AsmId, MethodSig, NoMemory, Seq, Sig};
+use il_base::{AsmId, MethodSig, NoMemory, Seq, Sig, method_flags::COMPILER_CONTROLLED};
 use std::alloc::Global;
 use world_model::{AsmRec, FieldRow, Known, MethodDefRow};
 
 /// Whether a member is compiler-controlled (II.23.1.5, II.23.1.10).
-fn is_private_scope(flags: u16) -> bool
-    ensures { result ≡ is_private_scope flags }
+fn is_compiler_controlled(flags: u16) -> bool
+    ensures { result ≡ is_compiler_controlled flags }
 {
-    flags % 8 == 0
+    flags % 8 == COMPILER_CONTROLLED
 }
 
 /// The numbers of a member of this type, name and signature, where it has all.
@@ -146,7 +145,7 @@ fn code_of_field(
 ) -> Result<Option<Seq<u32>>, NoMemory>
     ensures { IfOk result (λ code. code ≡ code_of_field scope.now.all.now scope.now.links.now asm.0 owner row.now) }
 {
-    if is_private_scope(row.flags) {
+    if is_compiler_controlled(row.flags) {
         return Ok(None);
     }
     let code = match &row.signature {
@@ -166,7 +165,7 @@ fn code_of_method(
 ) -> Result<Option<Seq<u32>>, NoMemory>
     ensures { IfOk result (λ code. code ≡ code_of_method scope.now.all.now scope.now.links.now asm.0 owner row.now) }
 {
-    if is_private_scope(row.flags) {
+    if is_compiler_controlled(row.flags) {
         return Ok(None);
     }
     let code = code_of_known(alloc, scope, asm, &row.signature)?;

@@ -2,8 +2,8 @@
 
 ghost use Rattle.std.specs.Prelude.{◌≡◌, IfOk, nat_lt, if◌then◌else◌, Some, None};
 ghost use Rattle.std.specs.Option.{option_copied, option_map};
-ghost use Rattle.link_rules.specs.Members.{array_type, owner_of};
-ghost use Rattle.link_faults.specs.Targets.{linked, id_below, target_of, target_at};
+ghost use Rattle.link_rules.specs.Members.{array_type, owner_of, is_named, only_named};
+ghost use Rattle.link_faults.specs.Targets.{linked, id_below, target_of, target_at, named_target_at};
 
 use crate::scope::Scope;
 use core_table::ARRAY;
@@ -35,6 +35,23 @@ fn owner_of(all: &[AsmRec], ty: &TypeExpr) -> Result<Option<TypeId>, NoMemory>
         TypeExpr::Var(_) => Ok(None),
         TypeExpr::MVar(_) => Ok(None),
         TypeExpr::Mod { .. } => Ok(None),
+    }
+}
+
+/// Whether a type is a class or an interface, alone or with arguments.
+#[tactic(auto, unfolding(link_rules::specs::Members::is_named))]
+fn is_named(ty: &TypeExpr) -> bool
+    ensures { result ≡ is_named ty.now }
+{
+    match ty {
+        TypeExpr::Prim(_) => true,
+        TypeExpr::Def(_) => true,
+        TypeExpr::Inst(_, _) => true,
+        TypeExpr::Array(_) => false,
+        TypeExpr::ByRef(_) => false,
+        TypeExpr::Var(_) => false,
+        TypeExpr::MVar(_) => false,
+        TypeExpr::Mod { .. } => false,
     }
 }
 
@@ -73,6 +90,20 @@ impl Scope<'_> {
         match self.linked(asm, token) {
             None => Ok(None),
             Some(ty) => self.target_of(ty),
+        }
+    }
+
+    /// The id of the definition of the class or interface that a token of an assembly names, where it names one.
+    pub(crate) fn named_target_at(&self, asm: AsmId, token: u32) -> Result<Option<u32>, NoMemory>
+        ensures { IfOk result (λ id. id ≡ named_target_at self.now.all.now self.now.links.now asm.0 token) }
+    {
+        let Some(ty) = self.linked(asm, token) else {
+            return Ok(None);
+        };
+        if is_named(ty) {
+            self.target_of(ty)
+        } else {
+            Ok(None)
         }
     }
 }

@@ -4,8 +4,8 @@ ghost use Rattle.std.specs.Prelude.{◌≡◌, ◌≤◌, ◌++◌, IfOk, OnOk};
 ghost use Rattle.link_rules.specs.Faults.{numbered};
 ghost use Rattle.link_faults.specs.Values.{core_type, is_core_type, is_enum_itself, is_value, all_values};
 
+use crate::bases::base_target;
 use crate::scope::Scope;
-use crate::supertypes::base_target;
 use core_table::{ENUM, VALUE_TYPE};
 use il_base::{AsmId, NoMemory, TypeId};
 use std::alloc::Global;

@@ -16,11 +16,11 @@ first_of (x ∷ xs) ys = ap (λ zs. x ∷ zs) (first_of xs ys)
 
 pub inputs_first : (recs : List AsmRec) → take (length recs) (assemblies recs) ≡ recs
 unfolding assemblies
-inputs_first recs = first_of recs (core_with core_record (missing_names core_record recs) ∷ [])
+inputs_first recs = first_of recs (core_with core_record (missing_names (recs ++ core_record ∷ [])) ∷ [])
 
 pub inputs_within : (recs : List AsmRec) → length recs ≤ length (assemblies recs)
 unfolding assemblies
-inputs_within recs = rw (length-append recs (core_with core_record (missing_names core_record recs) ∷ [])) (omega arith)
+inputs_within recs = rw (length-append recs (core_with core_record (missing_names (recs ++ core_record ∷ [])) ∷ [])) (omega arith)
 
 -- the first fault, as it is found among all assemblies
 pub faults : (recs all : List AsmRec) (n : ℕ) → all ≡ assemblies recs → n ≡ length recs → link_fault all (take n all) ≡ link_fault_of recs

@@ -5,3 +5,4 @@ pub mod Text
 pub mod Call
 pub mod Step
 pub mod Run
+pub mod Program

@@ -9,7 +9,8 @@ use Rattle.record_format.specs.Cells.{count_of}
 use Rattle.record_format.specs.Members.{method_def_row}
 use Rattle.record_format.specs.Record.{record_at, HasRecord}
 use Rattle.file_layout.specs.Heaps.{users_heap}
-use Rattle.file_layout.specs.Laid.{streams_with, streams_of}
+use Rattle.file_layout.specs.Laid.{streams_with, streams_of, laid, laid_length, parts_of}
+use Rattle.written_image.proofs.Sizes.{image_size}
 use Rattle.restriction.specs.References.{texts_met}
 use Rattle.restriction.specs.Restricted.{restricted}
 use Rattle.written_record.proofs.FitsDemands.{tables_met, length_rows}
@@ -39,3 +40,9 @@ users_are rec = refl
 
 pub texts_left : (rec : AsmRec) (flags : List Bool) → length (users_heap (texts_met rec flags)) ≡ length (streams_of (restricted rec flags)).users
 texts_left rec flags = ap (λ (texts : List (List ℕ)). length (users_heap texts)) (sym (same_users rec flags)) ∙ ap length (sym (users_are (restricted rec flags)))
+
+-- ---- the file
+
+pub file_length : (rec : AsmRec) → length (laid rec) ≡ laid_length rec
+unfolding laid
+file_length rec = image_size (parts_of rec)

@@ -251,7 +251,7 @@ module _ (recs : List AsmRec) (top : RowAt) (top_home : home_of recs (expr.Prim 
         leads = λ to is. to_base recs top b.0 to (step_base recs b.0 to m.0 b.2 (sym (kept_home (args_of e) m.0 n) ∙ ap (home_of recs) (sym m.2) ∙ is));
       }
 
-  interface_above : (e y : TypeExpr) → In y (interfaces_of recs e) → Above e y
+  pub interface_above : (e y : TypeExpr) → In y (interfaces_of recs e) → Above e y
   unfolding interfaces_of
   interface_above e y h =
       let m = in_map (subst (args_of e) []) y (flat_map (interfaces_at recs) (listed (home_of recs e))) h in

@@ -33,11 +33,11 @@ use Rattle.type_laws.proofs.Places.{rows_decide, IsType, id_of, id_below, one_by
 
 -- ---- no fault
 
-none_first : {A : Type 0} (o p : Option A) → or_else o p ≡ None → o ≡ None
+pub none_first : {A : Type 0} (o p : Option A) → or_else o p ≡ None → o ≡ None
 none_first None p e = refl
 none_first (Some x) p e = e
 
-none_second : {A : Type 0} (o p : Option A) → or_else o p ≡ None → p ≡ None
+pub none_second : {A : Type 0} (o p : Option A) → or_else o p ≡ None → p ≡ None
 none_second None p e = e
 none_second (Some x) p e = cc
 
@@ -51,7 +51,7 @@ none_at look i (y ∷ xs) (suc k) x e is =
     let z : i + suc k ≡ suc i + k = omega arith in
     ap (λ (n : ℕ). look n x) z ∙ none_at look (suc i) xs k x (none_second (look i y) (first_of look (suc i) xs) e) is
 
-none_of : {A B : Type 0} (look : ℕ → A → Option B) (xs : List A) (k : ℕ) (x : A) → first_of look 0 xs ≡ None → slice_get xs k ≡ Some x → look k x ≡ None
+pub none_of : {A B : Type 0} (look : ℕ → A → Option B) (xs : List A) (k : ℕ) (x : A) → first_of look 0 xs ≡ None → slice_get xs k ≡ Some x → look k x ≡ None
 none_of look xs k x e is = let z : k ≡ 0 + k = omega arith in ap (λ (n : ℕ). look n x) z ∙ none_at look 0 xs k x e is
 
 not_some : (b : Bool) (x : LinkError) → (if b then Some x else None) ≡ None → b ≡ false
@@ -157,7 +157,7 @@ module _ (inputs : List AsmRec) (sound : link_fault_of inputs ≡ None) where
       let is : x.asm ≡ length inputs = omega (arith, long, lt, ge) in
       (core_bases n x is, core_interfaces n x is)
 
-  never : (n : ℕ) (x : RowAt) → IsType all x → n ≤ type_count all → Leads (ways all top) (suc n) x x → ⊥
+  pub never : (n : ℕ) (x : RowAt) → IsType all x → n ≤ type_count all → Leads (ways all top) (suc n) x x → ⊥
   never n x p le l =
       let v = never_by n x (type_at all x p) (cases_lt x.asm (length inputs)) le in
       no_round all top top_class top_base top_interfaces n x v.0 v.1 l

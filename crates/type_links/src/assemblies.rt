@@ -23,9 +23,9 @@ fn own_place(all: &[AsmRec], name: &[u8]) -> Option<usize>
     all.iter().position(|rec| is_called(rec, name))
 }
 
-/// The first assembly of this name, and else the core library, which is the last, under its reference names.
+/// The place of the first assembly of this name, and else of the core library, which is the last, under its reference names.
 #[tactic(auto, unfolding(link_rules::specs::Types::assembly_named))]
-fn place_named(all: &[AsmRec], name: &[u8]) -> Option<usize>
+pub fn assembly_named(all: &[AsmRec], name: &[u8]) -> Option<usize>
     ensures { result ≡ assembly_named all.now name.now }
 {
     match own_place(all, name) {
@@ -41,10 +41,10 @@ fn place_named(all: &[AsmRec], name: &[u8]) -> Option<usize>
 }
 
 /// The same as a number of 32 bits.
-fn assembly_named(all: &[AsmRec], name: &[u8]) -> Result<Option<u32>, NoMemory>
+fn number_named(all: &[AsmRec], name: &[u8]) -> Result<Option<u32>, NoMemory>
     ensures { IfOk result (λ at. at ≡ assembly_named all.now name.now) }
 {
-    match place_named(all, name) {
+    match assembly_named(all, name) {
         None => Ok(None),
         Some(at) => match u32::try_from(at) {
             Ok(at) => Ok(Some(at)),
@@ -63,7 +63,7 @@ pub(crate) fn assemblies_of(
 {
     let mut named = Vec::new(alloc);
     for row in rec.assembly_ref.as_slice() {
-        let at = assembly_named(all, row.name.as_slice())?;
+        let at = number_named(all, row.name.as_slice())?;
         named.push(at)?;
     }
     Ok(named)

@@ -14,6 +14,7 @@ mod references;
 #[cfg(test)]
 mod tests;
 
+pub use assemblies::assembly_named;
 pub use index::TypeIndex;
 pub use links::type_links;
 pub use names::TypeName;

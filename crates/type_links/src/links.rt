@@ -7,16 +7,22 @@ ghost use Rattle.link_laws.specs.Parts.{ref_link, def_link, refs_of, defs_of, sp
 ghost use Rattle.type_links.specs.Index.{IsIndex};
 ghost use Rattle.type_links.specs.Linking.{TellsSignatures, links_before};
 
-use crate::definitions::{definition_expr, known_expr};
+use crate::definitions::{added, definition_expr, known_expr, listed};
 use crate::index::TypeIndex;
-use il_base::{AsmId, NoMemory};
+use il_base::{AsmId, NoMemory, TypeId};
 use link_rules::RowAt;
 use std::alloc::Global;
 use world_model::{AsmRec, Known, TypeExpr, TypeLink, TypeSpecRow, expr_by};
 
 /// The link of a row, counted from 0.
-fn type_link(a: u32, table: u8, k: usize, to: Known<TypeExpr>) -> Result<TypeLink, NoMemory>
-    ensures { IfOk result (λ l. l ≡ type_link a table k to) }
+fn type_link(
+    a: u32,
+    table: u8,
+    k: usize,
+    to: Known<TypeExpr>,
+    added: Option<TypeId>,
+) -> Result<TypeLink, NoMemory>
+    ensures { IfOk result (λ l. l ≡ type_link a table k to added) }
 {
     let place = (k as u64).saturating_add(1);
     let token = (u64::from(table) * 0x100_0000).saturating_add(place);
@@ -25,6 +31,7 @@ fn type_link(a: u32, table: u8, k: usize, to: Known<TypeExpr>) -> Result<TypeLin
             asm: AsmId(a),
             token,
             to,
+            added,
         }),
         Err(_) => Err(NoMemory),
     }
@@ -40,6 +47,7 @@ fn row_number(k: usize) -> Result<u32, NoMemory>
     }
 }
 
+#[tactic(auto, unfolding(link_rules::specs::Types::ref_definition, link_rules::specs::Types::added_type))]
 fn ref_link(
     alloc: Global,
     index: &TypeIndex<'_>,
@@ -53,8 +61,9 @@ fn ref_link(
 {
     let row = row_number(k)?;
     let at = index.ref_at(alloc, a, rec, row)?;
-    let to = known_expr(index.all, at)?;
-    type_link(a, 0x01, k, to)
+    let to = known_expr(index.all, listed(index.all, at))?;
+    let added = added(index.all, at)?;
+    type_link(a, 0x01, k, to, added)
 }
 
 fn def_link(all: &[AsmRec], a: u32, k: usize) -> Result<TypeLink, NoMemory>
@@ -62,7 +71,7 @@ fn def_link(all: &[AsmRec], a: u32, k: usize) -> Result<TypeLink, NoMemory>
 {
     let row = row_number(k)?;
     let ty = definition_expr(all, RowAt { asm: a, row })?;
-    type_link(a, 0x02, k, Known::Good(ty))
+    type_link(a, 0x02, k, Known::Good(ty), None)
 }
 
 /// The type that a TypeSpec row names, by links in which those of the assembly's TypeRef and TypeDef rows stand.
@@ -131,7 +140,7 @@ fn push_specs(
 {
     for (k, row) in rec.type_spec.as_slice().iter().enumerate() {
         let to = spec_type(alloc, all, links.as_slice(), a, rec, row)?;
-        let link = type_link(a, 0x1b, k, to)?;
+        let link = type_link(a, 0x1b, k, to, None)?;
         links.push(link)?;
     }
     Ok(())

@@ -3,10 +3,11 @@ ghost use Rattle.std.specs.Option.{option_map};
 ghost use Rattle.world_model.specs.Tokens.{index_in};
 ghost use Rattle.world_model.specs.Worlds.{row_below, types_in};
 ghost use Rattle.link_rules.specs.Types as types;
-ghost use Rattle.link_rules.specs.Types.{at_row, top_type, nested_type, type_of_scope, ref_at};
+ghost use Rattle.link_rules.specs.Types.{at_row, top_type, nested_type, type_of_scope, ref_at, ref_definition};
 ghost use Rattle.type_links.specs.Index.{IsIndex};
 ghost use Rattle.type_links.specs.References.{LeadsTo, come_down, definition_at};
 
+use crate::definitions::listed;
 use crate::index::TypeIndex;
 use crate::names::TypeName;
 use il_base::NoMemory;
@@ -149,7 +150,24 @@ impl<'a> TypeIndex<'a> {
         Ok(self.come_down(nested, end))
     }
 
-    /// The definition that a TypeDef or TypeRef token of an assembly names.
+    /// The definition that a TypeRef row of an assembly names, for all but a modifier.
+    #[tactic(auto, unfolding(link_rules::specs::Types::ref_definition))]
+    fn ref_definition(
+        &self,
+        alloc: Global,
+        a: u32,
+        rec: &AsmRec,
+        k: u32,
+    ) -> Result<Option<RowAt>, NoMemory>
+        requires index { IsIndex self.now }
+        requires stands { slice_get self.now.all.now a ≡ Some rec.now }
+        ensures { IfOk result (λ at. at ≡ ref_definition self.now.all.now a rec.now k) }
+    {
+        let at = self.ref_at(alloc, a, rec, k)?;
+        Ok(listed(self.all, at))
+    }
+
+    /// The definition that a TypeDef or TypeRef token of an assembly names; a type that modifiers alone find is none.
     pub fn definition_at(
         &self,
         alloc: Global,
@@ -182,7 +200,7 @@ impl<'a> TypeIndex<'a> {
         }
         match index_in(0x01, token) {
             None => Ok(None),
-            Some(k) => self.ref_at(alloc, a, rec, k),
+            Some(k) => self.ref_definition(alloc, a, rec, k),
         }
     }
 }

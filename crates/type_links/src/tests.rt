@@ -1,4 +1,5 @@
 use super::*;
+use core_table::TYPE_COUNT;
 use il_base::{NoMemory, Seq, Sig, Text};
 use link_rules::RowAt;
 use std::alloc::Global;
@@ -135,12 +136,17 @@ enum Named {
     /// A generic type over one primitive.
     Instance(u32, u32, u32, u8),
     Unresolved(u32, u32),
+    /// A type that a modifier alone finds.
+    Added(u32, u32, u32),
     Other(u32, u32),
 }
 
 fn named_by(link: &TypeLink) -> Named {
     let asm = link.asm.0;
     let token = link.token;
+    if let (Some(id), Known::Bad(BadKind::Unresolved)) = (link.added, &link.to) {
+        return Named::Added(asm, token, id.0);
+    }
     match &link.to {
         Known::Good(TypeExpr::Prim(code)) => Named::Prim(asm, token, *code),
         Known::Good(TypeExpr::Def(id)) => Named::Def(asm, token, id.0),
@@ -322,6 +328,28 @@ fn reads_type_specs(rt: HostRuntime) -> Result<(), Fail> {
         Named::Prim(1, 0x0200_0001, 0x08),
     ];
     assert_eq!(rt; found.as_slice(), wanted.as_slice());
+    Ok(())
+}
+
+/// A core library with one type more than its table has, and a reference to that type.
+fn fill_added(all: &mut [AsmRec; 2], alloc: Global) -> Result<(), NoMemory> {
+    refer(&mut all[0], alloc, b"System.Runtime")?;
+    mention(&mut all[0], alloc, 0x2300_0001, b"N", b"Added")?;
+    for _ in 0..TYPE_COUNT {
+        define(&mut all[1], alloc, b"N", b"T")?;
+    }
+    define(&mut all[1], alloc, b"N", b"Added")
+}
+
+#[test]
+fn modifiers_alone_find_added_types(rt: HostRuntime) -> Result<(), Fail> {
+    let alloc = rt.alloc();
+    let mut all = [no_rows(alloc), no_rows(alloc)];
+    fill_added(&mut all, alloc)?;
+    let found = linked(alloc, &all)?;
+    assert!(rt; found.get(0) == Some(&Named::Added(0, 0x0100_0001, TYPE_COUNT)));
+    let rows = defined(alloc, &all, &[0x0100_0001])?;
+    assert!(rt; rows.get(0) == Some(&None));
     Ok(())
 }
 

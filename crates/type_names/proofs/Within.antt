@@ -1,11 +1,13 @@
 -- A type that is found is among those of its assembly, and its id among those of the world.
-use Rattle.std.proofs.Common.{◌≡◌, ℕ, zero, suc, ◌+◌, ◌<◌, ◌≤◌, List, [], ◌∷◌, length, codes, Bool, true, false, if◌then◌else◌, ◌&&◌, Option, Some, None, MatchOption, slice_get, sym, ap, arith}
+use Rattle.std.proofs.Common.{◌≡◌, ℕ, zero, suc, ◌+◌, ◌<◌, ◌≤◌, List, [], ◌∷◌, length, codes, Bool, true, false, if◌then◌else◌, ◌&&◌, Option, Some, None, MatchOption, slice_get, refl, sym, ap, ◌∙◌, arith}
 use Rattle.il_base.specs.declared.ids.TypeId.{TypeId}
 use Rattle.world_model.specs.Core.{same_name}
 use Rattle.world_model.specs.Worlds.{rows_before, types_in, type_id}
 use Rattle.world_model.specs.declared.types.TypeDefRow.{TypeDefRow}
 use Rattle.world_model.specs.declared.record.AsmRec.{AsmRec}
-use Rattle.link_rules.specs.Types.{same_place, encloser}
+use Rattle.std.specs.Option.{option_map}
+use Rattle.link_rules.specs.declared.row_at.RowAt.{RowAt}
+use Rattle.link_rules.specs.Types.{same_place, encloser, at_row, is_added, listed_at}
 use Rattle.type_rules.specs.Texts.{full_name}
 use Rattle.type_rules.specs.Searches.{named_from, named_within, nested_along, type_along, type_along_at}
 
@@ -48,8 +50,25 @@ id_is : (recs : List AsmRec) (a k : ℕ) (found : Option TypeId) → rows_before
 id_is recs a k None b h = absurd (omega arith)
 id_is recs a k (Some t) b h = ap Some h
 
-pub id_found : (recs : List AsmRec) (path : List (List ℕ)) (a k : ℕ) (rec : AsmRec) (found : Option TypeId) → rows_before types_in recs (length recs) < 4294967296 → slice_get recs a ≡ Some rec → Some k ≡ type_along rec path →
-    MatchOption found (4294967296 ≤ (type_id recs a k).0) (λ t. t ≡ type_id recs a k) → found ≡ type_along_at recs path a
-id_found recs path a k rec found few h e m =
+along_is : (recs : List AsmRec) (path : List (List ℕ)) (a k : ℕ) (rec : AsmRec) → slice_get recs a ≡ Some rec → Some k ≡ type_along rec path
+    → type_along_at recs path a ≡ option_map (λ (at : RowAt). type_id recs at.asm at.row) (listed_at recs (at_row a k))
+along_is recs path a k rec h e = rw (h, ← e) refl
+
+by_added : (recs : List AsmRec) (path : List (List ℕ)) (a k : ℕ) (rec : AsmRec) (b : Bool) → slice_get recs a ≡ Some rec → Some k ≡ type_along rec path → is_added recs (at_row a k) ≡ b
+    → type_along_at recs path a ≡ (if b then None else Some (type_id recs a k))
+by_added recs path a k rec b h e is =
+    along_is recs path a k rec h e ∙ ap (λ (c : Bool). option_map (λ (at : RowAt). type_id recs at.asm at.row) (if c then None else Some (at_row a k))) is ∙ two_ways b
+  where
+    two_ways : (b : Bool) → option_map (λ (at : RowAt). type_id recs at.asm at.row) (if b then None else Some (at_row a k)) ≡ (if b then None else Some (type_id recs a k))
+    two_ways true = refl
+    two_ways false = refl
+
+pub none_added : (recs : List AsmRec) (path : List (List ℕ)) (a k : ℕ) (rec : AsmRec) → slice_get recs a ≡ Some rec → Some k ≡ type_along rec path → is_added recs (at_row a k) ≡ true
+    → None ≡ type_along_at recs path a
+none_added recs path a k rec h e is = sym (by_added recs path a k rec true h e is)
+
+pub id_found : (recs : List AsmRec) (path : List (List ℕ)) (a k : ℕ) (rec : AsmRec) (found : Option TypeId) → rows_before types_in recs (length recs) < 4294967296 → slice_get recs a ≡ Some rec → Some k ≡ type_along rec path
+    → is_added recs (at_row a k) ≡ false → MatchOption found (4294967296 ≤ (type_id recs a k).0) (λ t. t ≡ type_id recs a k) → found ≡ type_along_at recs path a
+id_found recs path a k rec found few h e is m =
     let b = id_below recs a k rec h (along_below rec path k (sym e)) in
-    rw (h, ← e) (id_is recs a k found (omega arith) m)
+    id_is recs a k found (omega arith) m ∙ sym (by_added recs path a k rec false h e is)

@@ -1,13 +1,14 @@
 //! Types by the names that texts give them.
 
-ghost use Rattle.std.specs.Prelude.{◌≡◌, position, IfOk};
-ghost use Rattle.link_rules.specs.Types.{is_called, assembly_named};
+ghost use Rattle.std.specs.Prelude.{◌≡◌, ◌<◌, length, position, IfOk};
+ghost use Rattle.link_rules.specs.Types.{at_row, is_added, is_called, assembly_named};
 ghost use Rattle.type_rules.specs.Texts.{text};
 ghost use Rattle.type_rules.specs.Searches.{type_along_at, find_type};
 
 use crate::assemblies::Assemblies;
 use crate::rows::TypeRows;
 use attr_blobs::TypeName;
+use core_table::TYPE_COUNT;
 use il_base::{AsmId, NoMemory, Seq, Text, TypeId};
 use std::alloc::Global;
 use std::marker::Model;
@@ -63,7 +64,7 @@ impl<'a> TypeNames<'a> {
     }
 
     /// The type that a name is of: without an assembly's name it is looked for in the assembly that asks and then in the
-    /// core library, with one in that assembly alone.
+    /// core library, with one in that assembly alone. A name that only modifiers use is not a type of the core library here.
     #[tactic(auto, unfolding(type_rules::specs::Searches::find_type))]
     pub fn find_type(&self, from: AsmId, n: &TypeName) -> Option<TypeId>
         ensures { result ≡ find_type self.now from.0 n.now }
@@ -82,7 +83,7 @@ impl<'a> TypeNames<'a> {
         }
     }
 
-    /// The type that a path names in the assembly at a place, from 0.
+    /// The type that a path names in the assembly at a place, from 0; None for a type that modifiers alone find (II.7.1.1).
     fn type_along(&self, at: usize, path: &[Text]) -> Option<TypeId>
         ensures { result ≡ type_along_at self.now path.now at }
     {
@@ -90,7 +91,14 @@ impl<'a> TypeNames<'a> {
             None => None,
             Some(types) => match types.along(path) {
                 None => None,
-                Some(row) => type_id(self.world.recs(), at, row as usize),
+                Some(row) => {
+                    let recs = self.world.recs();
+                    if is_added(recs, at, row) {
+                        None
+                    } else {
+                        type_id(recs, at, row as usize)
+                    }
+                }
             },
         }
     }
@@ -108,6 +116,14 @@ fn type_rows<'a>(alloc: Global, world: &Assemblies<'a>) -> Result<Seq<TypeRows<'
         }
     }
     Ok(types)
+}
+
+/// Whether a row of an assembly, both from 0, is one of the core library after those of its table.
+fn is_added(recs: &[AsmRec], at: usize, row: u32) -> bool
+    requires { at < length recs.now }
+    ensures { result ≡ is_added recs.now (at_row at row) }
+{
+    at + 1 == recs.len() && row >= TYPE_COUNT
 }
 
 fn is_called(name: &[u8], rec: &AsmRec) -> bool

@@ -3,3 +3,5 @@ pub mod Slots
 pub mod Dispatch
 pub mod Texts
 pub mod Searches
+pub mod Initializers
+pub mod Rows

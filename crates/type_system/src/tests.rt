@@ -2,6 +2,7 @@
 
 mod build;
 mod classes;
+mod cycles;
 mod generics;
 mod interfaces;
 mod links;

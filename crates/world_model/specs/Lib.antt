@@ -5,3 +5,4 @@ pub mod Thin
 pub mod Exprs
 pub mod Worlds
 pub mod Kinds
+pub mod Records

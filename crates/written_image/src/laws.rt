@@ -1,6 +1,12 @@
-ghost use Rattle.file_layout.specs.Image.{Parts, image_bytes};
+ghost use Rattle.std.specs.Prelude.{◌≡◌, length};
+ghost use Rattle.file_layout.specs.Image.{Parts, image_bytes, image_length};
 ghost use Rattle.file_layout.specs.Metadata.{Streams, metadata_bytes};
 ghost use Rattle.written_image.specs.Written.{CanLay, ReadsBack, CanStream, StreamsReadBack};
+
+/// How many bytes an image has is what its layout says (II.25.2, II.25.3), whatever it is made of.
+pub fn lengths()
+    ensures { (p : Parts) → length (image_bytes p) ≡ image_length p }
+{}
 
 /// An image that can be laid out meets the demands on an image, and reads back as what it was made of (II.25).
 pub fn images()

@@ -9,7 +9,8 @@ use Rattle.cli_format.specs.declared.column.CodedIndex.{CodedIndex}
 use Rattle.cli_format.specs.declared.column.CodedIndex.TheVariants.{TypeDefOrRef, MemberRefParent, ResolutionScope}
 use Rattle.cli_format.specs.Coded.{tag_bits_of}
 use Rattle.cli_format.specs.Tables.{target_of}
-use Rattle.file_layout.specs.Cells.{CellTables, coded_of, tag_of}
+use Rattle.cli_format.specs.Tokens.{coded_of, tag_of}
+use Rattle.file_layout.specs.Cells.{CellTables}
 use Rattle.record_format.specs.Cells.{coded_token}
 use Rattle.written_record.specs.Fits.{Names}
 use Rattle.written_record.proofs.BackCells.{count, IsCoded}

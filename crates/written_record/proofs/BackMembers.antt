@@ -22,7 +22,7 @@ use Rattle.world_model.specs.declared.assemblies.AssemblyRow.{AssemblyRow}
 use Rattle.world_model.specs.declared.assemblies.AssemblyRefRow.{AssemblyRefRow}
 use Rattle.world_model.specs.declared.record.AsmRec.{AsmRec}
 use Rattle.file_layout.specs.declared.cell.Cell.{Cell}
-use Rattle.file_layout.specs.Cells.{coded_of}
+use Rattle.cli_format.specs.Tokens.{coded_of}
 use Rattle.file_layout.specs.Rows.{member_ref_cells, stand_alone_sig_cells, assembly_cells, assembly_ref_cells, cells_of, method_blob, member_blob, locals_blob}
 use Rattle.record_format.specs.Cells.{number_in, text_in, blob_in, token_in, token_by, run_end, count_of, all_rows, coded_token}
 use Rattle.record_format.specs.Parts.{known_of, known_map, begins_field, member_of_blob, body_by, bad_offset}

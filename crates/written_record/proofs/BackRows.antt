@@ -18,7 +18,8 @@ use Rattle.world_model.specs.declared.assemblies.AssemblyRow.{AssemblyRow}
 use Rattle.world_model.specs.declared.assemblies.AssemblyRefRow.{AssemblyRefRow}
 use Rattle.file_layout.specs.declared.cell.Cell.{Cell}
 use Rattle.file_layout.specs.declared.cell.Cell.TheVariants as cell
-use Rattle.file_layout.specs.Cells.{CellTables, coded_of}
+use Rattle.cli_format.specs.Tokens.{coded_of}
+use Rattle.file_layout.specs.Cells.{CellTables}
 use Rattle.file_layout.specs.Rows.{module_cells, type_ref_cells, type_def_cells, method_def_cells, member_ref_cells, stand_alone_sig_cells, assembly_cells, assembly_ref_cells}
 use Rattle.written_record.specs.Fits.{FitsModule, FitsTypeDef, FitsMethodDef, FitsAssembly, FitsAssemblyRef, Names}
 use Rattle.written_record.specs.LaidOut.{LaidTypeRef, LaidTypeDef, LaidMethodDef, LaidMemberRef}

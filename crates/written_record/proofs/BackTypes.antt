@@ -13,7 +13,8 @@ use Rattle.world_model.specs.declared.types.TypeRefRow.{TypeRefRow}
 use Rattle.world_model.specs.declared.types.TypeDefRow.{TypeDefRow}
 use Rattle.world_model.specs.declared.record.AsmRec.{AsmRec}
 use Rattle.file_layout.specs.declared.cell.Cell.{Cell}
-use Rattle.file_layout.specs.Cells.{CellTables, coded_of}
+use Rattle.cli_format.specs.Tokens.{coded_of}
+use Rattle.file_layout.specs.Cells.{CellTables}
 use Rattle.file_layout.specs.Rows.{module_cells, type_ref_cells, type_def_cells, cells_of}
 use Rattle.record_format.specs.Cells.{number_in, text_in, guid_in, token_in, token_by, run_end, count_of, all_rows, coded_token}
 use Rattle.record_format.specs.Types.{module_row, type_ref_row, type_def_row}

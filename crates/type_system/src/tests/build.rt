@@ -18,8 +18,6 @@ pub const VIRTUAL: u16 = 0x146;
 pub const ABSTRACT: u16 = 0x546;
 /// public virtual
 pub const OVERRIDE: u16 = 0x46;
-/// compiler-controlled
-pub const COMPILER_CONTROLLED: u16 = 0x00;
 /// private final virtual newslot: an explicit implementation
 pub const EXPLICIT: u16 = 0x161;
 /// private virtual newslot
@@ -217,13 +215,33 @@ pub fn class_with_field(
     define(rec, alloc, 0x0010_0001, name, extends, 1, methods)
 }
 
-/// `public static int`
-pub fn static_field(rec: &mut AsmRec, alloc: Global, name: &[u8]) -> Result<(), NoMemory> {
+/// A struct with one instance field of the type of a TypeDef row, by way of the TypeRef row of System.ValueType.
+pub fn value_with_field(
+    rec: &mut AsmRec,
+    alloc: Global,
+    name: &[u8],
+    base: u32,
+    field: u32,
+) -> Result<(), NoMemory> {
+    define(rec, alloc, 0x0010_0109, name, base, 1, 0)?;
     rec.field.push(FieldRow {
-        flags: 0x16,
-        name: text(alloc, name)?,
-        signature: Known::Good(Sig::Prim(0x08)),
+        flags: 0x06,
+        name: text(alloc, b"field")?,
+        signature: Known::Good(Sig::Named {
+            value: true,
+            token: field,
+        }),
     })
+}
+
+/// An interface without methods whose row has a base, which no interface has.
+pub fn interface_with_base(
+    rec: &mut AsmRec,
+    alloc: Global,
+    name: &[u8],
+    extends: u32,
+) -> Result<(), NoMemory> {
+    define(rec, alloc, 0xa1, name, extends, 0, 0)
 }
 
 /// An interface whose methods, so many, are to be pushed next.
@@ -363,11 +381,6 @@ pub fn int32() -> TypeExpr {
 /// `string`
 pub fn string() -> TypeExpr {
     TypeExpr::Prim(0x0e)
-}
-
-/// `object`
-pub fn object() -> TypeExpr {
-    TypeExpr::Prim(0x1c)
 }
 
 /// A generic type with one argument.

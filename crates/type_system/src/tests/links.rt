@@ -17,7 +17,7 @@ fn named(alloc: Global, name: &[u8]) -> Result<AsmRec, NoMemory> {
 }
 
 /// Why assemblies don't link: the assembly, the demand and the row.
-fn fault(alloc: Global, recs: Seq<AsmRec>) -> Result<Option<(u32, u8, u32)>, NoMemory> {
+pub fn fault(alloc: Global, recs: Seq<AsmRec>) -> Result<Option<(u32, u8, u32)>, NoMemory> {
     match link(alloc, recs) {
         Ok(_) => Ok(None),
         Err(LinkError::Bad { file, why, token }) => Ok(Some((file, why, token))),
@@ -123,6 +123,9 @@ fn assemblies_that_forward_to_each_other(rt: HostRuntime) -> Result<(), Fail> {
     assert!(rt; is_unresolved(alloc, recs)?);
     Ok(())
 }
+
+/// compiler-controlled
+const COMPILER_CONTROLLED: u16 = 0x00;
 
 /// `class A`, whose method `M` is compiler-controlled and whose method `N` is public, and references to both.
 fn fill_controlled(rec: &mut AsmRec, alloc: Global) -> Result<(), NoMemory> {

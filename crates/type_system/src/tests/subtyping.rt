@@ -9,6 +9,11 @@ use std::alloc::Global;
 use std::test::Fail;
 use world_model::{AsmRec, Known, TypeExpr, TypeSpecRow, World};
 
+/// `object`
+fn object() -> TypeExpr {
+    TypeExpr::Prim(0x1c)
+}
+
 fn is_below(alloc: Global, world: &World, a: TypeExpr, b: TypeExpr) -> Result<bool, NoMemory>
     requires { IsWorld world.now }
 {

@@ -6,5 +6,5 @@ use Rattle.core_names.proofs.missing.add_in.Given as goal
 
 abbrev pub invariant-loop-token : goal.invariant-loop-token
 invariant-loop-token l =
-    add_all same_core_name l.names (flat_map (missing_at l.core l.rec) (drop l.token-index l.tokens))
-    ≡ add_all same_core_name l.initial.names (flat_map (missing_at l.core l.rec) l.tokens)
+    add_all same_core_name l.names (flat_map (missing_at l.all l.a l.rec) (drop l.token-index l.tokens))
+    ≡ add_all same_core_name l.initial.names (flat_map (missing_at l.all l.a l.rec) l.tokens)

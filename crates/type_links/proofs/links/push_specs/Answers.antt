@@ -1,4 +1,4 @@
-use Rattle.std.proofs.Common.{◌++◌, ◌+◌, ◌∷◌, [], ap, sym, subst, ◌∙◌, List, take, arith}
+use Rattle.std.proofs.Common.{◌++◌, ◌+◌, ◌∷◌, [], ap, sym, subst, ◌∙◌, List, None, take, arith}
 use Rattle.std.proofs.lemmas.List.{take_all}
 use Rattle.world_model.specs.declared.world.TypeLink.{TypeLink}
 use Rattle.link_rules.specs.Faults.{numbered}
@@ -25,5 +25,5 @@ loop-k-preserved c =
     let rows = c.as_slice-row-items.result.now in
     let k = c.loop-k.k in
     one_more c.args.links.now.items c.loop-k.links.items (numbered link 0 (take k rows)) c.push.new.self.items (link k c.row-item.result) c.loop-k.invariant
-    (c.in_ok-push.ensures.items ∙ ap (λ (l : TypeLink). c.loop-k.links.items ++ l ∷ []) (c.in_ok-link.ensures ∙ ap (λ (to : _). type_link c.args.a 0x1b k to) c.in_ok-to.ensures))
+    (c.in_ok-push.ensures.items ∙ ap (λ (l : TypeLink). c.loop-k.links.items ++ l ∷ []) (c.in_ok-link.ensures ∙ ap (λ (to : _). type_link c.args.a 0x1b k to None) c.in_ok-to.ensures))
     (numbered link 0 (take (k + 1) rows)) (numbered_more link rows k c.row-item.result (omega arith) c.row-item.is)

@@ -1,0 +1,7 @@
+pub mod Exprs
+pub mod Subst
+pub mod Values
+pub mod Same
+pub mod Lists
+pub mod Cells
+pub mod Numbers

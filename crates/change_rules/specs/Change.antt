@@ -1,0 +1,32 @@
+-- A change of numbers: what becomes of each type, method and field, and which are kept.
+use Rattle.std.specs.Prelude.{◌≡◌, ℕ, Bool}
+
+-- new numbers
+pub record Rho : Type 0 where
+  pub typ : ℕ → ℕ
+  pub method : ℕ → ℕ
+  pub field : ℕ → ℕ
+
+-- the first leads each number of the second back, so that no two numbers become one
+pub record Undone (back rho : Rho) : Type 0 where
+  pub typ : (t : ℕ) → back.typ (rho.typ t) ≡ t
+  pub method : (m : ℕ) → back.method (rho.method m) ≡ m
+  pub field : (f : ℕ) → back.field (rho.field f) ≡ f
+
+-- which are kept; those of the core library always are
+pub record Keep : Type 0 where
+  pub typ : ℕ → Bool
+  pub method : ℕ → Bool
+  pub field : ℕ → Bool
+  -- a type of which there can be objects
+  pub made : ℕ → Bool
+  -- a type whose text can be printed
+  pub shown : ℕ → Bool
+  -- a type whose initializer an access can begin
+  pub begun : ℕ → Bool
+
+pub record Change : Type 0 where
+  pub rho : Rho
+  pub back : Rho
+  pub undone : Undone back rho
+  pub keep : Keep

@@ -1,0 +1,9 @@
+pub mod Keeping
+pub mod Change
+pub mod Moves
+pub mod Answers
+pub mod States
+pub mod Keeps
+pub mod Covered
+pub mod Agree
+pub mod Lock

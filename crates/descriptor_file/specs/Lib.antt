@@ -1,0 +1,4 @@
+pub mod Values
+pub mod Tokens
+pub mod Grammar
+pub mod Reading

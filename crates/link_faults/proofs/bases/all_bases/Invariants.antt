@@ -1,0 +1,11 @@
+use Rattle.std.proofs.Common.{◌≡◌, ◌++◌, drop}
+use Rattle.world_model.specs.declared.record.AsmRec.{AsmRec}
+use Rattle.link_rules.specs.Faults.{numbered}
+use Rattle.link_rules.specs.Linked.{links_from}
+use Rattle.link_faults.specs.Supertypes.{bases_of, all_bases}
+use Rattle.link_faults.proofs.bases.all_bases.Given as goal
+
+abbrev pub invariant-loop-at : goal.invariant-loop-at
+invariant-loop-at l =
+    l.graph.items ++ links_from (λ a (rec : AsmRec). numbered (bases_of l.scope.all.now l.scope.links.now a) 0 rec.type_def) l.at (drop l.at l.scope.all.now)
+    ≡ all_bases l.scope.all.now l.scope.links.now

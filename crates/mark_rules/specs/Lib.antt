@@ -1,0 +1,16 @@
+pub mod Facts
+pub mod Places
+pub mod Naming
+pub mod Bodies
+pub mod Types
+pub mod Calls
+pub mod Properties
+pub mod Members
+pub mod Attributes
+pub mod Annotations
+pub mod Dependencies
+pub mod Roots
+pub mod Shown
+pub mod Marking
+pub mod BadItems
+pub mod KeepList

@@ -1,0 +1,183 @@
+-- What a descriptor keeps (`assembly`, `type` and member elements), and what is marked before any rule is used.
+use Rattle.std.specs.Prelude.{ℕ, zero, suc, List, [], ◌∷◌, ◌++◌, length, map, codes, Option, Some, None, slice_get, position, nat_eq, ◌==◌, ◌&&◌, ◌||◌, Bool, true, false, not, if◌then◌else◌}
+use Rattle.std.specs.List.{list_any, flat_map, filter}
+use Rattle.std.specs.Option.{option_and_then}
+use Rattle.std.specs.Fmt.{decimal}
+use Rattle.il_base.specs.declared.ids.TypeId.{TypeId}
+use Rattle.il_base.specs.declared.ids.Item.{Item}
+use Rattle.il_base.specs.declared.ids.Item.TheVariants as item
+use Rattle.world_model.specs.declared.expr.TypeExpr.{TypeExpr, fold-TypeExpr}
+use Rattle.world_model.specs.declared.expr.TypeExpr.TheOpen.{TypeExpr-F}
+use Rattle.world_model.specs.declared.types.TypeDefRow.{TypeDefRow}
+use Rattle.world_model.specs.declared.members.FieldRow.{FieldRow}
+use Rattle.world_model.specs.declared.members.MethodDefRow.{MethodDefRow}
+use Rattle.world_model.specs.declared.record.AsmRec.{AsmRec}
+use Rattle.world_model.specs.Core.{same_name}
+use Rattle.world_model.specs.Worlds.{known_then, sig_expr, prim_type, type_id}
+use Rattle.descriptor_file.specs.declared.root.Root.{Root}
+use Rattle.descriptor_file.specs.declared.root.RootMember.{RootMember}
+use Rattle.descriptor_file.specs.declared.root.preserve.TheConstants as preserve
+use Rattle.descriptor_file.specs.declared.root.member.TheConstants as member
+use Rattle.link_rules.specs.declared.row_at.RowAt.{RowAt}
+use Rattle.link_rules.specs.declared.member_type.MethodType.{MethodType}
+use Rattle.link_rules.specs.Types.{at_row, is_called, encloser}
+use Rattle.link_rules.specs.Signatures.{names_at}
+use Rattle.link_rules.specs.Members.{type_home}
+use Rattle.link_rules.specs.Cycles.{listed}
+use Rattle.type_rules.specs.Slots.{method_row_at, type_of_row}
+use Rattle.type_rules.specs.Texts.{full_name, joined}
+use Rattle.type_rules.specs.Rows.{each_row, fields_of_type, is_module_type, methods_of_type, rec_at}
+use Rattle.mark_rules.specs.Facts.{Fact}
+use Rattle.mark_rules.specs.Facts.Fact.{marked, instantiated}
+use Rattle.mark_rules.specs.Places.{marks_type, marks_method, marks_field}
+use Rattle.mark_rules.specs.Properties.{whole_property, whole_event}
+use Rattle.mark_rules.specs.Members.{is_constructor, has_method_row, properties_of_type, events_of_type}
+use Rattle.mark_rules.specs.Attributes.{is_property_called}
+use Rattle.mark_rules.specs.Annotations.{good_expr}
+use Rattle.mark_rules.specs.Dependencies.{is_event_called, good_signatures}
+
+-- ---- the types
+
+-- the first input of a simple name; the core library is none
+unfoldable pub input_named : List AsmRec → List ℕ → Option ℕ
+input_named recs name = option_and_then (λ a. if suc a == length recs then None else Some a) (position (is_called name) recs)
+
+-- a type's full name, with `/` before the name of a nested type, at most n levels
+abbrev pub slashed_by : (ℕ → List ℕ) → Option ℕ → List ℕ → List ℕ
+slashed_by outer None name = name
+slashed_by outer (Some around) name = outer around ++ codes "/" ++ name
+
+unfoldable pub slashed_within : AsmRec → ℕ → ℕ → List ℕ
+slashed_within rec zero k = []
+slashed_within rec (suc n) k = flat_map (λ (t : TypeDefRow). slashed_by (slashed_within rec n) (encloser rec k) (full_name t)) (listed (slice_get rec.type_def k))
+
+abbrev pub slashed_name : AsmRec → ℕ → List ℕ
+slashed_name rec k = slashed_within rec (suc (length rec.type_def)) k
+
+abbrev pub type_called : ℕ → AsmRec → List ℕ → ℕ → TypeDefRow → List RowAt
+type_called a rec name k t = if not (is_module_type k t) && same_name (slashed_name rec k) name then at_row a k ∷ [] else []
+
+abbrev pub first_row : List RowAt → Option RowAt
+first_row [] = None
+first_row (x ∷ xs) = Some x
+
+-- the type of an input that has this name; `<Module>` is never found
+unfoldable pub descriptor_type : List AsmRec → ℕ → List ℕ → Option RowAt
+descriptor_type recs a name = first_row (flat_map (λ (rec : AsmRec). each_row (type_called a rec name) rec.type_def) (listed (slice_get recs a)))
+
+-- ---- signatures: `RETURN NAME(TYPE,TYPE)` and `TYPE NAME`
+
+abbrev pub definition_slashed : List AsmRec → Option TypeId → List ℕ
+definition_slashed recs None = []
+definition_slashed recs (Some t) =
+    flat_map (λ (at : RowAt). flat_map (λ (rec : AsmRec). slashed_name rec at.row) (listed (rec_at recs at))) (listed (type_home recs t))
+
+abbrev pub sig_text_layer : List AsmRec → TypeExpr-F (List ℕ) → List ℕ
+sig_text_layer recs (TypeExpr-F.Prim n) = definition_slashed recs (prim_type recs n)
+sig_text_layer recs (TypeExpr-F.Def t) = definition_slashed recs (Some t)
+sig_text_layer recs (TypeExpr-F.Inst t args) = definition_slashed recs (Some t) ++ codes "<" ++ joined args ++ codes ">"
+sig_text_layer recs (TypeExpr-F.Array x) = x ++ codes "[]"
+sig_text_layer recs (TypeExpr-F.ByRef x) = x ++ codes "&"
+sig_text_layer recs (TypeExpr-F.Var n) = codes "!" ++ decimal n
+sig_text_layer recs (TypeExpr-F.MVar n) = codes "!!" ++ decimal n
+sig_text_layer recs (TypeExpr-F.Mod required by x) = x
+
+-- a type in a signature, modifiers left out
+unfoldable pub sig_text : List AsmRec → TypeExpr → List ℕ
+sig_text recs = fold-TypeExpr (List ℕ) (sig_text_layer recs)
+
+abbrev pub method_text : List AsmRec → List ℕ → MethodType → List ℕ
+method_text recs name m = sig_text recs m.ret ++ codes " " ++ name ++ codes "(" ++ joined (map (sig_text recs) m.params) ++ codes ")"
+
+abbrev pub method_fits : List AsmRec → RootMember → RowAt → MethodDefRow → Bool
+method_fits recs r at m =
+    if r.by_signature then list_any (λ (s : MethodType). same_name (method_text recs m.name s) r.text) (good_signatures (type_of_row recs at))
+    else same_name m.name r.text
+
+abbrev pub field_text : List AsmRec → List ℕ → TypeExpr → List ℕ
+field_text recs name e = sig_text recs e ++ codes " " ++ name
+
+abbrev pub field_fits : List AsmRec → RootMember → RowAt → AsmRec → FieldRow → Bool
+field_fits recs r at rec f =
+    if r.by_signature then list_any (λ e. same_name (field_text recs f.name e) r.text) (good_expr (known_then (sig_expr (names_at recs at.asm rec)) f.signature))
+    else same_name f.name r.text
+
+-- ---- what an element keeps
+
+-- a constructor that is kept makes its type instantiated
+abbrev pub keeps_method : List AsmRec → RowAt → RowAt → List Fact
+keeps_method recs t m = if has_method_row recs is_constructor m then instantiated (type_id recs t.asm t.row) ∷ marks_method recs m ∷ [] else marks_method recs m ∷ []
+
+abbrev pub all_methods : List AsmRec → RowAt → List Fact
+all_methods recs t = flat_map (keeps_method recs t) (methods_of_type recs t)
+
+abbrev pub all_fields : List AsmRec → RowAt → List Fact
+all_fields recs t = map (marks_field recs) (fields_of_type recs t)
+
+-- methods, fields, properties and events; no nested types and no interface rows
+abbrev pub all_members : List AsmRec → RowAt → List Fact
+all_members recs t =
+    all_methods recs t ++ all_fields recs t ++ flat_map (whole_property recs) (properties_of_type recs t) ++ flat_map (whole_event recs) (events_of_type recs t)
+
+abbrev pub preserved : List AsmRec → RowAt → ℕ → List Fact
+preserved recs t kind =
+    if kind == preserve.FIELDS then all_fields recs t
+    else if kind == preserve.METHODS then all_methods recs t
+    else if kind == preserve.ALL then all_members recs t
+    else []
+
+abbrev pub fits_method : List AsmRec → RootMember → RowAt → Bool
+fits_method recs r at = list_any (method_fits recs r at) (listed (method_row_at recs at))
+
+abbrev pub fits_field : List AsmRec → RootMember → RowAt → Bool
+fits_field recs r at = list_any (λ (rec : AsmRec). list_any (field_fits recs r at rec) (listed (slice_get rec.field at.row))) (listed (rec_at recs at))
+
+-- the members that a member element names, all overloads; a property or event with its accessors
+abbrev pub member_by : List AsmRec → RowAt → RootMember → List Fact
+member_by recs t r =
+    if r.kind == member.METHOD then flat_map (keeps_method recs t) (filter (fits_method recs r) (methods_of_type recs t))
+    else if r.kind == member.FIELD then map (marks_field recs) (filter (fits_field recs r) (fields_of_type recs t))
+    else if r.kind == member.PROPERTY then flat_map (whole_property recs) (filter (is_property_called recs r.text) (properties_of_type recs t))
+    else flat_map (whole_event recs) (filter (is_event_called recs r.text) (events_of_type recs t))
+
+abbrev pub root_members : List AsmRec → RowAt → Root → List Fact
+root_members recs t r = preserved recs t r.preserve ++ flat_map (member_by recs t) r.members
+
+-- every type of an assembly but `<Module>`, with all its members
+abbrev pub whole_assembly : List AsmRec → ℕ → List Fact
+whole_assembly recs a =
+    flat_map (λ (rec : AsmRec). each_row (λ k t. if is_module_type k t then [] else marks_type recs (at_row a k) ∷ all_members recs (at_row a k)) rec.type_def) (listed (slice_get recs a))
+
+abbrev pub root_type : List AsmRec → Root → Option RowAt
+root_type recs r = option_and_then (λ a. option_and_then (descriptor_type recs a) r.typ) (input_named recs r.asm)
+
+abbrev pub no_type : Root → Bool
+no_type r = elim r.typ [ Some name ↦ false | None ↦ true ]
+
+-- what an element keeps at once
+unfoldable pub root_facts : List AsmRec → Root → List Fact
+root_facts recs r =
+    if no_type r then flat_map (whole_assembly recs) (listed (input_named recs r.asm))
+    else if r.required then flat_map (λ t. marks_type recs t ∷ root_members recs t r) (listed (root_type recs r))
+    else []
+
+abbrev pub waits_for : List AsmRec → Item → Root → List Fact
+waits_for recs (item.Typ t) r =
+    if no_type r || r.required then []
+    else flat_map (λ (at : RowAt). if nat_eq (type_id recs at.asm at.row).0 t.0 then root_members recs at r else []) (listed (root_type recs r))
+waits_for recs _ r = []
+
+-- what an element with `required="false"` keeps once its type is marked
+unfoldable pub waiting_facts : List AsmRec → List Root → Item → List Fact
+waiting_facts recs roots i = flat_map (waits_for recs i) roots
+
+-- ---- the start
+
+abbrev pub module_facts : List AsmRec → List Fact
+module_facts recs =
+    flat_map (λ (rec : AsmRec). flat_map (λ (t : TypeDefRow). if is_module_type 0 t then marks_type recs (at_row 0 0) ∷ [] else []) (listed (slice_get rec.type_def 0))) (listed (slice_get recs 0))
+
+-- the primary assembly, its `<Module>`, the entry method, and what descriptors keep
+unfoldable pub start_facts : List AsmRec → Option RowAt → List Root → List Fact
+start_facts recs entry roots =
+    marked (item.Asm (record { 0 = 0 })) ∷ module_facts recs ++ map (marks_method recs) (listed entry) ++ flat_map (root_facts recs) roots

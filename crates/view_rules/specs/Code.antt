@@ -1,0 +1,133 @@
+-- A method's body with its references resolved (II.25.4, III.1.2).
+use Rattle.std.specs.Prelude.{ℕ, ◌+◌, ◌*◌, List, [], length, map, Option, Some, None, slice_get, find, nat_lt, ◌==◌, Bool, if◌then◌else◌}
+use Rattle.std.specs.Option.{option_and_then}
+use Rattle.il_base.specs.declared.body.Form.{Form}
+use Rattle.il_base.specs.declared.body.Form.TheVariants as form
+use Rattle.il_base.specs.declared.body.Operand.{Operand}
+use Rattle.il_base.specs.declared.body.Operand.TheVariants as operand
+use Rattle.il_base.specs.declared.body.Instr.{Instr}
+use Rattle.il_base.specs.declared.body.Handler.{Handler}
+use Rattle.il_base.specs.declared.body.Body.{Body}
+use Rattle.il_base.specs.declared.table.TheConstants.{STAND_ALONE_SIG}
+use Rattle.world_model.specs.declared.known.Known.{Known}
+use Rattle.world_model.specs.declared.known.Known.TheVariants.{Good, Bad}
+use Rattle.world_model.specs.declared.known.BadKind.TheVariants.{Unresolved}
+use Rattle.world_model.specs.declared.expr.TypeExpr.{TypeExpr}
+use Rattle.world_model.specs.declared.members.StandAloneSigRow.{StandAloneSigRow}
+use Rattle.world_model.specs.declared.record.UserText.{UserText}
+use Rattle.world_model.specs.declared.record.AsmRec.{AsmRec}
+use Rattle.world_model.specs.Tokens.{index_in}
+use Rattle.world_model.specs.Worlds.{known_then}
+use Rattle.body_grammar.specs.declared.body.Inline.{Inline}
+use Rattle.body_grammar.specs.declared.body.Inline.TheVariants.{InlineNone, FixedSlot, FixedNumber, ShortInlineVar, InlineVar, ShortInlineI, InlineI, InlineI8, InlineTok, ShortInlineBrTarget, InlineBrTarget, InlineSwitch}
+use Rattle.body_grammar.specs.Opcodes.{kind_of}
+use Rattle.link_rules.specs.Signatures.{names_at, token_type}
+use Rattle.link_rules.specs.Members.{arguments_of}
+use Rattle.mark_rules.specs.Naming.{method_named, field_named}
+use Rattle.mark_rules.specs.Bodies.{is_field_token, is_method_token}
+use Rattle.step_rules.specs.Queries.{Use, Instruction, Kind, Clause, Code}
+use Rattle.step_rules.specs.Queries.{Use as use_of}
+use Rattle.step_rules.specs.Queries.Kind.{catches, finally, fault}
+
+-- ---- lengths in bytes (III.1.2)
+
+abbrev pub opcode_size : ℕ → ℕ
+opcode_size opcode = if nat_lt opcode 256 then 1 else 2
+
+abbrev pub switch_size : Operand → ℕ
+switch_size (operand.Targets ts) = 4 + 4 * length ts
+switch_size _ = 4
+
+abbrev pub inline_size : Operand → Inline → ℕ
+inline_size o InlineNone = 0
+inline_size o (FixedSlot n) = 0
+inline_size o (FixedNumber n) = 0
+inline_size o ShortInlineVar = 1
+inline_size o InlineVar = 2
+inline_size o ShortInlineI = 1
+inline_size o InlineI = 4
+inline_size o InlineI8 = 8
+inline_size o InlineTok = 4
+inline_size o ShortInlineBrTarget = 1
+inline_size o InlineBrTarget = 4
+inline_size o InlineSwitch = switch_size o
+
+abbrev pub size_by : ℕ → Operand → Option (Form × Inline) → ℕ
+size_by opcode o None = opcode_size opcode
+size_by opcode o (Some kind) = opcode_size opcode + inline_size o kind.1
+
+unfoldable pub instruction_size : Instr → ℕ
+instruction_size i = size_by i.opcode i.operand (kind_of i.opcode)
+
+-- ---- operands
+
+abbrev pub is_token : ℕ → UserText → Bool
+is_token token t = t.token == token
+
+abbrev pub text_by : Option UserText → Known (List ℕ)
+text_by None = Bad Unresolved
+text_by (Some t) = Good t.text
+
+-- the text that `ldstr` names (III.4.16)
+abbrev pub text_named : AsmRec → ℕ → Known (List ℕ)
+text_named rec token = text_by (find (is_token token) rec.user)
+
+abbrev pub handle_use : List AsmRec → ℕ → AsmRec → ℕ → Use
+handle_use recs a rec token =
+    if is_field_token rec token then use_of.field (field_named recs a rec token)
+    else if is_method_token token then use_of.method (method_named recs a rec token)
+    else use_of.typ (token_type recs a rec token)
+
+abbrev pub token_use : List AsmRec → ℕ → AsmRec → Form → ℕ → Use
+token_use recs a rec form.Call token = use_of.method (method_named recs a rec token)
+token_use recs a rec form.NewObj token = use_of.method (method_named recs a rec token)
+token_use recs a rec form.Field token = use_of.field (field_named recs a rec token)
+token_use recs a rec form.LdStr token = use_of.text (text_named rec token)
+token_use recs a rec form.LdToken token = handle_use recs a rec token
+token_use recs a rec _ token = use_of.typ (token_type recs a rec token)
+
+abbrev pub use_by : List AsmRec → ℕ → AsmRec → Form → Operand → Use
+use_by recs a rec f operand.None = use_of.nothing
+use_by recs a rec f (operand.Number n) = use_of.number n
+use_by recs a rec f (operand.Slot n) = use_of.slot n
+use_by recs a rec f (operand.Token token) = token_use recs a rec f token
+use_by recs a rec f (operand.Target at) = use_of.target at
+use_by recs a rec f (operand.Targets ts) = use_of.targets ts
+
+unfoldable pub instruction_of : List AsmRec → ℕ → AsmRec → Instr → Instruction
+instruction_of recs a rec i = record { at = i.at; next = i.at + instruction_size i; form = i.form; opcode = i.opcode; operand = use_by recs a rec i.form i.operand }
+
+-- ---- clauses (II.25.4.6)
+
+abbrev pub kind_by : ℕ → Kind
+kind_by n = if n == 0 then catches else if n == 2 then finally else fault
+
+unfoldable pub clause_of : List AsmRec → ℕ → AsmRec → Handler → Clause
+clause_of recs a rec h = record {
+  kind = kind_by h.kind;
+  try_at = h.try_at;
+  try_end = h.try_at + h.try_len;
+  at = h.at;
+  end = h.at + h.len;
+  caught = token_type recs a rec h.token;
+}
+
+-- ---- locals (II.23.2.6)
+
+abbrev pub locals_row : List AsmRec → ℕ → AsmRec → Option StandAloneSigRow → Known (List TypeExpr)
+locals_row recs a rec None = Bad Unresolved
+locals_row recs a rec (Some row) = known_then (arguments_of (names_at recs a rec)) row.signature
+
+-- a token of 0 is none
+abbrev pub locals_of : List AsmRec → ℕ → AsmRec → ℕ → Known (List TypeExpr)
+locals_of recs a rec token =
+    if token == 0 then Good [] else locals_row recs a rec (option_and_then (slice_get rec.stand_alone_sig) (index_in STAND_ALONE_SIG token))
+
+-- ---- bodies
+
+unfoldable pub code_of : List AsmRec → ℕ → AsmRec → Body → Code
+code_of recs a rec b = record {
+  locals = locals_of recs a rec b.locals;
+  code = map (instruction_of recs a rec) b.code;
+  clauses = map (clause_of recs a rec) b.handlers;
+}

@@ -1,0 +1,5 @@
+pub mod Members
+pub mod Code
+pub mod Methods
+pub mod Layouts
+pub mod Answers

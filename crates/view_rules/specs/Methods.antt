@@ -1,0 +1,135 @@
+-- What a world answers on methods, fields and type definitions.
+use Rattle.std.specs.Prelude.{ℕ, suc, ◌/◌, ◌%◌, List, [], ◌∷◌, length, codes, Option, Some, None, slice_get, ◌==◌, ◌&&◌, Bool, false, not, if◌then◌else◌}
+use Rattle.std.specs.List.{list_any, flat_map}
+use Rattle.std.specs.Option.{option_and_then, option_map}
+use Rattle.il_base.specs.declared.body.Body.{Body}
+use Rattle.il_base.specs.declared.element.TheConstants as element
+use Rattle.il_base.specs.declared.outside.TheConstants.{PLATFORM, INTERFACE_BODY, GLOBAL_MEMBER, LAYOUT}
+use Rattle.il_base.specs.declared.table.TheConstants.{FIELD}
+use Rattle.il_base.specs.declared.type_flags.TheConstants.{EXPLICIT_LAYOUT}
+use Rattle.world_model.specs.declared.known.Known.{Known}
+use Rattle.world_model.specs.declared.known.Known.TheVariants.{Good, Bad}
+use Rattle.world_model.specs.declared.known.BadKind.TheVariants.{Outside}
+use Rattle.world_model.specs.declared.expr.TypeExpr.{TypeExpr, fold-TypeExpr}
+use Rattle.world_model.specs.declared.expr.TypeExpr.TheOpen.{TypeExpr-F}
+use Rattle.world_model.specs.declared.types.TypeDefRow.{TypeDefRow}
+use Rattle.world_model.specs.declared.members.FieldRow.{FieldRow}
+use Rattle.world_model.specs.declared.members.MethodDefRow.{MethodDefRow}
+use Rattle.world_model.specs.declared.extras.FieldRvaRow.{FieldRvaRow}
+use Rattle.world_model.specs.declared.record.AsmRec.{AsmRec}
+use Rattle.world_model.specs.Tokens.{token_of}
+use Rattle.world_model.specs.Core.{same_name}
+use Rattle.world_model.specs.Worlds.{known_map, known_then, sig_expr, type_id}
+use Rattle.link_rules.specs.declared.row_at.RowAt.{RowAt}
+use Rattle.link_rules.specs.declared.member_type.MethodType.{MethodType}
+use Rattle.link_rules.specs.Types.{at_row}
+use Rattle.link_rules.specs.Signatures.{names_at, method_type}
+use Rattle.link_rules.specs.Members.{home_from, type_home, methods_in, fields_in, param_count}
+use Rattle.link_rules.specs.Cycles.{listed, is_static_field}
+use Rattle.type_rules.specs.Slots.{type_of_method}
+use Rattle.type_rules.specs.Rows.{rec_at, type_row_at, owner_of_field, is_enum}
+use Rattle.mark_rules.specs.BadItems.{is_global, is_platform, is_interface_body}
+use Rattle.step_rules.specs.Queries.{Signature, Method, FieldDef, Head, First, Code}
+use Rattle.step_rules.specs.Queries.First.{blank, bytes, empty_text}
+use Rattle.view_rules.specs.Code.{code_of}
+
+-- ---- methods
+
+abbrev pub signature_by : MethodType → Signature
+signature_by m = record { this = m.this; own = m.generic; params = m.params; ret = m.ret }
+
+abbrev pub body_by : List AsmRec → ℕ → AsmRec → Known Body → Known Code
+body_by recs a rec b = known_map (code_of recs a rec) b
+
+-- the core library's methods have no bodies of their own: what they do is said by the member that they are
+abbrev pub is_core_row : List AsmRec → RowAt → Bool
+is_core_row recs at = suc at.asm == length recs
+
+-- a platform call, a method of an interface with a body, and a global method count as methods with a bad body
+abbrev pub body_of : List AsmRec → RowAt → AsmRec → MethodDefRow → Option (Known Code)
+body_of recs at rec m =
+    if is_core_row recs at then None
+    else if is_platform m then Some (Bad (Outside PLATFORM))
+    else if is_interface_body recs at m then Some (Bad (Outside INTERFACE_BODY))
+    else if is_global recs (type_of_method recs at) then Some (Bad (Outside GLOBAL_MEMBER))
+    else option_map (body_by recs at.asm rec) m.body
+
+abbrev pub method_by : List AsmRec → RowAt → AsmRec → MethodDefRow → RowAt → Method
+method_by recs at rec m owner = record {
+  flags = m.flags;
+  owner = (type_id recs owner.asm owner.row).0;
+  constructor = same_name m.name (codes ".ctor");
+  signature = known_map signature_by (known_then (method_type (names_at recs at.asm rec)) m.signature);
+  body = body_of recs at rec m;
+}
+
+abbrev pub method_at : List AsmRec → RowAt → Option Method
+method_at recs at =
+    option_and_then (λ (rec : AsmRec). option_and_then (λ (m : MethodDefRow). option_map (method_by recs at rec m) (type_of_method recs at)) (slice_get rec.method_def at.row)) (rec_at recs at)
+
+-- a method; None for one that no type's run has
+unfoldable pub method_query : List AsmRec → ℕ → Option Method
+method_query recs m = option_and_then (method_at recs) (home_from methods_in 0 recs m)
+
+-- ---- fields
+
+abbrev pub has_explicit_layout : List AsmRec → Option RowAt → Bool
+has_explicit_layout recs owner = list_any (λ t. list_any (λ (row : TypeDefRow). row.flags / EXPLICIT_LAYOUT % 2 == 1) (listed (type_row_at recs t))) (listed owner)
+
+-- a global field, and an instance field of a type with explicit layout, count as bad
+abbrev pub field_type : List AsmRec → RowAt → AsmRec → Option RowAt → FieldRow → Known TypeExpr
+field_type recs at rec owner f =
+    if is_global recs owner then Bad (Outside GLOBAL_MEMBER)
+    else if not (is_static_field f) && has_explicit_layout recs owner then Bad (Outside LAYOUT)
+    else known_then (sig_expr (names_at recs at.asm rec)) f.signature
+
+-- whether a type is an integer, Boolean, Char or an enum, modifiers aside
+abbrev pub is_number_code : ℕ → Bool
+is_number_code n = not (n == element.VOID) && not (n == element.STRING) && not (n == element.OBJECT)
+
+abbrev pub number_layer : List AsmRec → TypeExpr-F Bool → Bool
+number_layer recs (TypeExpr-F.Prim n) = is_number_code n
+number_layer recs (TypeExpr-F.Def t) = list_any (is_enum recs) (listed (type_home recs t))
+number_layer recs (TypeExpr-F.Inst t args) = list_any (is_enum recs) (listed (type_home recs t))
+number_layer recs (TypeExpr-F.Mod required by x) = x
+number_layer recs _ = false
+
+abbrev pub is_number : List AsmRec → Known TypeExpr → Bool
+is_number recs (Good e) = fold-TypeExpr Bool (number_layer recs) e
+is_number recs (Bad why) = false
+
+abbrev pub bytes_by : ℕ → FieldRvaRow → List (Known (List ℕ))
+bytes_by token row = if row.field == token then row.bytes ∷ [] else []
+
+abbrev pub first_bytes : List (Known (List ℕ)) → First
+first_bytes [] = blank
+first_bytes (b ∷ bs) = bytes b
+
+-- String.Empty, the one field of the core library
+abbrev pub first_of : List AsmRec → RowAt → AsmRec → FieldRow → Known TypeExpr → First
+first_of recs at rec f typ =
+    if is_core_row recs at then empty_text
+    else if is_static_field f && is_number recs typ then first_bytes (flat_map (bytes_by (token_of FIELD (suc at.row))) rec.field_rva)
+    else blank
+
+abbrev pub field_owner : RowAt → AsmRec → Option RowAt
+field_owner at rec = option_map (at_row at.asm) (owner_of_field rec at.row)
+
+abbrev pub field_by : List AsmRec → RowAt → AsmRec → FieldRow → FieldDef
+field_by recs at rec f =
+    let typ : Known TypeExpr = field_type recs at rec (field_owner at rec) f in record { flags = f.flags; typ = typ; first = first_of recs at rec f typ }
+
+abbrev pub field_at : List AsmRec → RowAt → Option FieldDef
+field_at recs at = option_and_then (λ (rec : AsmRec). option_map (field_by recs at rec) (slice_get rec.field at.row)) (rec_at recs at)
+
+unfoldable pub field_query : List AsmRec → ℕ → Option FieldDef
+field_query recs f = option_and_then (field_at recs) (home_from fields_in 0 recs f)
+
+-- ---- type definitions
+
+abbrev pub head_at : List AsmRec → RowAt → Option Head
+head_at recs at =
+    option_and_then (λ (rec : AsmRec). option_map (λ (t : TypeDefRow). record { flags = t.flags; params = param_count rec at.row }) (slice_get rec.type_def at.row)) (rec_at recs at)
+
+unfoldable pub head_query : List AsmRec → ℕ → Option Head
+head_query recs t = option_and_then (head_at recs) (type_home recs (record { 0 = t }))
