@@ -1,12 +1,15 @@
 -- The accessors of a property or an event (II.22.28).
-use Rattle.std.specs.Prelude.{ℕ, List, [], slice_get}
-use Rattle.std.specs.Option.{option_map, option_map_or}
+use Rattle.std.specs.Prelude.{ℕ, List, [], ◌∷◌, map, slice_get}
+use Rattle.std.specs.List.{filter}
+use Rattle.std.specs.Option.{option_map_or}
+use Rattle.il_base.specs.declared.table.TheConstants.{METHOD_DEF}
 use Rattle.world_model.specs.declared.members.MethodSemanticsRow.{MethodSemanticsRow}
 use Rattle.world_model.specs.declared.record.AsmRec.{AsmRec}
 use Rattle.world_model.specs.Tokens.{index_in}
 use Rattle.link_rules.specs.declared.row_at.RowAt.{RowAt}
 use Rattle.link_rules.specs.Types.{at_row}
 use Rattle.link_rules.specs.Cycles.{listed}
+use Rattle.type_rules.specs.Searches.{has_owner}
 use Rattle.named_members.specs.declared.kinds.Mapped.{Mapped}
 use Rattle.named_members.specs.declared.kinds.Mapped.TheVariants.{Property, Event}
 
@@ -15,9 +18,13 @@ abbrev pub table_of : Mapped → ℕ
 table_of Property = 0x17
 table_of Event = 0x14
 
--- the method that a row of MethodSemantics names
-abbrev pub method_of : ℕ → MethodSemanticsRow → List RowAt
-method_of asm row = listed (option_map (at_row asm) (index_in 0x06 row.method))
+-- a method where a type's run has it
+abbrev pub owned_at : AsmRec → ℕ → ℕ → List RowAt
+owned_at rec asm k = map (at_row asm) (filter (has_owner rec) (k ∷ []))
+
+-- the method that a row of MethodSemantics names, where a type's run has it
+abbrev pub method_of : AsmRec → ℕ → MethodSemanticsRow → List RowAt
+method_of rec asm row = map (at_row asm) (filter (has_owner rec) (listed (index_in METHOD_DEF row.method)))
 
 abbrev pub method_under : AsmRec → ℕ → ℕ → List RowAt
-method_under rec asm k = option_map_or (method_of asm) (slice_get rec.method_semantics k) []
+method_under rec asm k = option_map_or (method_of rec asm) (slice_get rec.method_semantics k) []

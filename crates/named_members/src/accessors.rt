@@ -3,16 +3,16 @@
 ghost use Rattle.std.specs.Prelude.{◌≡◌, ◌++◌, IfOk, OnOk, option_to_list};
 ghost use Rattle.std.specs.List.{flat_map, list_any};
 ghost use Rattle.type_rules.specs.Searches.{accessors, method_test, is_public_accessor, is_instance_accessor};
-ghost use Rattle.type_tables.specs.Tables.{IsTables};
-ghost use Rattle.named_members.specs.Accessors.{table_of, method_under};
+ghost use Rattle.type_tables.specs.Tables.{AreRowTables, IsTables};
+ghost use Rattle.named_members.specs.Accessors.{table_of, owned_at, method_under};
 
 use crate::kinds::Mapped;
 use il_base::NoMemory;
 use link_rules::RowAt;
 use member_search::params::token_of;
 use std::alloc::Global;
-use type_tables::methods::method_row_at;
-use type_tables::tables::Tables;
+use type_tables::methods::{has_owner, method_row_at};
+use type_tables::tables::{RowTables, Tables};
 use world_model::{AsmRec, index_in};
 
 /// The table of such rows (II.22).
@@ -25,8 +25,32 @@ fn table_of(mapped: Mapped) -> u8
     }
 }
 
-/// Puts the method that a row, from 0, of MethodSemantics names behind those found.
-fn add_method(rec: &AsmRec, asm: u32, k: u32, found: &mut Vec<RowAt>) -> Result<(), NoMemory>
+/// Puts a method, by its row from 0, at the end, where a type's run has it.
+fn add_owned(
+    rec: &AsmRec,
+    tables: &RowTables,
+    asm: u32,
+    row: u32,
+    found: &mut Vec<RowAt>,
+) -> Result<(), NoMemory>
+    requires { AreRowTables rec.now tables.now }
+    ensures { OnOk result (found.new.items ≡ found.old.items ++ owned_at rec.now asm row) }
+{
+    if has_owner(rec, tables, row) {
+        found.push(RowAt { asm, row })?;
+    }
+    Ok(())
+}
+
+/// Puts the method that a row, from 0, of MethodSemantics names at the end, where a type's run has it.
+fn add_method(
+    rec: &AsmRec,
+    tables: &RowTables,
+    asm: u32,
+    k: u32,
+    found: &mut Vec<RowAt>,
+) -> Result<(), NoMemory>
+    requires { AreRowTables rec.now tables.now }
     ensures { OnOk result (found.new.items ≡ found.old.items ++ method_under rec.now asm k) }
 {
     let Some(semantics) = rec.method_semantics.get(k as usize) else {
@@ -35,22 +59,24 @@ fn add_method(rec: &AsmRec, asm: u32, k: u32, found: &mut Vec<RowAt>) -> Result<
     let Some(row) = index_in(0x06, semantics.method) else {
         return Ok(());
     };
-    found.push(RowAt { asm, row })?;
+    add_owned(rec, tables, asm, row, found)?;
     Ok(())
 }
 
-/// The methods that these rows, from 0, of MethodSemantics name, in order.
+/// The methods that these rows, from 0, of MethodSemantics name and that types have, in order.
 fn methods_under(
     alloc: Global,
     rec: &AsmRec,
+    tables: &RowTables,
     asm: u32,
     rows: &[u32],
 ) -> Result<Vec<RowAt>, NoMemory>
+    requires { AreRowTables rec.now tables.now }
     ensures { IfOk result (λ found. found.items ≡ flat_map (method_under rec.now asm) rows.now) }
 {
     let mut found = Vec::new(alloc);
     for k in rows {
-        add_method(rec, asm, *k, &mut found)?;
+        add_method(rec, tables, asm, *k, &mut found)?;
     }
     Ok(found)
 }
@@ -70,7 +96,7 @@ pub fn accessors(
     };
     let token = token_of(table_of(mapped), at.row as usize)?;
     let semantics = rows.tables.semantics.rows_with(token);
-    let found = methods_under(alloc, rows.scope.rec, at.asm, semantics)?;
+    let found = methods_under(alloc, rows.scope.rec, rows.tables, at.asm, semantics)?;
     Ok(found)
 }
 

@@ -1,8 +1,7 @@
 //! Which method a virtual call runs.
 
 ghost use Rattle.std.specs.Prelude.{◌≡◌, IfOk};
-ghost use Rattle.type_rules.specs.Slots.{is_interface_row};
-ghost use Rattle.type_rules.specs.Dispatch.{is_interface_at, in_interface, dispatch_slot, dispatch};
+ghost use Rattle.type_rules.specs.Dispatch.{in_interface, dispatch_slot, dispatch};
 ghost use Rattle.type_tables.specs.Tables.{IsTables};
 ghost use Rattle.virtual_calls.specs.Slots.{AreSlots, slot_of_id};
 
@@ -11,39 +10,19 @@ use crate::interface_slots::interface_dispatch;
 use crate::slots::{Slots, slot_of_method};
 use il_base::{MethodId, NoMemory};
 use link_rules::RowAt;
-use member_search::linked::assembly_at;
+use member_search::bases::is_interface_at;
 use std::alloc::Global;
 use type_tables::methods::{method_home, method_id, type_of_method};
 use type_tables::tables::Tables;
-use world_model::{TypeDefRow, TypeExpr};
+use world_model::TypeExpr;
 
-/// Interface, of a type's flags (II.23.1.15).
-fn is_interface_row(t: &TypeDefRow) -> bool
-    ensures { result ≡ is_interface_row t.now }
-{
-    t.flags / 0x20 % 2 == 1
-}
-
-/// Whether the type in a row is an interface.
-fn is_interface_at(tables: &Tables<'_>, at: RowAt) -> bool
-    ensures { result ≡ is_interface_at tables.now.world.now.recs at }
-{
-    match assembly_at(tables.world.recs.as_slice(), at.asm) {
-        Some(rec) => match rec.type_def.get(at.row as usize) {
-            Some(t) => is_interface_row(t),
-            None => false,
-        },
-        None => false,
-    }
-}
-
-/// Whether a method stands in an interface.
+/// Whether a method is one of an interface.
 fn in_interface(tables: &Tables<'_>, slot: RowAt) -> Result<bool, NoMemory>
     requires { IsTables tables.now }
     ensures { IfOk result (λ is. is ≡ in_interface tables.now.world.now.recs slot) }
 {
     match type_of_method(tables, slot) {
-        Ok(Some(at)) => Ok(is_interface_at(tables, at)),
+        Ok(Some(at)) => Ok(is_interface_at(tables.world.recs.as_slice(), at)),
         Ok(None) => Ok(false),
         Err(error) => Err(error),
     }

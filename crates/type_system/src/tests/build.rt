@@ -215,15 +215,6 @@ pub fn class_with_field(
     define(rec, alloc, 0x0010_0001, name, extends, 1, methods)
 }
 
-/// `public static int`
-pub fn static_field(rec: &mut AsmRec, alloc: Global, name: &[u8]) -> Result<(), NoMemory> {
-    rec.field.push(FieldRow {
-        flags: 0x16,
-        name: text(alloc, name)?,
-        signature: Known::Good(Sig::Prim(0x08)),
-    })
-}
-
 /// A struct with one instance field of the type of a TypeDef row, by way of the TypeRef row of System.ValueType.
 pub fn value_with_field(
     rec: &mut AsmRec,
@@ -390,11 +381,6 @@ pub fn int32() -> TypeExpr {
 /// `string`
 pub fn string() -> TypeExpr {
     TypeExpr::Prim(0x0e)
-}
-
-/// `object`
-pub fn object() -> TypeExpr {
-    TypeExpr::Prim(0x1c)
 }
 
 /// A generic type with one argument.

@@ -48,7 +48,10 @@ fn fill_interfaces(rec: &mut AsmRec, alloc: Global) -> Result<(), NoMemory> {
 #[test]
 fn interfaces(rt: HostRuntime) -> Result<(), Fail> {
     let alloc = rt.alloc();
-    assert_eq!(rt; fault_of(alloc, fill_interfaces)?, Some((0, 15, 0x0200_0003)));
+    assert_eq!(rt;
+        fault_of(alloc, fill_interfaces)?,
+        Some((0, 15, 0x0200_0003))
+    );
     Ok(())
 }
 

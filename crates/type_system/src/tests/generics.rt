@@ -7,7 +7,7 @@ use crate::Types;
 use il_base::{MethodId, NoMemory, Seq, Sig, TypeId};
 use std::alloc::Global;
 use std::test::Fail;
-use world_model::{AsmRec, TypeExpr, World};
+use world_model::{AsmRec, Known, TypeExpr, TypeSpecRow, World};
 
 /// What a type answers the first method of the first interface, which is type 1, at this argument with.
 fn runs(alloc: Global, world: &World, ty: TypeExpr, arg: TypeExpr) -> Result<Option<u32>, NoMemory>
@@ -139,5 +139,38 @@ fn rows_that_become_one(rt: HostRuntime) -> Result<(), Fail> {
     assert_eq!(rt; runs(alloc, &world, same, int32())?, Some(1));
     let other = pair(alloc, int32(), string())?;
     assert_eq!(rt; runs(alloc, &world, other, string())?, Some(2));
+    Ok(())
+}
+
+/// Types 1 and 2, method 0, and the TypeSpec rows `T` and `C<B>`:
+///
+/// ```text
+/// class B        { public virtual void M(); }
+/// class C<T> : T {}
+/// ```
+pub fn fill_parameter_base(rec: &mut AsmRec, alloc: Global) -> Result<(), NoMemory> {
+    begin(rec, alloc, b"App")?;
+    class(rec, alloc, b"B", OBJECT, 1)?;
+    method(rec, alloc, b"M", VIRTUAL)?;
+    class(rec, alloc, b"C`1", 0x1b00_0001, 0)?;
+    generic(rec, alloc, 0x0200_0003, 0)?;
+    rec.type_spec.push(TypeSpecRow {
+        signature: Known::Good(Sig::Var(0)),
+    })?;
+    let b = Sig::Named {
+        value: false,
+        token: 0x0200_0002,
+    };
+    instance_of(rec, alloc, 0x0200_0003, b)
+}
+
+/// A virtual call doesn't go by way of a base that is a parameter.
+#[test]
+fn bases_that_are_parameters(rt: HostRuntime) -> Result<(), Fail> {
+    let alloc = rt.alloc();
+    let world = built(alloc, fill_parameter_base)?;
+    let ty = inst(alloc, 2, def(1))?;
+    assert_eq!(rt; runs(alloc, &world, ty, int32())?, None);
+    assert_eq!(rt; runs(alloc, &world, def(1), int32())?, Some(0));
     Ok(())
 }

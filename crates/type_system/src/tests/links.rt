@@ -1,12 +1,21 @@
 //! What a link of assemblies answers.
 
 use super::build::*;
+<<<<<<< HEAD
 use il_base::{AsmId, Boxed, NoMemory, Seq, Sig};
+=======
+use super::generics::fill_parameter_base;
+use il_base::{AsmId, NoMemory, Seq};
+>>>>>>> aac98c07f7591a90123b7ae781940224fe2f8337
 use link_rules::LinkError;
 use resolver::link;
 use std::alloc::Global;
 use std::test::Fail;
+<<<<<<< HEAD
 use world_model::{AsmRec, BadKind, ExportedTypeRow, Known, NestedClassRow, TypeSpecRow, World};
+=======
+use world_model::{AsmRec, BadKind, ExportedTypeRow, Known, NestedClassRow, World};
+>>>>>>> aac98c07f7591a90123b7ae781940224fe2f8337
 
 /// An assembly of a name, without types of its own.
 fn named(alloc: Global, name: &[u8]) -> Result<AsmRec, NoMemory> {
@@ -123,6 +132,7 @@ fn assemblies_that_forward_to_each_other(rt: HostRuntime) -> Result<(), Fail> {
     Ok(())
 }
 
+<<<<<<< HEAD
 /// The same, with `int modopt(T)` as a TypeSpec row.
 fn fill_modified(rec: &mut AsmRec, alloc: Global) -> Result<(), NoMemory> {
     fill_user(rec, alloc)?;
@@ -160,5 +170,52 @@ fn names_that_only_modifiers_use(rt: HostRuntime) -> Result<(), Fail> {
     let world = world(alloc, recs)?;
     assert!(rt; is_found(&world, 0x1b00_0001));
     assert!(rt; !is_found(&world, 0x0100_0002));
+=======
+/// compiler-controlled
+const COMPILER_CONTROLLED: u16 = 0x00;
+
+/// `class A`, whose method `M` is compiler-controlled and whose method `N` is public, and references to both.
+fn fill_controlled(rec: &mut AsmRec, alloc: Global) -> Result<(), NoMemory> {
+    begin(rec, alloc, b"App")?;
+    class(rec, alloc, b"A", OBJECT, 2)?;
+    method(rec, alloc, b"M", COMPILER_CONTROLLED)?;
+    method(rec, alloc, b"N", PLAIN)?;
+    method_ref(rec, alloc, 0x0200_0002, b"M")?;
+    method_ref(rec, alloc, 0x0200_0002, b"N")
+}
+
+/// Whether a method token of the first assembly names a method; None where it is bad otherwise than unresolved.
+fn is_found(world: &World, token: u32) -> Option<bool> {
+    match world.method_at(AsmId(0), token) {
+        Some(Known::Good(_)) => Some(true),
+        Some(Known::Bad(BadKind::Unresolved)) => Some(false),
+        Some(Known::Bad(_)) => None,
+        None => None,
+    }
+}
+
+#[test]
+fn references_to_compiler_controlled_methods(rt: HostRuntime) -> Result<(), Fail> {
+    let alloc = rt.alloc();
+    let world = built(alloc, fill_controlled)?;
+    assert_eq!(rt; is_found(&world, 0x0a00_0001), Some(false));
+    assert_eq!(rt; is_found(&world, 0x0a00_0002), Some(true));
+    assert_eq!(rt; is_found(&world, 0x0600_0001), Some(true));
+    Ok(())
+}
+
+/// A reference to `M` of `C<B>`, which only `B` has.
+fn fill_parameter_reference(rec: &mut AsmRec, alloc: Global) -> Result<(), NoMemory> {
+    fill_parameter_base(rec, alloc)?;
+    method_ref(rec, alloc, 0x1b00_0002, b"M")
+}
+
+/// A base that is a parameter is none.
+#[test]
+fn references_by_way_of_a_parameter(rt: HostRuntime) -> Result<(), Fail> {
+    let alloc = rt.alloc();
+    let world = built(alloc, fill_parameter_reference)?;
+    assert_eq!(rt; is_found(&world, 0x0a00_0001), Some(false));
+>>>>>>> aac98c07f7591a90123b7ae781940224fe2f8337
     Ok(())
 }

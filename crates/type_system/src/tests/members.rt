@@ -7,7 +7,16 @@ use crate::Types;
 use il_base::{FieldId, Item, MethodId, NoMemory, Seq, Sig, TypeId};
 use std::alloc::Global;
 use std::test::Fail;
-use world_model::{AsmRec, World};
+use world_model::{AsmRec, FieldRow, Known, World};
+
+/// `public static int`
+fn static_field(rec: &mut AsmRec, alloc: Global, name: &[u8]) -> Result<(), NoMemory> {
+    rec.field.push(FieldRow {
+        flags: 0x16,
+        name: text(alloc, name)?,
+        signature: Known::Good(Sig::Prim(0x08)),
+    })
+}
 
 /// Types 1 and 2, field 0 B.F, methods 0 B.M, 1 S.M, 2 S.M(int):
 ///

@@ -9,6 +9,11 @@ use std::alloc::Global;
 use std::test::Fail;
 use world_model::{AsmRec, Known, TypeExpr, TypeSpecRow, World};
 
+/// `object`
+fn object() -> TypeExpr {
+    TypeExpr::Prim(0x1c)
+}
+
 fn is_below(alloc: Global, world: &World, a: TypeExpr, b: TypeExpr) -> Result<bool, NoMemory>
     requires { IsWorld world.now }
 {
@@ -26,13 +31,14 @@ fn is_array_below(alloc: Global, world: &World, a: TypeExpr, b: TypeExpr) -> Res
     types.is_subtype(alloc, &a, &b)
 }
 
-/// Types 1 to 4:
+/// Types 1 to 5, of which V has no base, as only System.Object should have none:
 ///
 /// ```text
 /// interface I {}
 /// interface J : I {}
 /// class T : J {}
 /// class U {}
+/// class V {}
 /// ```
 fn fill_chain(rec: &mut AsmRec, alloc: Global) -> Result<(), NoMemory> {
     begin(rec, alloc, b"App")?;
@@ -40,6 +46,7 @@ fn fill_chain(rec: &mut AsmRec, alloc: Global) -> Result<(), NoMemory> {
     interface(rec, alloc, b"J", 0)?;
     class(rec, alloc, b"T", OBJECT, 0)?;
     class(rec, alloc, b"U", OBJECT, 0)?;
+    class(rec, alloc, b"V", 0, 0)?;
     implement(rec, 0x0200_0003, 0x0200_0002)?;
     implement(rec, 0x0200_0004, 0x0200_0003)
 }
@@ -57,14 +64,25 @@ fn interfaces_and_bases(rt: HostRuntime) -> Result<(), Fail> {
     Ok(())
 }
 
+/// An interface is below Object, a class without a base isn't.
+#[test]
+fn types_below_object(rt: HostRuntime) -> Result<(), Fail> {
+    let alloc = rt.alloc();
+    let world = built(alloc, fill_chain)?;
+    assert!(rt; is_below(alloc, &world, def(1), object())?);
+    assert!(rt; is_array_below(alloc, &world, def(1), object())?);
+    assert!(rt; !is_below(alloc, &world, def(5), object())?);
+    Ok(())
+}
+
 /// Vectors of references stand for one another as their elements do, those of other types don't. System.Array is row 22 of
-/// the core library, behind the five types of the assembly.
+/// the core library, after the six types of the assembly.
 #[test]
 fn arrays(rt: HostRuntime) -> Result<(), Fail> {
     let alloc = rt.alloc();
     let world = built(alloc, fill_chain)?;
     assert!(rt; is_array_below(alloc, &world, def(3), def(1))?);
-    assert!(rt; is_below(alloc, &world, array(alloc, def(3))?, def(26))?);
+    assert!(rt; is_below(alloc, &world, array(alloc, def(3))?, def(27))?);
     assert!(rt; is_below(alloc, &world, array(alloc, def(3))?, object())?);
     assert!(rt; is_array_below(alloc, &world, string(), object())?);
     assert!(rt; !is_array_below(alloc, &world, int32(), object())?);
@@ -94,13 +112,14 @@ fn generic_bases(rt: HostRuntime) -> Result<(), Fail> {
     Ok(())
 }
 
-/// Types 1 and 2:
+/// Types 1 to 3, where C has rows of InterfaceImpl to T and to D:
 ///
 /// ```text
 /// interface I {}
-/// class C<T> : T {}
+/// class C<T> : T, D {}
+/// class D {}
 /// ```
-fn fill_parameter_row(rec: &mut AsmRec, alloc: Global) -> Result<(), NoMemory> {
+fn fill_other_rows(rec: &mut AsmRec, alloc: Global) -> Result<(), NoMemory> {
     begin(rec, alloc, b"App")?;
     interface(rec, alloc, b"I", 0)?;
     class(rec, alloc, b"C`1", OBJECT, 0)?;
@@ -108,14 +127,17 @@ fn fill_parameter_row(rec: &mut AsmRec, alloc: Global) -> Result<(), NoMemory> {
     rec.type_spec.push(TypeSpecRow {
         signature: Known::Good(Sig::Var(0)),
     })?;
-    implement(rec, 0x0200_0003, 0x1b00_0001)
+    class(rec, alloc, b"D", OBJECT, 0)?;
+    implement(rec, 0x0200_0003, 0x1b00_0001)?;
+    implement(rec, 0x0200_0003, 0x0200_0004)
 }
 
-/// A row that names a parameter, which no interface can be, gives nothing.
+/// A row that names a parameter or a class gives nothing.
 #[test]
-fn rows_of_parameters(rt: HostRuntime) -> Result<(), Fail> {
+fn rows_that_name_no_interface(rt: HostRuntime) -> Result<(), Fail> {
     let alloc = rt.alloc();
-    let world = built(alloc, fill_parameter_row)?;
+    let world = built(alloc, fill_other_rows)?;
     assert!(rt; !is_below(alloc, &world, inst(alloc, 2, def(1))?, def(1))?);
+    assert!(rt; !is_below(alloc, &world, inst(alloc, 2, def(1))?, def(3))?);
     Ok(())
 }

@@ -11,5 +11,5 @@ returns-in_default-index_in c =
 
 pub returns : goal.returns
 returns c =
-    c.in_ok-push.ensures.items
+    c.in_ok-add_owned.ensures
     ∙ under_one c.args.rec.now c.args.asm c.args.k c.args.found.now.items c.in-Some.semantics.now c.in-Some-index_in.row (sym c.in-Some.ensures.value) (sym c.in-Some-index_in.ensures)
