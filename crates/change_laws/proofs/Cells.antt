@@ -1,6 +1,6 @@
 -- Cells of instances, of which those of fields that aren't kept go.
 use Rattle.std.proofs.Common.{◌≡◌, ◌<◌, ◌+◌, arith, ℕ, zero, suc, List, [], ◌∷◌, length, map, Bool, true, false, not, Option, Some, None, refl, sym, ap, ◌∙◌}
-use Rattle.std.specs.Prelude.{slice_get, slice_set, cond, nat_eq, nat_lt, IsTrue}
+use Rattle.std.specs.Prelude.{slice_get, slice_set, cond, nat_lt, IsTrue}
 use Rattle.std.specs.List.{position, list_all, prefix_len}
 use Rattle.std.specs.Option.{option_map, option_and_then}
 use Rattle.std.specs.Cmp.{first_so, second_so}
@@ -13,11 +13,11 @@ use Rattle.step_rules.specs.Queries.{Queries, Cell, of_field, message, inner, La
 use Rattle.step_rules.specs.Stores.{zeros_of}
 use Rattle.step_rules.specs.Places.{same_cell, cell_place, cell_of, set_if, with_cell}
 use Rattle.change_rules.specs.Keeping.{keep, rank}
-use Rattle.change_rules.specs.Change.{Rho, Undone, Keep, Change}
+use Rattle.change_rules.specs.Change.{Keep, Change}
 use Rattle.change_rules.specs.Moves.{move_expr, move_value, move_values}
 use Rattle.change_rules.specs.Answers.{move_cell, move_layout}
 use Rattle.change_rules.specs.States.{keeps_cell, keeps_place, mask, move_cells}
-use Rattle.change_rules.specs.Keeps.{keeps_expr, keeps_value, keeps_values}
+use Rattle.change_rules.specs.Keeps.{keeps_expr}
 use Rattle.change_rules.specs.Agree.{Agree}
 use Rattle.change_laws.proofs.Same.{same_fields_moved}
 
@@ -70,7 +70,7 @@ keep_all_set p (false ∷ fs) (y ∷ ys) (suc m) x a b = keep_all_set p fs ys m 
 lt_suc : (n m : ℕ) → nat_lt (suc n) (suc m) ≡ nat_lt n m
 lt_suc n m =
     same_from_decides (nat_lt (suc n) (suc m)) (nat_lt n m)
-      (λ h. let f : suc n < suc m = ltb-true (suc n) (suc m) h in omega arith, λ (h : n < m). lt-ltb (suc n) (suc m) (omega arith)) (Decides-ltb n m)
+    (λ h. let f : suc n < suc m = ltb-true (suc n) (suc m) h in omega arith, λ (h : n < m). lt-ltb (suc n) (suc m) (omega arith)) (Decides-ltb n m)
 
 place_by : (b : Bool) (n len : ℕ) (l : Bool) → nat_lt n len ≡ l
     → cond (nat_lt (cond (not b) (suc n) 0) (suc len)) (Some (cond (not b) (suc n) 0)) None ≡ cond b (Some 0) (option_map suc (cond l (Some n) None))
@@ -184,18 +184,18 @@ module _ (k : Change) where
 
   set_had : (v : Value) (flags : List Bool) (cells : List Value) (n : ℕ) (old : Option Value) → slice_get flags n ≡ Some true
       → option_map (λ (o : Value). slice_set (keep flags (move_values k.rho cells)) (rank flags n) (move_value k.rho v)) (option_map (move_value k.rho) old)
-        ≡ option_map (λ (vs : List Value). keep flags (move_values k.rho vs)) (option_map (λ (o : Value). slice_set cells n v) old)
+      ≡ option_map (λ (vs : List Value). keep flags (move_values k.rho vs)) (option_map (λ (o : Value). slice_set cells n v) old)
   set_had v flags cells n None h = refl
   set_had v flags cells n (Some o) h =
       ap (λ (vs : List Value). Some vs) (keep_set flags (move_values k.rho cells) n (move_value k.rho v) h ∙ ap (keep flags) (set_map (move_value k.rho) cells n v))
 
   set_at : (v : Value) (flags : List Bool) (cells : List Value) (p : Option ℕ) → ((n : ℕ) → p ≡ Some n → slice_get flags n ≡ Some true)
       → option_and_then (set_if (keep flags (move_values k.rho cells)) (move_value k.rho v)) (option_map (rank flags) p)
-        ≡ option_map (λ (vs : List Value). keep flags (move_values k.rho vs)) (option_and_then (set_if cells v) p)
+      ≡ option_map (λ (vs : List Value). keep flags (move_values k.rho vs)) (option_and_then (set_if cells v) p)
   set_at v flags cells None h = refl
   set_at v flags cells (Some n) h =
       let old : slice_get (keep flags (move_values k.rho cells)) (rank flags n) ≡ option_map (move_value k.rho) (slice_get cells n)
-            = keep_rank flags (move_values k.rho cells) n (h n refl) ∙ slice_get-map (move_value k.rho) cells n in
+      = keep_rank flags (move_values k.rho cells) n (h n refl) ∙ slice_get-map (move_value k.rho) cells n in
       ap (option_map (λ (o : Value). slice_set (keep flags (move_values k.rho cells)) (rank flags n) (move_value k.rho v))) old
       ∙ set_had v flags cells n (slice_get cells n) (h n refl)
 

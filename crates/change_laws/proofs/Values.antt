@@ -1,15 +1,14 @@
 -- Values under new numbers, and whether they are kept, by their outermost construct.
-use Rattle.std.proofs.Common.{◌≡◌, ℕ, ℤ, Bool, true, ◌&&◌, List, [], ◌∷◌, map, Option, Some, None, refl, sym, ap, ◌∙◌}
+use Rattle.std.proofs.Common.{◌≡◌, ℕ, ℤ, Bool, true, ◌&&◌, List, [], ◌∷◌, map, refl, sym, ap, ◌∙◌}
 use Rattle.std.specs.List.{list_all}
 use Rattle.std.specs.Option.{option_map}
 use Rattle.il_base.specs.declared.ids.FieldId.{FieldId}
 use Rattle.world_model.specs.declared.expr.TypeExpr.{TypeExpr}
 use Rattle.cil_values.specs.declared.path.Path.{Path}
 use Rattle.cil_values.specs.declared.value.Value.{Value, fold-roll-Value, out-Value, roll-Value, roll-out-Value, out-roll-Value}
-use Rattle.cil_values.specs.declared.value.Value.TheFolds.{map-Value}
 use Rattle.cil_values.specs.declared.value.Value.TheOpen.{Value-F}
 use Rattle.cil_values.specs.declared.value.Value.TheVariants as value
-use Rattle.step_rules.specs.Stores.{Parts, parts_in, parts_of}
+use Rattle.step_rules.specs.Stores.{parts_in, parts_of}
 use Rattle.change_rules.specs.Change.{Rho, Keep}
 use Rattle.change_rules.specs.Moves.{move_field_id, move_expr, move_path, move_value_layer, move_value, move_values}
 use Rattle.change_rules.specs.Answers.{move_parts}

@@ -1,6 +1,4 @@
 use Rattle.change_laws.proofs.Cells.{cells_read, cells_written, zeros_move}
-use Rattle.change_laws.proofs.Lists.{all_take}
-use Rattle.change_laws.proofs.Values.{parts_moved}
 use Rattle.change_laws.proofs.laws.cells_move.Goals as goal
 
 pub returns-clause-read : goal.returns-clause-read
