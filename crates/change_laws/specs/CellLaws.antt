@@ -1,16 +1,15 @@
 -- The laws on cells of instances, of which those of fields that aren't kept go.
-use Rattle.std.specs.Prelude.{◌≡◌, ℕ, List, map, Bool, IsTrue}
+use Rattle.std.specs.Prelude.{◌≡◌, List, IsTrue}
 use Rattle.std.specs.Option.{option_map}
 use Rattle.world_model.specs.declared.expr.TypeExpr.{TypeExpr}
 use Rattle.cil_values.specs.declared.value.Value.{Value}
-use Rattle.step_rules.specs.Queries.{Queries, Cell, Layout}
+use Rattle.step_rules.specs.Queries.{Queries, Cell}
 use Rattle.step_rules.specs.Stores.{zeros_of}
 use Rattle.step_rules.specs.Places.{cell_of, with_cell}
-use Rattle.change_rules.specs.Keeping.{keep}
-use Rattle.change_rules.specs.Change.{Keep, Change}
-use Rattle.change_rules.specs.Moves.{move_expr, move_value, move_values}
-use Rattle.change_rules.specs.Answers.{move_cell, move_layout}
-use Rattle.change_rules.specs.States.{keeps_cell, mask, move_cells}
+use Rattle.change_rules.specs.Change.{Change}
+use Rattle.change_rules.specs.Moves.{move_expr, move_value}
+use Rattle.change_rules.specs.Answers.{move_cell}
+use Rattle.change_rules.specs.States.{keeps_cell, move_cells}
 use Rattle.change_rules.specs.Keeps.{keeps_expr}
 use Rattle.change_rules.specs.Agree.{Agree}
 

@@ -23,30 +23,30 @@ use Rattle.change_rules.specs.States.{keeps_cell}
 -- ---- types
 
 -- of a type: whether what it names is kept, with generic arguments that are shown, and whether its text may be printed
-pub record Standing : Type 0 where
+pub record Names : Type 0 where
   pub kept : Bool
   pub shown : Bool
 
-abbrev pub both : Standing → Bool
+abbrev pub both : Names → Bool
 both s = s.kept && s.shown
 
-abbrev pub standing_layer : Keep → TypeExpr-F Standing → Standing
-standing_layer k (TypeExpr-F.Def t) = record { kept = k.typ t.0; shown = k.shown t.0 }
-standing_layer k (TypeExpr-F.Inst t args) = record { kept = k.typ t.0 && list_all both args; shown = k.shown t.0 && list_all both args }
-standing_layer k (TypeExpr-F.Array x) = x
-standing_layer k (TypeExpr-F.ByRef x) = x
-standing_layer k (TypeExpr-F.Mod required by x) = record { kept = k.typ by.0 && x.kept; shown = k.shown by.0 && x.shown }
-standing_layer k _ = record { kept = true; shown = true }
+abbrev pub names_layer : Keep → TypeExpr-F Names → Names
+names_layer k (TypeExpr-F.Def t) = record { kept = k.typ t.0; shown = k.shown t.0 }
+names_layer k (TypeExpr-F.Inst t args) = record { kept = k.typ t.0 && list_all both args; shown = k.shown t.0 && list_all both args }
+names_layer k (TypeExpr-F.Array x) = x
+names_layer k (TypeExpr-F.ByRef x) = x
+names_layer k (TypeExpr-F.Mod required by x) = record { kept = k.typ by.0 && x.kept; shown = k.shown by.0 && x.shown }
+names_layer k _ = record { kept = true; shown = true }
 
-unfoldable pub standing : Keep → TypeExpr → Standing
-standing k = fold-TypeExpr Standing (standing_layer k)
+unfoldable pub names_of : Keep → TypeExpr → Names
+names_of k = fold-TypeExpr Names (names_layer k)
 
 abbrev pub keeps_expr : Keep → TypeExpr → Bool
-keeps_expr k e = (standing k e).kept
+keeps_expr k e = (names_of k e).kept
 
 -- a type that is kept and shown, as each generic argument is
 abbrev pub shows_expr : Keep → TypeExpr → Bool
-shows_expr k e = both (standing k e)
+shows_expr k e = both (names_of k e)
 
 -- whether a flag is set for the definition that a type is of; an array and a primitive have none and pass, a parameter doesn't
 abbrev pub definition_passes : (ℕ → Bool) → TypeExpr-F TypeExpr → Bool

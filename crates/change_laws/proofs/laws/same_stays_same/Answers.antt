@@ -1,5 +1,4 @@
 use Rattle.change_laws.proofs.Same.{same_exprs_moved, same_places_moved, same_globals_moved}
-use Rattle.change_laws.proofs.Lists.{find_moved}
 use Rattle.change_laws.proofs.laws.same_stays_same.Goals as goal
 
 pub returns-clause-types : goal.returns-clause-types
