@@ -1,21 +1,13 @@
 //! What a link of assemblies answers.
 
 use super::build::*;
-<<<<<<< HEAD
-use il_base::{AsmId, Boxed, NoMemory, Seq, Sig};
-=======
 use super::generics::fill_parameter_base;
-use il_base::{AsmId, NoMemory, Seq};
->>>>>>> aac98c07f7591a90123b7ae781940224fe2f8337
+use il_base::{AsmId, Boxed, NoMemory, Seq, Sig};
 use link_rules::LinkError;
 use resolver::link;
 use std::alloc::Global;
 use std::test::Fail;
-<<<<<<< HEAD
 use world_model::{AsmRec, BadKind, ExportedTypeRow, Known, NestedClassRow, TypeSpecRow, World};
-=======
-use world_model::{AsmRec, BadKind, ExportedTypeRow, Known, NestedClassRow, World};
->>>>>>> aac98c07f7591a90123b7ae781940224fe2f8337
 
 /// An assembly of a name, without types of its own.
 fn named(alloc: Global, name: &[u8]) -> Result<AsmRec, NoMemory> {
@@ -132,7 +124,6 @@ fn assemblies_that_forward_to_each_other(rt: HostRuntime) -> Result<(), Fail> {
     Ok(())
 }
 
-<<<<<<< HEAD
 /// The same, with `int modopt(T)` as a TypeSpec row.
 fn fill_modified(rec: &mut AsmRec, alloc: Global) -> Result<(), NoMemory> {
     fill_user(rec, alloc)?;
@@ -153,7 +144,7 @@ fn push_modified(alloc: Global, recs: &mut Seq<AsmRec>) -> Result<(), NoMemory> 
 }
 
 /// Whether a token of `App` names a type.
-fn is_found(world: &World, token: u32) -> bool {
+fn is_type_found(world: &World, token: u32) -> bool {
     match world.type_at(AsmId(0), token) {
         Some(Known::Good(_)) => true,
         Some(Known::Bad(_)) => false,
@@ -168,9 +159,8 @@ fn names_that_only_modifiers_use(rt: HostRuntime) -> Result<(), Fail> {
     let mut recs = Seq::new(alloc);
     push_modified(alloc, &mut recs)?;
     let world = world(alloc, recs)?;
-    assert!(rt; is_found(&world, 0x1b00_0001));
-    assert!(rt; !is_found(&world, 0x0100_0002));
-=======
+    assert!(rt; is_type_found(&world, 0x1b00_0001));
+    assert!(rt; !is_type_found(&world, 0x0100_0002));
 /// compiler-controlled
 const COMPILER_CONTROLLED: u16 = 0x00;
 
@@ -216,6 +206,5 @@ fn references_by_way_of_a_parameter(rt: HostRuntime) -> Result<(), Fail> {
     let alloc = rt.alloc();
     let world = built(alloc, fill_parameter_reference)?;
     assert_eq!(rt; is_found(&world, 0x0a00_0001), Some(false));
->>>>>>> aac98c07f7591a90123b7ae781940224fe2f8337
     Ok(())
 }
