@@ -1,0 +1,9 @@
+//! Which members of a type an annotation keeps: the set of `DynamicallyAccessedMembersAttribute`'s kinds, a number in, a set
+//! out, as `specs/Kinds` defines it.
+#![tactic(auto)]
+
+mod dam;
+#[cfg(test)]
+mod tests;
+
+pub use dam::Dam;
