@@ -1,9 +1,9 @@
 ghost use Rattle.std.specs.Prelude.{◌≡◌, IfOk, OnOk};
 ghost use Rattle.marking.specs.Progress.{none_marked, mark};
 
-use thin_values::Stack;
 use il_base::{Bits, NoMemory, Seq};
 use std::alloc::Global;
+use thin_values::Stack;
 
 /// The methods that are marked so far, and those among them whose code isn't read yet.
 #[derive(Drop)]

@@ -6,9 +6,9 @@ ghost use Rattle.thin_values.specs.Words.{zero_of};
 ghost use Rattle.thin_values.specs.Call.{args_of, passed};
 
 use crate::values::{stored, zero};
-use thin_values::{Stack, Value};
 use il_base::{NoMemory, Seq, Sig};
 use std::alloc::Global;
+use thin_values::{Stack, Value};
 use world_model::{AsmRec, Known, index_in};
 
 /// The types of the locals that a body's token names; none for a token that names none.

@@ -10,10 +10,10 @@ use crate::args::{fit, local_types, take_args, zeros};
 use crate::forms::{stopped, stuck};
 use crate::step_out::StepOut;
 use crate::values::{is_void, stored};
-use thin_values::{End, Frame, Stack, State, Value};
 use il_base::{Body, MethodId, MethodSig, NoMemory, Seq, Sig};
 use std::alloc::Global;
 use std::mem;
+use thin_values::{End, Frame, Stack, State, Value};
 use world_model::AsmRec;
 
 /// The most frames that stand at a time.

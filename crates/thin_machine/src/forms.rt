@@ -11,8 +11,8 @@ ghost use Rattle.thin_machine.specs.Took.{next_of, plain_use};
 use crate::operands::{number_in, slot_in, target_in};
 use crate::step_out::StepOut;
 use crate::values::{binary_of, branches_on, int32_of, stored};
-use thin_values::{End, State, Value};
 use il_base::{NoMemory, Operand, Seq, Sig};
+use thin_values::{End, State, Value};
 
 /// The code breaks a rule at this instruction.
 pub(crate) fn stuck(st: &State) -> StepOut

@@ -22,9 +22,9 @@ use crate::print::core_call;
 use crate::program::{Program, parts_of};
 use crate::step_out::StepOut;
 use crate::text::load_str;
-use thin_values::State;
 use il_base::{Body, Form, Instr, MethodId, MethodSig, NoMemory, Operand};
 use std::alloc::Global;
+use thin_values::State;
 use world_model::{AsmRec, instruction_len};
 
 /// A call of a method of the program, by its row from 0.

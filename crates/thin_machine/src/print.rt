@@ -6,9 +6,9 @@ ghost use Rattle.thin_machine.specs.Took.{next_of};
 
 use crate::forms::stuck;
 use crate::step_out::StepOut;
-use thin_values::{Obj, State, Value};
 use il_base::{NoMemory, Seq};
 use std::alloc::Global;
+use thin_values::{Obj, State, Value};
 use world_model::CoreMember;
 
 fn object_line(

@@ -9,9 +9,9 @@ ghost use Rattle.thin_machine.specs.Starts.{StartsAt};
 use crate::args::{local_types, zeros};
 use crate::program::{Program, parts_of};
 use crate::values::{is_int32, is_void};
-use thin_values::{Frame, Stack, State};
 use il_base::{Body, MethodId, MethodSig, NoMemory, Seq, Sig};
 use std::alloc::Global;
+use thin_values::{Frame, Stack, State};
 use world_model::AsmRec;
 
 /// An entry point takes nothing and returns nothing or an int32.

@@ -14,9 +14,9 @@ use crate::memo::Memo;
 use crate::operands::token_in;
 use crate::program::Program;
 use crate::step_out::StepOut;
-use thin_values::{Obj, State, Value};
 use il_base::{NoMemory, Operand, Seq, Units};
 use std::alloc::Global;
+use thin_values::{Obj, State, Value};
 
 /// The most units that a text has (UTF-16).
 const TEXT_LIMIT: usize = 16_777_216;

@@ -5,8 +5,8 @@ ghost use Rattle.thin_values.specs.World.{expr_of};
 ghost use Rattle.thin_values.specs.Words.{prim_stores, stores, zero_of, is_void, is_int32, truth, flag};
 ghost use Rattle.thin_values.specs.Step.{is_brfalse, is_brtrue, branches_on, integers, references, binary_of, int32_of};
 
-use thin_values::Value;
 use il_base::Sig;
+use thin_values::Value;
 use world_model::prim_code;
 
 /// The element type of `int32` (II.23.1.16).

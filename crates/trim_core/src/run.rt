@@ -8,11 +8,11 @@ ghost use Rattle.thin_machine.specs.Memo.{IsMemo, MemoAfter};
 ghost use Rattle.trim_core.specs.Exec.{RunsTo, LoopsTo, TurnsTo, end_of, place_in, run_of};
 
 use crate::answers::{EndKind, ExecFault, Refusal};
-use thin_machine::{Memo, Program, StepOut, first_state, step};
-use thin_values::{End, State};
 use il_base::{MethodId, Place};
 use il_outside::{Sink, SinkError, write_all};
 use std::alloc::Global;
+use thin_machine::{Memo, Program, StepOut, first_state, step};
+use thin_values::{End, State};
 use world_model::AsmRec;
 
 /// A place in a method of the one file.
