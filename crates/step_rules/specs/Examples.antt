@@ -154,6 +154,9 @@ abbrev pub EndsFinally : Type 0
 EndsFinally = Steps (with_clause ends_with (ins 3 form.EndFinally opcode.ENDFINALLY queries.nothing ∷ []))
     (state_at [] (frame_at 3 [] [] (record { clause = 0; reason = leaving [] 4 } ∷ []))) (went (state_at [] (frame_at 4 [] [] [])) [])
 
--- the fall out of a try block
+-- the fall out of a try block from 0 to 1, whose handler is elsewhere
+abbrev pub ends_later : Clause
+ends_later = record { kind = finally; try_at = 0; try_end = 1; at = 2; end = 3; caught = Bad Unresolved }
+
 abbrev pub FallsOut : Type 0
-FallsOut = Steps (with_clause ends_with (int 0 (pos 1) ∷ [])) (state_at [] (frame_at 0 [] [] [])) (over (Stuck (record { 0 = 0 }) 0))
+FallsOut = Steps (with_clause ends_later (int 0 (pos 1) ∷ [])) (state_at [] (frame_at 0 [] [] [])) (over (Stuck (record { 0 = 0 }) 0))
