@@ -54,17 +54,17 @@ due_answered bytes steps out0 out1 err0 err1 due status quiet (inr (inl h)) r =
 due_answered bytes steps out0 out1 err0 err1 due status quiet (inr (inr (inl h))) r = absurd (quiet (inl h.2))
 due_answered bytes steps out0 out1 err0 err1 due status quiet (inr (inr (inr h))) r = inr (only_memory status (instead NoMemory due status h.0 r))
 
-run_answered : (name : List ℕ) (steps : ℕ) (files : Option Files) (f : Files) (o : Option (List ℕ)) (out0 out1 err0 err1 : SinkState) (status : Status) → files ≡ Some f → f name ≡ o → (SinkFailed out0 out1 err0 err1 → ⊥)
-    → FileAnswer name steps files out0 out1 err0 err1 status → WantsRun steps o status ⊎ (status ≡ NoMemory)
-run_answered name steps files f None out0 out1 err0 err1 status known held quiet h = inl tt
-run_answered name steps files f (Some bytes) out0 out1 err0 err1 status known held quiet h =
-    subst (λ (b : List ℕ). (status ≡ file_status steps (told_alone b)) ⊎ (status ≡ NoMemory)) (told_bytes name files f h.bytes bytes known held h.told)
+run_answered : (name : List ℕ) (steps : ℕ) (was now : FolderState) (f : Files) (o : Option (List ℕ)) (out0 out1 err0 err1 : SinkState) (status : Status) → was.files ≡ Some f → f name ≡ o → (SinkFailed out0 out1 err0 err1 → ⊥)
+    → FileAnswer name steps was now out0 out1 err0 err1 status → WantsRun steps o status ⊎ (status ≡ NoMemory)
+run_answered name steps was now f None out0 out1 err0 err1 status known held quiet h = inl tt
+run_answered name steps was now f (Some bytes) out0 out1 err0 err1 status known held quiet h =
+    subst (λ (b : List ℕ). (status ≡ file_status steps (told_alone b)) ⊎ (status ≡ NoMemory)) (told_bytes name was.files f h.bytes bytes known held h.told)
     (due_answered h.bytes steps out0 out1 err0 err1 h.caused.due status quiet h.caused.cause
     (reported (line_of (assembly_of h.bytes) name h.caused.due) h.caused.due out0 out1 err0 err1 status quiet h.caused.reported))
 
 exec_answered : (name : List ℕ) (steps : ℕ) (was now : FolderState) (f : Files) (out0 out1 err0 err1 : SinkState) (status : Status) → was.files ≡ Some f → IsQuiet was now out0 out1 err0 err1
     → ExecCaused name steps was now out0 out1 err0 err1 status → WantsRun steps (f name) status ⊎ (status ≡ NoMemory)
-exec_answered name steps was now f out0 out1 err0 err1 status known quiet (inl h) = run_answered name steps was.files f (f name) out0 out1 err0 err1 status known refl quiet.sinks h
+exec_answered name steps was now f out0 out1 err0 err1 status known quiet (inl h) = run_answered name steps was now f (f name) out0 out1 err0 err1 status known refl quiet.sinks h
 exec_answered name steps was now f out0 out1 err0 err1 status known quiet (inr (inl h)) = absurd (quiet.reads h.rose)
 exec_answered name steps was now f out0 out1 err0 err1 status known quiet (inr (inr h)) =
     inr (only_memory status (reported (line_of [] [] NoMemory) NoMemory out0 out1 err0 err1 status quiet.sinks h.reported))

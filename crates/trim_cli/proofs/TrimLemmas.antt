@@ -3,7 +3,7 @@ use Rattle.std.proofs.Common.{◌≡◌, ℕ, List, [], Option, Some, None, Resu
 use Rattle.il_outside.specs.Faults.{Rose}
 use Rattle.il_outside.specs.declared.folder.FolderError.{FolderError}
 use Rattle.il_outside.specs.declared.folder.FolderError.TheVariants as folder_error
-use Rattle.il_outside.specs.Folder.{Files, FolderState, Tells, SameFiles, SameOthers, LeavesPrefix, KeepsFiles, Writes, WritesFile, ReadFaults, WriteFaults}
+use Rattle.il_outside.specs.Folder.{Files, FolderState, Tells, SameFiles, SameOthers, LeavesPrefix, KeepsFiles, Writes, WritesFile, NoFault, ReadFaults, WriteFaults}
 use Rattle.il_outside.specs.Streams.{SinkState}
 use Rattle.trim_core.specs.declared.answers.Refusal.{Refusal}
 use Rattle.trim_core.specs.declared.answers.Trimmed.{Trimmed}
@@ -13,13 +13,19 @@ use Rattle.trim_cli.specs.declared.status.Status.{Status}
 use Rattle.trim_cli.specs.declared.status.Status.TheVariants.{Done, ReadFault, WriteFault, NoMemory}
 use Rattle.trim_cli.specs.Lines.{line_of}
 use Rattle.trim_cli.specs.Answer.{refused, Reports, RefusalReported, IsTrimDue, TrimFileCaused, TrimCaused, KeepsOthers}
-use Rattle.trim_cli.proofs.AnswerLemmas.{grew_by_nothing, same_refusal, read_fault_of}
+use Rattle.trim_cli.proofs.AnswerLemmas.{untouched, same_refusal, read_fault_of, read_starved_of}
 
 -- ---- folders
 
 pub keeps_itself : (files : Option Files) → KeepsFiles files files
 keeps_itself None = tt
 keeps_itself (Some f) = λ name. refl
+
+pub quiet_itself : (s : FolderState) → NoFault s s
+quiet_itself s = (refl, refl, refl)
+
+quiet_twice : (a b c : FolderState) → NoFault a b → NoFault b c → NoFault a c
+quiet_twice a b c p q = (q.0 ∙ p.0, q.1 ∙ p.1, q.2 ∙ p.2)
 
 pub keeps_others : (name : List ℕ) (old new : Option Files) → KeepsFiles old new → KeepsOthers name old new
 keeps_others name None new h = tt
@@ -72,9 +78,9 @@ short_write (Some f) (Some g) name bytes w = w
 -- ---- the answer for the bytes of IN
 
 pub done : (bytes output word : List ℕ) (was now : FolderState) (err0 err1 : SinkState) (left : Trimmed) (answer : Status) → Trims (told_alone bytes) (Ok left)
-    → WritesFile was.files now.files output left.bytes (Ok tt) → Reports (line_of [] word Done) Done err0 err1 answer → TrimFileCaused bytes output word was now err0 err1 answer
-done bytes output word was now err0 err1 left answer trims written report =
-    record { due = Done; cause = inl (record { left = left; trims = trims; answer = refl; written = written }); reported = report }
+    → WritesFile was.files now.files output left.bytes (Ok tt) → NoFault was now → Reports (line_of [] word Done) Done err0 err1 answer → TrimFileCaused bytes output word was now err0 err1 answer
+done bytes output word was now err0 err1 left answer trims written quiet report =
+    record { due = Done; cause = inl (record { left = left; trims = trims; answer = refl; written = written; quiet = quiet }); reported = report }
 
 failed_write : (was now : FolderState) (name : List ℕ) (e : FolderError) → e ≡ folder_error.Failed → WriteFaults {T = Unit {0}} was now name (Err e)
     → Rose was.write_faults now.write_faults × (now.read_faults ≡ was.read_faults) × (now.failed ≡ Some name)
@@ -94,59 +100,74 @@ unwritten bytes output word was now err0 err1 left e answer is trims written fau
         written = subst (λ (x : FolderError). WritesFile was.files now.files output left.bytes (Err x)) is written;
         rose = failed.0;
         failed = failed.2;
+        reads = failed.1;
       })));
       reported = report;
     }
 
-pub starved_kept : (bytes output word : List ℕ) (was now : FolderState) (err0 err1 : SinkState) (answer : Status) → KeepsFiles was.files now.files
+pub starved_kept : (bytes output word : List ℕ) (was now : FolderState) (err0 err1 : SinkState) (answer : Status) → KeepsFiles was.files now.files → NoFault was now
     → Reports (line_of [] word NoMemory) NoMemory err0 err1 answer → TrimFileCaused bytes output word was now err0 err1 answer
-starved_kept bytes output word was now err0 err1 answer kept report = record { due = NoMemory; cause = inr (inr (inr (refl, kept))); reported = report }
+starved_kept bytes output word was now err0 err1 answer kept quiet report = record { due = NoMemory; cause = inr (inr (inr (refl, kept, quiet))); reported = report }
 
 pub starved_write : (bytes output word : List ℕ) (was now : FolderState) (err0 err1 : SinkState) (left : Trimmed) (e : FolderError) (answer : Status) → e ≡ folder_error.NoMemory
-    → WritesFile was.files now.files output left.bytes (Err e) → Reports (line_of [] word NoMemory) NoMemory err0 err1 answer → TrimFileCaused bytes output word was now err0 err1 answer
-starved_write bytes output word was now err0 err1 left e answer is written report =
+    → WritesFile was.files now.files output left.bytes (Err e) → WriteFaults {T = Unit {0}} was now output (Err e) → Reports (line_of [] word NoMemory) NoMemory err0 err1 answer
+    → TrimFileCaused bytes output word was now err0 err1 answer
+starved_write bytes output word was now err0 err1 left e answer is written faults report =
     starved_kept bytes output word was now err0 err1 answer
-    (short_write was.files now.files output left.bytes (subst (λ (x : FolderError). WritesFile was.files now.files output left.bytes (Err x)) is written)) report
+    (short_write was.files now.files output left.bytes (subst (λ (x : FolderError). WritesFile was.files now.files output left.bytes (Err x)) is written))
+    (subst (λ (x : FolderError). WriteFaults {T = Unit {0}} was now output (Err x)) is faults) report
 
 pub refused_trim : (bytes output word : List ℕ) (was : FolderState) (err0 err1 : SinkState) (why : Refusal) (answer : Status) → Trims (told_alone bytes) (Err why)
     → RefusalReported bytes word why err0 err1 answer → TrimFileCaused bytes output word was was err0 err1 answer
 refused_trim bytes output word was err0 err1 why answer trims (inl report) = record {
   due = refused why;
-  cause = inr (inl (record { why = why; trims = trims; answer = refl; kept = keeps_itself was.files }));
+  cause = inr (inl (record { why = why; trims = trims; answer = refl; kept = keeps_itself was.files; quiet = quiet_itself was }));
   reported = subst (λ (line : List ℕ). Reports line (refused why) err0 err1 answer) (same_refusal bytes word why) report;
 }
-refused_trim bytes output word was err0 err1 why answer trims (inr report) = starved_kept bytes output word was was err0 err1 answer (keeps_itself was.files) report
+refused_trim bytes output word was err0 err1 why answer trims (inr report) = starved_kept bytes output word was was err0 err1 answer (keeps_itself was.files) (quiet_itself was) report
 
 -- ---- the answer for OUT and IN, behind the read of IN
 
-due_after : (bytes output : List ℕ) (was mid now : FolderState) (due : Status) → KeepsFiles was.files mid.files → mid.write_faults ≡ was.write_faults → IsTrimDue bytes output mid now due → IsTrimDue bytes output was now due
-due_after bytes output was mid now due kept faults (inl h) =
-    inl (record { left = h.left; trims = h.trims; answer = h.answer; written = writes_after was.files mid.files now.files output h.left.bytes (Ok tt) kept h.written })
-due_after bytes output was mid now due kept faults (inr (inl h)) = inr (inl (record { why = h.why; trims = h.trims; answer = h.answer; kept = keeps_twice was.files mid.files now.files kept h.kept }))
-due_after bytes output was mid now due kept faults (inr (inr (inl h))) = inr (inr (inl (record {
+due_after : (bytes output : List ℕ) (was mid now : FolderState) (due : Status) → KeepsFiles was.files mid.files → NoFault was mid → IsTrimDue bytes output mid now due → IsTrimDue bytes output was now due
+due_after bytes output was mid now due kept quiet (inl h) = inl (record {
+  left = h.left;
+  trims = h.trims;
+  answer = h.answer;
+  written = writes_after was.files mid.files now.files output h.left.bytes (Ok tt) kept h.written;
+  quiet = quiet_twice was mid now quiet h.quiet;
+})
+due_after bytes output was mid now due kept quiet (inr (inl h)) = inr (inl (record {
+  why = h.why;
+  trims = h.trims;
+  answer = h.answer;
+  kept = keeps_twice was.files mid.files now.files kept h.kept;
+  quiet = quiet_twice was mid now quiet h.quiet;
+}))
+due_after bytes output was mid now due kept quiet (inr (inr (inl h))) = inr (inr (inl (record {
   left = h.left;
   trims = h.trims;
   answer = h.answer;
   written = writes_after was.files mid.files now.files output h.left.bytes (Err folder_error.Failed) kept h.written;
-  rose = subst (λ (n : ℕ). Rose n now.write_faults) faults h.rose;
+  rose = subst (λ (n : ℕ). Rose n now.write_faults) quiet.1 h.rose;
   failed = h.failed;
+  reads = h.reads ∙ quiet.0;
 })))
-due_after bytes output was mid now due kept faults (inr (inr (inr h))) = inr (inr (inr (h.0, keeps_twice was.files mid.files now.files kept h.1)))
+due_after bytes output was mid now due kept quiet (inr (inr (inr h))) = inr (inr (inr (h.0, keeps_twice was.files mid.files now.files kept h.1, quiet_twice was mid now quiet h.2)))
 
-caused_after : (bytes output word : List ℕ) (was mid now : FolderState) (err0 err1 : SinkState) (answer : Status) → KeepsFiles was.files mid.files → mid.write_faults ≡ was.write_faults
+caused_after : (bytes output word : List ℕ) (was mid now : FolderState) (err0 err1 : SinkState) (answer : Status) → KeepsFiles was.files mid.files → NoFault was mid
     → TrimFileCaused bytes output word mid now err0 err1 answer → TrimFileCaused bytes output word was now err0 err1 answer
-caused_after bytes output word was mid now err0 err1 answer kept faults h =
-    record { due = h.due; cause = due_after bytes output was mid now h.due kept faults h.cause; reported = h.reported }
+caused_after bytes output word was mid now err0 err1 answer kept quiet h =
+    record { due = h.due; cause = due_after bytes output was mid now h.due kept quiet h.cause; reported = h.reported }
 
 pub trim_answer : (output name : List ℕ) (was mid now : FolderState) (out err0 err1 : SinkState) (bytes : List ℕ) (answer : Status) → Tells was.files name bytes → KeepsFiles was.files mid.files
-    → mid.write_faults ≡ was.write_faults → TrimFileCaused bytes output name mid now err0 err1 answer → TrimCaused output name was now out out err0 err1 answer
-trim_answer output name was mid now out err0 err1 bytes answer told kept faults h =
-    inl (record { bytes = bytes; told = told; printed = grew_by_nothing out.held; caused = caused_after bytes output name was mid now err0 err1 answer kept faults h })
+    → NoFault was mid → TrimFileCaused bytes output name mid now err0 err1 answer → TrimCaused output name was now out out err0 err1 answer
+trim_answer output name was mid now out err0 err1 bytes answer told kept quiet h =
+    inl (record { bytes = bytes; told = told; printed = untouched out; caused = caused_after bytes output name was mid now err0 err1 answer kept quiet h })
 
 pub trim_read_failed : (output name : List ℕ) (was now : FolderState) (out err0 err1 : SinkState) (e : FolderError) (answer : Status) → e ≡ folder_error.Failed → ReadFaults {T = List ℕ} was now name (Err e)
     → KeepsFiles was.files now.files → Reports (line_of [] [] ReadFault) ReadFault err0 err1 answer → TrimCaused output name was now out out err0 err1 answer
 trim_read_failed output name was now out err0 err1 e answer is faults kept report = inr (inl (read_fault_of name was now out err0 err1 e answer is faults report, kept))
 
-pub trim_read_starved : (output name : List ℕ) (was now : FolderState) (out err0 err1 : SinkState) (answer : Status) → KeepsFiles was.files now.files
-    → Reports (line_of [] [] NoMemory) NoMemory err0 err1 answer → TrimCaused output name was now out out err0 err1 answer
-trim_read_starved output name was now out err0 err1 answer kept report = inr (inr (record { printed = grew_by_nothing out.held; reported = report }, kept))
+pub trim_read_starved : (output name : List ℕ) (was now : FolderState) (out err0 err1 : SinkState) (e : FolderError) (answer : Status) → e ≡ folder_error.NoMemory → ReadFaults {T = List ℕ} was now name (Err e)
+    → KeepsFiles was.files now.files → Reports (line_of [] [] NoMemory) NoMemory err0 err1 answer → TrimCaused output name was now out out err0 err1 answer
+trim_read_starved output name was now out err0 err1 e answer is faults kept report = inr (inr (read_starved_of name was now out err0 err1 e answer is faults report, kept))

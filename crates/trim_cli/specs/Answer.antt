@@ -1,9 +1,10 @@
--- When each answer of the program comes, and what it leaves.
+-- When each answer of the program comes, and what it leaves. A call of the outside that fails is never hidden: the first one
+-- that fails is the last of its kind, and the answer tells of it.
 use Rattle.std.specs.Prelude.{◌≡◌, ◌⊎◌, ℕ, List, [], Option, Some, None, Result, Ok, Err, slice_get, unwrap_or, min, ⊤}
 use Rattle.std.specs.Io.KnownBytes.{Appends}
 use Rattle.il_outside.specs.Faults.{Rose}
 use Rattle.il_outside.specs.declared.folder.FolderError.TheVariants as folder
-use Rattle.il_outside.specs.Folder.{Files, FolderState, Tells, KeepsFiles, WritesFile, SameOthers}
+use Rattle.il_outside.specs.Folder.{Files, FolderState, Tells, KeepsFiles, WritesFile, SameOthers, NoFault}
 use Rattle.il_outside.specs.Streams.{SinkState, AppendsPrefix}
 use Rattle.world_model.specs.declared.record.AsmRec.{AsmRec}
 use Rattle.trim_core.specs.declared.answers.EndKind.{EndKind}
@@ -14,7 +15,8 @@ use Rattle.trim_core.specs.declared.answers.Trimmed.{Trimmed}
 use Rattle.trim_core.specs.declared.answers.ExecFault.{ExecFault}
 use Rattle.trim_core.specs.declared.answers.ExecFault.TheVariants as fault
 use Rattle.trim_core.specs.Told.{told_alone, name_of}
-use Rattle.trim_core.specs.Exec.{run_of, end_of}
+use Rattle.thin_values.specs.Program.{run_of}
+use Rattle.trim_core.specs.Exec.{end_of}
 use Rattle.trim_core.specs.Trim.{Trims}
 use Rattle.trim_cli.specs.declared.command.Command.{Command}
 use Rattle.trim_cli.specs.declared.command.Command.TheVariants.{Exec, Trim}
@@ -49,10 +51,14 @@ abbrev pub starved_status : Status → Status
 starved_status WriteFault = WriteFault
 starved_status s = NoMemory
 
+-- these bytes were printed, and no write of them failed
+abbrev pub Prints : List ℕ → SinkState → SinkState → Type 0
+Prints bytes old new = Appends old.held new.held bytes × (new.faults ≡ old.faults)
+
 -- The line of a status was written; or the writing failed, or memory ran out, and a prefix of it was.
 abbrev pub Reports : List ℕ → Status → SinkState → SinkState → Status → Type 0
 Reports line status old new answer =
-    ((answer ≡ status) × Appends old.held new.held line × (new.faults ≡ old.faults))
+    ((answer ≡ status) × Prints line old new)
     ⊎ ((answer ≡ WriteFault) × AppendsPrefix old.held new.held line × Rose old.faults new.faults)
     ⊎ ((answer ≡ starved_status status) × AppendsPrefix old.held new.held line × (new.faults ≡ old.faults))
 
@@ -67,28 +73,28 @@ pub record Ran (bytes : List ℕ) (steps : ℕ) (out0 out1 : SinkState) (due : S
   pub rec : AsmRec
   pub told : told_alone bytes ≡ Ok rec
   pub answer : due ≡ status_of steps (end_of (run_of rec steps).end)
-  pub printed : Appends out0.held out1.held (run_of rec steps).output
+  pub printed : Prints (run_of rec steps).output out0 out1
 
 -- the file can't be taken, and nothing was printed
 pub record Refused (bytes : List ℕ) (out0 out1 : SinkState) (due : Status) : Type 0 where
   pub why : Refusal
   pub told : told_alone bytes ≡ Err why
   pub answer : due ≡ refused why
-  pub printed : Appends out0.held out1.held []
+  pub printed : Prints [] out0 out1
 
 -- a prefix of what the file's run prints
 abbrev pub PrintsPrefix : List ℕ → ℕ → SinkState → SinkState → Type 0
 PrintsPrefix bytes steps out0 out1 =
     Appends out0.held out1.held [] ⊎ ((rec : AsmRec) × (told_alone bytes ≡ Ok rec) × AppendsPrefix out0.held out1.held (run_of rec steps).output)
 
--- Which status is due for the bytes of a file, with what was printed: the run's, the refusal's, WriteFault where the sink
--- failed, or NoMemory.
+-- Which status is due for the bytes of a file, with what was printed: the run's, the refusal's, WriteFault where one write to
+-- `out` failed, or NoMemory. But for WriteFault none failed.
 abbrev pub IsDue : List ℕ → ℕ → SinkState → SinkState → Status → Type 0
 IsDue bytes steps out0 out1 due =
     Ran bytes steps out0 out1 due
     ⊎ (Refused bytes out0 out1 due
     ⊎ (((due ≡ WriteFault) × PrintsPrefix bytes steps out0 out1 × Rose out0.faults out1.faults)
-    ⊎ ((due ≡ NoMemory) × PrintsPrefix bytes steps out0 out1)))
+    ⊎ ((due ≡ NoMemory) × PrintsPrefix bytes steps out0 out1 × (out1.faults ≡ out0.faults))))
 
 -- the status that was due, and its line
 pub record FileCaused (bytes : List ℕ) (steps : ℕ) (word : List ℕ) (out0 out1 err0 err1 : SinkState) (answer : Status) : Type 0 where
@@ -122,47 +128,53 @@ RunReported bytes word steps (Err (fault.Refused why)) old new answer = RefusalR
 
 -- ---- `exec`: a name in a folder
 
--- the bytes that were read under the name, and the answer for them
-pub record FileAnswer (name : List ℕ) (steps : ℕ) (files : Option Files) (out0 out1 err0 err1 : SinkState) (answer : Status) : Type 0 where
+-- the bytes that were read under the name, and the answer for them; no call of the folder failed
+pub record FileAnswer (name : List ℕ) (steps : ℕ) (was now : FolderState) (out0 out1 err0 err1 : SinkState) (answer : Status) : Type 0 where
   pub bytes : List ℕ
-  pub told : Tells files name bytes
+  pub told : Tells was.files name bytes
+  pub quiet : NoFault was now
   pub caused : FileCaused bytes steps name out0 out1 err0 err1 answer
 
--- the read of the name failed in this call: nothing is printed but the status line
+-- one read failed in this call, that of the name, and no write of the folder: nothing is printed but the status line
 pub record ReadFailed (name : List ℕ) (was now : FolderState) (out0 out1 err0 err1 : SinkState) (answer : Status) : Type 0 where
   pub rose : Rose was.read_faults now.read_faults
   pub failed : now.failed ≡ Some name
-  pub printed : Appends out0.held out1.held []
+  pub writes : now.write_faults ≡ was.write_faults
+  pub printed : Prints [] out0 out1
   pub reported : Reports (line_of [] [] ReadFault) ReadFault err0 err1 answer
 
--- memory ran out at the read
-pub record ReadStarved (out0 out1 err0 err1 : SinkState) (answer : Status) : Type 0 where
-  pub printed : Appends out0.held out1.held []
+-- memory ran out at the read; no call of the folder failed
+pub record ReadStarved (was now : FolderState) (out0 out1 err0 err1 : SinkState) (answer : Status) : Type 0 where
+  pub quiet : NoFault was now
+  pub printed : Prints [] out0 out1
   pub reported : Reports (line_of [] [] NoMemory) NoMemory err0 err1 answer
 
 -- the answer for a name
 abbrev pub ExecCaused : List ℕ → ℕ → FolderState → FolderState → SinkState → SinkState → SinkState → SinkState → Status → Type 0
 ExecCaused name steps was now out0 out1 err0 err1 answer =
-    FileAnswer name steps was.files out0 out1 err0 err1 answer
-    ⊎ (ReadFailed name was now out0 out1 err0 err1 answer ⊎ ReadStarved out0 out1 err0 err1 answer)
+    FileAnswer name steps was now out0 out1 err0 err1 answer
+    ⊎ (ReadFailed name was now out0 out1 err0 err1 answer ⊎ ReadStarved was now out0 out1 err0 err1 answer)
 
 -- ---- `trim`: OUT and IN
 
--- the file was trimmed, and OUT holds what was left; `Trims` has what that is, and that it runs as the whole
+-- The file was trimmed, and OUT holds what was left; `Trims` has what that is, and that it runs as the whole. No call of the
+-- folder failed.
 pub record TrimDone (bytes out_name : List ℕ) (was now : FolderState) (due : Status) : Type 0 where
   pub left : Trimmed
   pub trims : Trims (told_alone bytes) (Ok left)
   pub answer : due ≡ Done
   pub written : WritesFile was.files now.files out_name left.bytes (Ok tt)
+  pub quiet : NoFault was now
 
--- the trim refuses, and the folder is as it was
+-- the trim refuses, and the folder is as it was; no call of it failed
 pub record TrimRefused (bytes : List ℕ) (was now : FolderState) (due : Status) : Type 0 where
   pub why : Refusal
   pub trims : Trims (told_alone bytes) (Err why)
   pub answer : due ≡ refused why
   pub kept : KeepsFiles was.files now.files
+  pub quiet : NoFault was now
 
--- the write of OUT failed in this call: it is whole, as it was, or as the failing write left it
+-- one write failed in this call, that of OUT, and no read: OUT is as it was, or holds a prefix of what was left
 pub record Unwritten (bytes out_name : List ℕ) (was now : FolderState) (due : Status) : Type 0 where
   pub left : Trimmed
   pub trims : Trims (told_alone bytes) (Ok left)
@@ -170,14 +182,16 @@ pub record Unwritten (bytes out_name : List ℕ) (was now : FolderState) (due : 
   pub written : WritesFile was.files now.files out_name left.bytes (Err folder.Failed)
   pub rose : Rose was.write_faults now.write_faults
   pub failed : now.failed ≡ Some out_name
+  pub reads : now.read_faults ≡ was.read_faults
 
--- which status is due for the bytes under IN, with what is under OUT; where memory ran out the folder is as it was
+-- which status is due for the bytes under IN, with what is under OUT; where memory ran out the folder is as it was, and no call
+-- of it failed
 abbrev pub IsTrimDue : List ℕ → List ℕ → FolderState → FolderState → Status → Type 0
 IsTrimDue bytes out_name was now due =
     TrimDone bytes out_name was now due
     ⊎ (TrimRefused bytes was now due
     ⊎ (Unwritten bytes out_name was now due
-    ⊎ ((due ≡ NoMemory) × KeepsFiles was.files now.files)))
+    ⊎ ((due ≡ NoMemory) × KeepsFiles was.files now.files × NoFault was now)))
 
 -- the status that was due, and its line
 pub record TrimFileCaused (bytes out_name word : List ℕ) (was now : FolderState) (err0 err1 : SinkState) (answer : Status) : Type 0 where
@@ -189,14 +203,14 @@ pub record TrimFileCaused (bytes out_name word : List ℕ) (was now : FolderStat
 pub record TrimAnswer (out_name name : List ℕ) (was now : FolderState) (out0 out1 err0 err1 : SinkState) (answer : Status) : Type 0 where
   pub bytes : List ℕ
   pub told : Tells was.files name bytes
-  pub printed : Appends out0.held out1.held []
+  pub printed : Prints [] out0 out1
   pub caused : TrimFileCaused bytes out_name name was now err0 err1 answer
 
 abbrev pub TrimCaused : List ℕ → List ℕ → FolderState → FolderState → SinkState → SinkState → SinkState → SinkState → Status → Type 0
 TrimCaused out_name name was now out0 out1 err0 err1 answer =
     TrimAnswer out_name name was now out0 out1 err0 err1 answer
     ⊎ ((ReadFailed name was now out0 out1 err0 err1 answer × KeepsFiles was.files now.files)
-    ⊎ (ReadStarved out0 out1 err0 err1 answer × KeepsFiles was.files now.files))
+    ⊎ (ReadStarved was now out0 out1 err0 err1 answer × KeepsFiles was.files now.files))
 
 -- ---- the words
 
@@ -207,14 +221,16 @@ capped at = min at 4294967295
 abbrev pub word_at : List (List ℕ) → ℕ → List ℕ
 word_at words at = unwrap_or (slice_get words at) []
 
--- The words don't read: nothing is printed but the status line; or a write to `err` failed, or memory ran out.
-pub record WordsRefused (at : ℕ) (out0 out1 err0 err1 : SinkState) (status : Status) : Type 0 where
-  pub printed : Appends out0.held out1.held []
+-- The words don't read: nothing is printed but the status line; or a write to `err` failed, or memory ran out. No call of the
+-- folder failed.
+pub record WordsRefused (at : ℕ) (was now : FolderState) (out0 out1 err0 err1 : SinkState) (status : Status) : Type 0 where
+  pub quiet : NoFault was now
+  pub printed : Prints [] out0 out1
   pub reported : Reports (line_of [] [] (BadWords (capped at))) (BadWords (capped at)) err0 err1 status
 
 -- When each status comes for the program's words, and what it leaves.
 abbrev pub CausedBy : Result Command ℕ → List (List ℕ) → FolderState → FolderState → SinkState → SinkState → SinkState → SinkState → Status → Type 0
-CausedBy (Err at) words was now out0 out1 err0 err1 status = WordsRefused at out0 out1 err0 err1 status
+CausedBy (Err at) words was now out0 out1 err0 err1 status = WordsRefused at was now out0 out1 err0 err1 status
 CausedBy (Ok (Exec at steps)) words was now out0 out1 err0 err1 status = ExecCaused (word_at words at) steps was now out0 out1 err0 err1 status
 CausedBy (Ok (Trim output at)) words was now out0 out1 err0 err1 status = TrimCaused (word_at words output) (word_at words at) was now out0 out1 err0 err1 status
 

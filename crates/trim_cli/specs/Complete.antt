@@ -7,7 +7,8 @@ use Rattle.world_model.specs.declared.record.AsmRec.{AsmRec}
 use Rattle.trim_core.specs.declared.answers.Refusal.{Refusal}
 use Rattle.trim_core.specs.declared.answers.Trimmed.{Trimmed}
 use Rattle.trim_core.specs.Told.{told_alone}
-use Rattle.trim_core.specs.Exec.{run_of, end_of}
+use Rattle.thin_values.specs.Program.{run_of}
+use Rattle.trim_core.specs.Exec.{end_of}
 use Rattle.trim_core.specs.Trim.{Trims}
 use Rattle.trim_cli.specs.declared.command.Command.{Command}
 use Rattle.trim_cli.specs.declared.command.Command.TheVariants.{Exec, Trim}

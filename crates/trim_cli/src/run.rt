@@ -44,11 +44,12 @@ fn word_at(words: &[String], at: usize) -> &str
 /// exactly the run's output. `Done` says that OUT holds the file that a trim of IN gives: it loads as one assembly whose
 /// methods are exactly the marked ones, and for every number of steps it prints, ends, stops or goes on as IN. `BadFile`,
 /// `Limit` and `NotYet` come exactly where those bytes say so, `Unresolved` exactly where a kept operand names nothing,
-/// `BadWords` where the words don't read, `ReadFault` only where the folder's count of failed reads rose and its last
-/// failed name is IN, `WriteFault` only where its count of failed writes rose and its last failed name is OUT, or a sink's
-/// count rose; `NoMemory` alone is free. `err` is extended by exactly the status line, and after `WriteFault` and
-/// `NoMemory` both sinks by prefixes. After a refusal the folder is as it was. `complete` is the other way round: where no
-/// count rose, what the words and a told folder ask for is the answer, or `NoMemory`.
+/// `BadWords` where the words don't read, `ReadFault` only where one read of the folder failed, that of IN, `WriteFault`
+/// only where one write of it failed, that of OUT, or one write to a sink; `NoMemory` alone is free. A call that fails is
+/// never hidden: where another answer is due, no read and no write of the folder and none to `out` failed. `err` is extended
+/// by exactly the status line, and after `WriteFault` and `NoMemory` both sinks by prefixes. After a refusal the folder is
+/// as it was. `complete` is the other way round: where no count rose, what the words and a told folder ask for is the
+/// answer, or `NoMemory`.
 pub fn run<F: Folder, I: Source, O: Sink, E: Sink>(
     alloc: Global,
     words: &Vec<String>,

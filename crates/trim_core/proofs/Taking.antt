@@ -1,7 +1,8 @@
 -- What a file is, by a link of its record.
-use Rattle.std.proofs.Common.{◌≡◌, ℕ, ◌≤◌, List, [], ◌∷◌, ◌++◌, length, Some, None, Err, true, false, nat_le, refl, sym, ap, subst, ◌∙◌, arith}
+use Rattle.std.proofs.Common.{◌≡◌, ℕ, ◌≤◌, Bool, List, [], ◌∷◌, ◌++◌, length, Some, None, Ok, Err, true, false, nat_le, refl, sym, ap, subst, ◌∙◌, arith}
+use Rattle.std.specs.Prelude.{IsTrue}
 use Rattle.std.proofs.lemmas.Bool.Decides.{nat_tests}
-use Rattle.record_format.specs.Record.{record_at}
+use Rattle.record_format.specs.Record.{record_at, HasRecord}
 use Rattle.world_model.specs.declared.record.AsmRec.{AsmRec}
 use Rattle.world_model.specs.declared.world.World.{World}
 use Rattle.world_model.specs.Thin.{is_thin}
@@ -9,6 +10,9 @@ use Rattle.core_table.specs.Record.{core_record}
 use Rattle.link_rules.specs.declared.link_error.LinkError.TheVariants as unlinked
 use Rattle.link_rules.specs.CoreNames.{missing_names, core_with}
 use Rattle.link_rules.specs.Linked.{assemblies, world_in, world_of, link_fault_of}
+use Rattle.file_layout.specs.Laid.{laid}
+use Rattle.restriction.specs.Restricted.{restricted}
+use Rattle.trim_laws.specs.Headline.{Headline}
 use Rattle.trim_core.specs.declared.answers.Refusal.{Refusal}
 use Rattle.trim_core.specs.declared.answers.Refusal.TheVariants as refusal
 use Rattle.trim_core.specs.Told.{most_bytes, told_alone, told_linked, if_linked, if_thin, unlinked_as, AloneRead, StartsLinked, starts_thin, TakenWorld, Told, RefusedBy}
@@ -58,3 +62,19 @@ module _ (file : List ℕ) (small : length file ≤ most_bytes) (inputs : List A
 
   pub thin_is : (w : World) → w ≡ world_of inputs → starts_thin w.recs ≡ is_thin (record_at file)
   thin_is w e = ap starts_thin (first_is w e)
+
+-- ---- bytes that have a record
+
+told_record : (bs : List ℕ) (rec : AsmRec) → HasRecord bs rec → link_fault_of (rec ∷ []) ≡ None → IsTrue (is_thin rec) → length bs ≤ most_bytes → told_alone bs ≡ Ok rec
+unfolding told_alone
+told_record bs rec has linked thin small =
+    let t : nat_le (length bs) most_bytes ≡ true = grind (arith, nat_tests) in
+    let l : told_linked bs rec (link_fault_of (rec ∷ [])) ≡ if_thin rec = ap (told_linked bs rec) linked in
+    let h : is_thin rec ≡ true = thin in
+    let r : if_linked bs (record_at bs) ≡ Ok rec = subst (λ (x : AsmRec). if_linked bs x ≡ Ok rec) has.is (l ∙ rw h refl) in
+    rw (t, has.meets) r
+
+-- what was written is told as what is left
+pub told_again : (bs : List ℕ) (rec : AsmRec) (flags : List Bool) → bs ≡ laid (restricted rec flags) → Headline rec flags → length bs ≤ most_bytes → told_alone bs ≡ Ok (restricted rec flags)
+told_again bs rec flags e h small =
+    told_record bs (restricted rec flags) (subst (λ (x : List ℕ). HasRecord x (restricted rec flags)) (sym e) h.loads) h.links h.settled.thin small

@@ -1,5 +1,5 @@
 -- What a run of a record comes to: what it prints within n steps, and how it stands then.
-use Rattle.std.specs.Prelude.{◌≡◌, ℕ, ◌+◌, ◌-◌, ◌%◌, [], Option, Some, None, Result, Ok, Err}
+use Rattle.std.specs.Prelude.{◌≡◌, ℕ, ◌+◌, ◌%◌, [], Option, Some, None, Result, Ok, Err}
 use Rattle.std.specs.Io.KnownBytes.{Appends}
 use Rattle.il_base.specs.declared.ids.Place.{Place}
 use Rattle.il_outside.specs.Streams.{SinkState, AppendsPrefix}
@@ -8,9 +8,9 @@ use Rattle.world_model.specs.declared.record.AsmRec.{AsmRec}
 use Rattle.trim_core.specs.declared.answers.Ending.{Ending}
 use Rattle.thin_values.specs.declared.state.End.{End}
 use Rattle.thin_values.specs.declared.state.End.TheVariants as run_end
-use Rattle.thin_values.specs.World.{queries_of}
 use Rattle.thin_values.specs.Words.{Next, went, over}
-use Rattle.thin_values.specs.Run.{Outcome, run_from}
+use Rattle.thin_values.specs.Run.{Outcome}
+use Rattle.thin_values.specs.Program.{run_of}
 use Rattle.thin_values.specs.declared.state.State.{State}
 use Rattle.thin_machine.specs.declared.step_out.StepOut.{StepOut}
 use Rattle.thin_machine.specs.declared.step_out.StepOut.TheVariants as out
@@ -31,14 +31,6 @@ end_of None = Spent
 end_of (Some (run_end.Ended code)) = Ended code
 end_of (Some (run_end.Stopped m at)) = Stopped (place_in m.0 at)
 end_of (Some (run_end.Stuck m at)) = Stuck (place_in m.0 at)
-
--- the place of the entry method, by the row that the entry token names
-abbrev pub entry_place : AsmRec → ℕ
-entry_place rec = rec.entry % 16777216 - 1
-
--- n steps of the program from its entry
-unfoldable pub run_of : AsmRec → ℕ → Outcome
-run_of rec n = run_from (queries_of rec) (entry_place rec) n
 
 -- What a run over a sink answers and leaves, where it prints this output: all of it with its end, or a prefix where the
 -- sink failed or memory ran out.

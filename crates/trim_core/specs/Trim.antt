@@ -1,31 +1,34 @@
 -- What a trim of files gives, and when it refuses.
-use Rattle.std.specs.Prelude.{◌≡◌, ◌≤◌, ℕ, Bool, List, Some, None, Result, Ok, Err}
+use Rattle.std.specs.Prelude.{◌≡◌, ◌≤◌, ℕ, Bool, List, length, Some, None, Result, Ok, Err}
 use Rattle.il_base.specs.declared.ids.Place.{Place}
 use Rattle.world_model.specs.declared.record.AsmRec.{AsmRec}
 use Rattle.trim_rules.specs.declared.bad_operand.BadOperand.{BadOperand}
 use Rattle.trim_rules.specs.Marked.{IsMarking}
 use Rattle.trim_rules.specs.BadOperands.{first_bad}
-use Rattle.file_layout.specs.Laid.{laid, laid_length}
-use Rattle.assembly_writer.specs.Written.{PassesLimit, users_length, most_users, most_bytes}
+use Rattle.file_layout.specs.Laid.{laid}
+use Rattle.assembly_writer.specs.Written.{PassesLimit, users_length, most_users}
+use Rattle.assembly_writer.specs.Written as written
 use Rattle.trim_laws.specs.Headline.{Headline}
 use Rattle.restriction.specs.Restricted.{restricted}
 use Rattle.trim_core.specs.declared.answers.Refusal.{Refusal}
 use Rattle.trim_core.specs.declared.answers.Refusal.TheVariants.{Limit, Unresolved, NoMemory}
 use Rattle.trim_core.specs.declared.answers.Trimmed.{Trimmed}
 use Rattle.trim_core.specs.Exec.{place_in}
-use Rattle.trim_core.specs.Told.{RefusedBy}
+use Rattle.trim_core.specs.Told.{most_bytes, told_alone, RefusedBy}
 
 -- The flags mark exactly the methods that the entry point leads to, and no operand of theirs names nothing. The bytes are
--- those that what is left is laid out in, and pass no limit: they load as what is left, which prints, ends, stops or goes on
--- as the whole for every number of steps.
+-- those that what is left is laid out in, and pass no limit: they load as what is left, whose methods are exactly the marked ones,
+-- and which prints, ends, stops or goes on as the whole for every number of steps. Where they aren't more than a file that is read
+-- may have, a run or a trim of them is told what is left.
 pub record TrimmedTo (rec : AsmRec) (t : Trimmed) : Type 0 where
   pub flags : List Bool
   pub marking : IsMarking rec flags
   pub good : first_bad rec flags ≡ None
   pub bytes : t.bytes ≡ laid (restricted rec flags)
   pub users : users_length (restricted rec flags) ≤ most_users
-  pub short : laid_length (restricted rec flags) ≤ most_bytes
+  pub short : length t.bytes ≤ written.most_bytes
   pub headline : Headline rec flags
+  pub told : length t.bytes ≤ most_bytes → told_alone t.bytes ≡ Ok (restricted rec flags)
 
 -- the first operand of a marked method that names nothing
 pub record IsUnresolved (rec : AsmRec) (place : Place) : Type 0 where
@@ -35,7 +38,7 @@ pub record IsUnresolved (rec : AsmRec) (place : Place) : Type 0 where
   pub first : first_bad rec flags ≡ Some operand
   pub stands : place ≡ place_in operand.method operand.offset
 
--- what is left would take more bytes than a file, or its `#US`, may have
+-- the file that what is left is laid out in, or its `#US`, has more bytes than it may have, and so many
 pub record IsTooLong (rec : AsmRec) (found : ℕ) : Type 0 where
   pub flags : List Bool
   pub marking : IsMarking rec flags

@@ -5,7 +5,8 @@ ghost use Rattle.thin_values.specs.World.{queries_of};
 ghost use Rattle.thin_values.specs.Step.{step};
 ghost use Rattle.thin_values.specs.Run.{run, stuck_at_once};
 ghost use Rattle.thin_machine.specs.Memo.{IsMemo, MemoAfter};
-ghost use Rattle.trim_core.specs.Exec.{RunsTo, LoopsTo, TurnsTo, end_of, place_in, run_of};
+ghost use Rattle.thin_values.specs.Program.{run_of};
+ghost use Rattle.trim_core.specs.Exec.{RunsTo, LoopsTo, TurnsTo, end_of, place_in};
 
 use crate::answers::{EndKind, ExecFault, Refusal};
 use il_base::{MethodId, Place};
@@ -101,7 +102,7 @@ fn stuck_at_once(entry: u32, n: u64) -> EndKind
 }
 
 /// `n` steps of a record's program from its entry. Printed bytes go to `out` after the step that printed them.
-#[tactic(auto, unfolding(crate::specs::Exec::run_of))]
+#[tactic(auto, unfolding(thin_values::specs::Program::run_of))]
 pub(crate) fn run_record<O: Sink>(
     alloc: Global,
     rec: &AsmRec,

@@ -2,13 +2,13 @@ use Rattle.std.proofs.Common.{◌≡◌, ℕ, List, [], ◌∷◌, get_or, refl,
 use Rattle.trim_core.specs.Told.{told_alone, told_of}
 use Rattle.trim_core.specs.Exec.{ExecsTo}
 use Rattle.trim_cli.specs.Answer.{RunReported}
-use Rattle.trim_cli.proofs.AnswerLemmas.{grew_by_nothing, starved, file_caused}
+use Rattle.trim_cli.proofs.AnswerLemmas.{untouched, starved, file_caused}
 use Rattle.trim_cli.proofs.execute.run_file.Goals as goal
 
 pub returns-in-Err : goal.returns-in-Err
 returns-in-Err g c =
     let out = g.O.Sink.state c.args.out.now in
-    starved c.args.file c.args.steps c.args.word.now out out (g.E.Sink.state c.args.err.now) (g.E.Sink.state c.report.new.err) c.report.result (inl (grew_by_nothing out.held)) c.report.ensures
+    starved c.args.file c.args.steps c.args.word.now out out (g.E.Sink.state c.args.err.now) (g.E.Sink.state c.report.new.err) c.report.result (inl (untouched out).0) refl c.report.ensures
 
 pub returns : goal.returns
 returns g c =
