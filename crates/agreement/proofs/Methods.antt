@@ -1,5 +1,6 @@
 -- Instructions and methods in what is left.
-use Rattle.std.proofs.Common.{◌≡◌, ◌<◌, ◌≤◌, ◌^◌, ℕ, List, [], ◌∷◌, length, map, nat_lt, Bool, true, false, Option, Some, None, inl, inr, refl, ap, ap₂, sym, ◌∙◌, lt-ltb}
+use Rattle.std.proofs.Common.{◌≡◌, ◌<◌, ◌≤◌, ◌^◌, ℕ, List, [], ◌∷◌, length, map, nat_lt, Bool, true, false, Option, Some, None, inl, inr, refl, ap, ap₂, sym, ◌∙◌, lt-ltb, length-append}
+use Rattle.std.specs.Prelude.{◌+◌, ◌%◌}
 use Rattle.std.specs.Option.{option_map}
 use Rattle.il_base.specs.declared.sig.MethodSig.{MethodSig}
 use Rattle.il_base.specs.declared.body.Body.{Body}
@@ -8,6 +9,10 @@ use Rattle.il_base.specs.declared.body.Form.TheVariants as form
 use Rattle.il_base.specs.declared.body.Instr.{Instr}
 use Rattle.il_base.specs.declared.body.Operand.{Operand}
 use Rattle.il_base.specs.declared.body.Operand.TheVariants as operand
+use Rattle.body_grammar.specs.declared.body.Inline.{Inline}
+use Rattle.body_grammar.specs.declared.body.Inline.TheVariants.{InlineNone, FixedSlot, FixedNumber, ShortInlineVar, InlineVar, ShortInlineI, InlineI, InlineI8, InlineTok, ShortInlineBrTarget, InlineBrTarget, InlineSwitch}
+use Rattle.body_grammar.specs.Opcodes.{kind_of}
+use Rattle.body_grammar.specs.BodySpelling.{operand_bytes, inline_in, opcode_size, opcode_bytes, instr_bytes}
 use Rattle.world_model.specs.declared.known.Known.{Known}
 use Rattle.world_model.specs.declared.known.Known.TheVariants.{Good, Bad}
 use Rattle.world_model.specs.declared.record.AsmRec.{AsmRec}
@@ -103,10 +108,40 @@ module _ (left rec : AsmRec) (flags : List Bool) (l : Left left rec flags) (n : 
   use_moves form.LdStr o c t = ldstr_use o (λ token e. t token refl e)
   use_moves f o c t = plain_use f o (λ token. refl)
 
+  -- an instruction that is moved takes as many bytes
+  token_length : (kind : Inline) (next t u : ℕ) → length (operand_bytes kind next (operand.Token t)) ≡ length (operand_bytes kind next (operand.Token u))
+  unfolding operand_bytes
+  token_length InlineNone next t u = refl
+  token_length (FixedSlot n) next t u = refl
+  token_length (FixedNumber n) next t u = refl
+  token_length ShortInlineVar next t u = refl
+  token_length InlineVar next t u = refl
+  token_length ShortInlineI next t u = refl
+  token_length InlineI next t u = refl
+  token_length InlineI8 next t u = refl
+  token_length InlineTok next t u = refl
+  token_length ShortInlineBrTarget next t u = refl
+  token_length InlineBrTarget next t u = refl
+  token_length InlineSwitch next t u = refl
+
+  operand_moves : (kind : Inline) (next : ℕ) (f : Form) (o : Operand) → length (operand_bytes kind next (moved_operand rec flags f o)) ≡ length (operand_bytes kind next o)
+  operand_moves kind next form.Call (operand.Token t) = token_length kind next _ t
+  operand_moves kind next form.LdStr (operand.Token t) = token_length kind next _ t
+  operand_moves kind next _ o = refl
+
+  length_moves : (i : Instr) → length (instr_bytes (moved_instr rec flags i)) ≡ length (instr_bytes i)
+  unfolding instr_bytes moved_instr
+  length_moves i =
+      let kind : Inline = inline_in (kind_of i.opcode) in
+      let next : ℕ = i.at + opcode_size i.opcode in
+      length-append (opcode_bytes i.opcode) (operand_bytes kind next (moved_operand rec flags i.form i.operand))
+      ∙ ap (λ (n : ℕ). length (opcode_bytes i.opcode) + n) (operand_moves kind next i.form i.operand)
+      ∙ sym (length-append (opcode_bytes i.opcode) (operand_bytes kind next i.operand))
+
   pub instr_moves : (i : Instr) → GoodInstr rec flags i → instruction_of left (moved_instr rec flags i) ≡ move_instruction rho (instruction_of rec i)
   unfolding instruction_of moved_instr
-  instr_moves i g = ap (λ (u : Use). record (instruction_of rec i) { operand = u })
-      (use_moves i.form i.operand (λ token e f. call_moves i token g e f) (λ token e f. ldstr_moves i token g e f))
+  instr_moves i g = ap₂ (λ (u : Use) (n : ℕ). record (instruction_of rec i) { operand = u; next = (i.at + n) % 4294967296 })
+      (use_moves i.form i.operand (λ token e f. call_moves i token g e f) (λ token e f. ldstr_moves i token g e f)) (length_moves i)
 
   pub code_moves : (is : List Instr) → ((i : Instr) → In i is → GoodInstr rec flags i)
       → map (instruction_of left) (map (moved_instr rec flags) is) ≡ map (move_instruction rho) (map (instruction_of rec) is)

@@ -10,3 +10,4 @@ pub mod Order
 pub mod Pairs
 pub mod Clauses
 pub mod Misfits
+pub mod InstrSizes

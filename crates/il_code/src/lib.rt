@@ -12,6 +12,7 @@ mod opcodes;
 mod reading;
 mod rules;
 mod section;
+mod sizes;
 mod tops;
 mod writing;
 
@@ -19,6 +20,7 @@ pub use error::{BodyError, ReadBody};
 pub use header::read_header;
 pub use opcodes::kind;
 pub use reading::read_body;
+pub use sizes::instr_size;
 pub use writing::write_body;
 
 #[cfg(test)]

@@ -5,7 +5,7 @@ ghost use Rattle.il_base.specs.declared.body.Form.TheVariants as form;
 ghost use Rattle.thin_values.specs.World.{queries_of, instruction_of, method_with, use_of};
 ghost use Rattle.thin_values.specs.Step.{step, execute, call_use};
 ghost use Rattle.thin_values.specs.Call.{call};
-ghost use Rattle.world_model.specs.Opcodes.{instruction_len};
+ghost use Rattle.body_grammar.specs.BodySpelling.{instr_bytes};
 ghost use Rattle.thin_machine.specs.Took.{next_of};
 ghost use Rattle.thin_machine.specs.Memo.{IsMemo, MemoAfter};
 ghost use Rattle.thin_machine.specs.Code.{parts_of, place_of};
@@ -23,9 +23,10 @@ use crate::program::{Program, parts_of};
 use crate::step_out::StepOut;
 use crate::text::load_str;
 use il_base::{Body, Form, Instr, MethodId, MethodSig, NoMemory, Operand};
+use il_code::instr_size;
 use std::alloc::Global;
 use thin_values::State;
-use world_model::{AsmRec, instruction_len};
+use world_model::AsmRec;
 
 /// A call of a method of the program, by its row from 0.
 #[tactic(auto, using(crate::proofs::WorldLemmas::call_own))]
@@ -72,11 +73,10 @@ fn call(
 }
 
 /// The IL offset behind an instruction, modulo 2^32.
-#[tactic(auto, unfolding(world_model::specs::Opcodes::instruction_len))]
 fn next_at(i: &Instr) -> u32
-    ensures { result ≡ (i.now.at + instruction_len i.now.opcode) % 4294967296 }
+    ensures { result ≡ (i.now.at + length (instr_bytes i.now)) % 4294967296 }
 {
-    i.at.wrapping_add(instruction_len(i.opcode))
+    ((u64::from(i.at) + instr_size(i)) % 0x1_0000_0000) as u32
 }
 
 /// One instruction that isn't an `ldstr`, of the method of this signature and body; `next` is the offset behind it.

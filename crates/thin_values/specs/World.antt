@@ -23,7 +23,7 @@ use Rattle.world_model.specs.declared.members.StandAloneSigRow.{StandAloneSigRow
 use Rattle.world_model.specs.declared.record.UserText.{UserText}
 use Rattle.world_model.specs.declared.record.AsmRec.{AsmRec}
 use Rattle.world_model.specs.Tokens.{table_of, index_in}
-use Rattle.world_model.specs.Opcodes.{instruction_len}
+use Rattle.body_grammar.specs.BodySpelling.{instr_bytes}
 use Rattle.world_model.specs.Core.{core_member}
 use Rattle.thin_values.specs.Queries.{Queries, Method, Instruction, Use, nothing, number, slot, target, callee, text}
 
@@ -95,7 +95,7 @@ use_of rec f (operand.Targets to) = nothing
 
 -- IL offsets have 32 bits and wrap, as those of branches do
 unfoldable pub instruction_of : AsmRec → Instr → Instruction
-instruction_of rec i = record { at = i.at; next = (i.at + instruction_len i.opcode) % 4294967296; form = i.form; opcode = i.opcode; operand = use_of rec i.form i.operand }
+instruction_of rec i = record { at = i.at; next = (i.at + length (instr_bytes i)) % 4294967296; form = i.form; opcode = i.opcode; operand = use_of rec i.form i.operand }
 
 -- ---- methods
 

@@ -1,5 +1,5 @@
 -- The opcodes of the twelve thin forms (III.3, III.4): the form, and what stands behind the opcode.
-use Rattle.std.specs.Prelude.{ℕ, ◌+◌, ◌-◌, ℤ, pos, negsuc, Option, Some, None, nat_lt, nat_le, ◌==◌, ◌&&◌, Bool, if◌then◌else◌}
+use Rattle.std.specs.Prelude.{ℕ, ◌-◌, ℤ, pos, negsuc, Option, Some, None, nat_le, ◌==◌, ◌&&◌, Bool, if◌then◌else◌}
 use Rattle.il_base.specs.declared.body.Form.{Form}
 use Rattle.il_base.specs.declared.body.Form.TheVariants as form
 
@@ -21,18 +21,6 @@ pub data Inline : Type 0 where
   branch_32 : Inline
   -- a token in four bytes
   token_32 : Inline
-
-abbrev pub inline_len : Inline → ℕ
-inline_len no_operand = 0
-inline_len (this_slot k) = 0
-inline_len (this_number n) = 0
-inline_len slot_8 = 1
-inline_len slot_16 = 2
-inline_len int_8 = 1
-inline_len int_32 = 4
-inline_len branch_8 = 1
-inline_len branch_32 = 4
-inline_len token_32 = 4
 
 abbrev pub is_in : ℕ → ℕ → ℕ → Bool
 is_in low high n = nat_le low n && nat_le n high
@@ -65,14 +53,3 @@ thin_opcode op =
     else if op == 0xfe0c then Some (form.LdLoc, slot_16)
     else if op == 0xfe0e then Some (form.StLoc, slot_16)
     else None
-
-abbrev pub opcode_len : ℕ → ℕ
-opcode_len op = if nat_lt op 256 then 1 else 2
-
-abbrev pub len_with : ℕ → Option (Form × Inline) → ℕ
-len_with op None = opcode_len op
-len_with op (Some shape) = opcode_len op + inline_len shape.1
-
--- how many bytes an instruction takes
-unfoldable pub instruction_len : ℕ → ℕ
-instruction_len op = len_with op (thin_opcode op)

@@ -13,7 +13,6 @@ mod laws;
 mod links;
 mod lookup;
 mod members;
-mod opcodes;
 mod prims;
 mod record;
 mod sig_exprs;
@@ -45,7 +44,6 @@ pub use members::{
     EventMapRow, EventRow, FieldRow, MemberRefRow, MethodDefRow, MethodImplRow, MethodSemanticsRow,
     MethodSpecRow, ParamRow, PropertyMapRow, PropertyRow, StandAloneSigRow,
 };
-pub use opcodes::instruction_len;
 pub use prims::{prim_of, prim_type, type_id};
 pub use record::{AsmRec, UserText};
 pub use sig_exprs::expr_by;
