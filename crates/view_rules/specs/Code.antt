@@ -1,5 +1,5 @@
 -- A method's body with its references resolved (II.25.4, III.1.2).
-use Rattle.std.specs.Prelude.{ℕ, ◌+◌, ◌*◌, List, [], length, map, Option, Some, None, slice_get, find, nat_lt, ◌==◌, Bool, if◌then◌else◌}
+use Rattle.std.specs.Prelude.{ℕ, ◌+◌, List, [], length, map, Option, Some, None, slice_get, find, ◌==◌, Bool, if◌then◌else◌}
 use Rattle.std.specs.Option.{option_and_then}
 use Rattle.il_base.specs.declared.body.Form.{Form}
 use Rattle.il_base.specs.declared.body.Form.TheVariants as form
@@ -18,9 +18,7 @@ use Rattle.world_model.specs.declared.record.UserText.{UserText}
 use Rattle.world_model.specs.declared.record.AsmRec.{AsmRec}
 use Rattle.world_model.specs.Tokens.{index_in}
 use Rattle.world_model.specs.Worlds.{known_then}
-use Rattle.body_grammar.specs.declared.body.Inline.{Inline}
-use Rattle.body_grammar.specs.declared.body.Inline.TheVariants.{InlineNone, FixedSlot, FixedNumber, ShortInlineVar, InlineVar, ShortInlineI, InlineI, InlineI8, InlineTok, ShortInlineBrTarget, InlineBrTarget, InlineSwitch}
-use Rattle.body_grammar.specs.Opcodes.{kind_of}
+use Rattle.body_grammar.specs.BodySpelling.{instr_bytes}
 use Rattle.link_rules.specs.Signatures.{names_at, token_type}
 use Rattle.link_rules.specs.Members.{arguments_of}
 use Rattle.mark_rules.specs.Naming.{method_named, field_named}
@@ -28,36 +26,6 @@ use Rattle.mark_rules.specs.Bodies.{is_field_token, is_method_token}
 use Rattle.step_rules.specs.Queries.{Use, Instruction, Kind, Clause, Code}
 use Rattle.step_rules.specs.Queries.{Use as use_of}
 use Rattle.step_rules.specs.Queries.Kind.{catches, finally, fault}
-
--- ---- lengths in bytes (III.1.2)
-
-abbrev pub opcode_size : ℕ → ℕ
-opcode_size opcode = if nat_lt opcode 256 then 1 else 2
-
-abbrev pub switch_size : Operand → ℕ
-switch_size (operand.Targets ts) = 4 + 4 * length ts
-switch_size _ = 4
-
-abbrev pub inline_size : Operand → Inline → ℕ
-inline_size o InlineNone = 0
-inline_size o (FixedSlot n) = 0
-inline_size o (FixedNumber n) = 0
-inline_size o ShortInlineVar = 1
-inline_size o InlineVar = 2
-inline_size o ShortInlineI = 1
-inline_size o InlineI = 4
-inline_size o InlineI8 = 8
-inline_size o InlineTok = 4
-inline_size o ShortInlineBrTarget = 1
-inline_size o InlineBrTarget = 4
-inline_size o InlineSwitch = switch_size o
-
-abbrev pub size_by : ℕ → Operand → Option (Form × Inline) → ℕ
-size_by opcode o None = opcode_size opcode
-size_by opcode o (Some kind) = opcode_size opcode + inline_size o kind.1
-
-unfoldable pub instruction_size : Instr → ℕ
-instruction_size i = size_by i.opcode i.operand (kind_of i.opcode)
 
 -- ---- operands
 
@@ -95,7 +63,7 @@ use_by recs a rec f (operand.Target at) = use_of.target at
 use_by recs a rec f (operand.Targets ts) = use_of.targets ts
 
 unfoldable pub instruction_of : List AsmRec → ℕ → AsmRec → Instr → Instruction
-instruction_of recs a rec i = record { at = i.at; next = i.at + instruction_size i; form = i.form; opcode = i.opcode; operand = use_by recs a rec i.form i.operand }
+instruction_of recs a rec i = record { at = i.at; next = i.at + length (instr_bytes i); form = i.form; opcode = i.opcode; operand = use_by recs a rec i.form i.operand }
 
 -- ---- clauses (II.25.4.6)
 
