@@ -1,5 +1,5 @@
 -- Vectors (I.8.9.1, III.4.7 to III.4.9, III.4.12, III.4.20, III.4.26, III.4.27).
-use Rattle.std.specs.Prelude.{ℕ, ℤ, pos, negsuc, List, [], ◌∷◌, length, nat_le, replicate, ◌==◌, Bool, true, false, ◌&&◌, ◌||◌, Option, Some, None, slice_get, slice_set, if◌then◌else◌}
+use Rattle.std.specs.Prelude.{ℕ, ℤ, pos, negsuc, List, [], ◌∷◌, length, nat_le, replicate, ◌==◌, Bool, true, false, not, ◌||◌, Option, Some, None, slice_get, slice_set, if◌then◌else◌}
 use Rattle.std.specs.Option.{option_and_then}
 use Rattle.il_base.specs.declared.opcode.TheConstants as opcode
 use Rattle.il_base.specs.declared.element.TheConstants as element
@@ -12,11 +12,11 @@ use Rattle.cil_values.specs.declared.object.Obj.{Obj}
 use Rattle.cil_values.specs.declared.object.Obj.TheVariants as object
 use Rattle.cil_values.specs.declared.path.Path.{Path}
 use Rattle.cil_values.specs.declared.path.Root.TheVariants as root
-use Rattle.step_rules.specs.Queries.{Queries, Instruction, Use, typ}
+use Rattle.step_rules.specs.Queries.{Queries, Instruction, typ}
 use Rattle.step_rules.specs.State.{State, Next, Prefix, readonly}
 use Rattle.step_rules.specs.Words.{Form, Here, stuck, given, had, required, within, popped, goes, made, object_at}
 use Rattle.step_rules.specs.Closing.{closed_element, plain}
-use Rattle.step_rules.specs.Stores.{Access, by_code, by_reference, by_type, element_access, allows, loaded, stored, zero_of}
+use Rattle.step_rules.specs.Stores.{Access, by_code, by_reference, element_access, allows, loaded, stored, zero_of}
 use Rattle.step_rules.specs.Objects.{is_a}
 use Rattle.step_rules.specs.Places.{with_object}
 use Rattle.step_rules.specs.Raising.{raise}
@@ -98,7 +98,7 @@ put_element here i s stack v n w =
 
 -- an object that isn't of the element's type
 abbrev pub mismatches : Queries → State → Vector → Value → Bool
-mismatches q s v (value.Object a) = elim (is_a q (element_type v) (object_at s a)) [ true ↦ false | false ↦ true ]
+mismatches q s v (value.Object a) = not (is_a q (element_type v) (object_at s a))
 mismatches q s v _ = false
 
 -- what is stored comes last

@@ -1,11 +1,9 @@
 -- Calls and new objects (III.2.1, III.3.19, III.4.2, III.4.21).
-use Rattle.std.specs.Prelude.{ℕ, ◌+◌, ℤ, pos, List, [], ◌∷◌, length, map, ◌==◌, Bool, true, false, not, ◌&&◌, ◌||◌, Option, Some, None, if◌then◌else◌}
+use Rattle.std.specs.Prelude.{ℕ, List, [], ◌∷◌, length, ◌==◌, Bool, false, not, ◌&&◌, ◌||◌, Option, Some, None, if◌then◌else◌}
 use Rattle.std.specs.Option.{option_map, option_and_then}
-use Rattle.std.specs.List.{list_any}
 use Rattle.il_base.specs.declared.opcode.TheConstants.{CALL, CONSTRAINED, READONLY}
 use Rattle.il_base.specs.declared.type_flags.TheConstants as type_flags
 use Rattle.world_model.specs.declared.expr.TypeExpr.{TypeExpr}
-use Rattle.world_model.specs.declared.expr.MethodUse.{MethodUse}
 use Rattle.world_model.specs.Exprs.{same_expr}
 use Rattle.core_table.specs.declared.names.CoreName.TheVariants.{NullReferenceException}
 use Rattle.cil_values.specs.declared.value.Value.{Value}
@@ -13,21 +11,20 @@ use Rattle.cil_values.specs.declared.value.Value.TheVariants as value
 use Rattle.cil_values.specs.declared.object.Obj.{Obj}
 use Rattle.cil_values.specs.declared.object.Obj.TheVariants as object
 use Rattle.cil_values.specs.declared.path.Path.{Path}
-use Rattle.cil_values.specs.declared.end.End.TheVariants.{Ended}
-use Rattle.step_rules.specs.Queries.{Queries, Code, Clause, Instruction, Signature, Use, typ, method}
+use Rattle.step_rules.specs.Queries.{Queries, Instruction, Signature, typ, method}
 use Rattle.step_rules.specs.State.{State, Frame, Next, went, over, Prefix, Waits, Init}
 use Rattle.step_rules.specs.State as state
 use Rattle.step_rules.specs.Members.{CoreCall}
-use Rattle.step_rules.specs.Words.{Form, Here, here_of, instruction_at, stuck, given, had, required, popped, taken, moved, may_go, goes_with, good, in_try, in_handler, made, object_at}
-use Rattle.step_rules.specs.Closing.{Callee, callee_of, closed, closed_use, closed_return, is_void}
-use Rattle.step_rules.specs.Stores.{fits, all_fit, is_value, is_reference, zero_of, zeros_of}
+use Rattle.step_rules.specs.Words.{Form, Here, stuck, given, had, required, taken, moved, may_go, goes_with, made, object_at}
+use Rattle.step_rules.specs.Closing.{Callee, closed, closed_use}
+use Rattle.step_rules.specs.Stores.{all_fit, is_value, zero_of, zeros_of}
 use Rattle.step_rules.specs.Places.{at_place, alive, boxed_in}
 use Rattle.step_rules.specs.Objects.{type_of}
-use Rattle.step_rules.specs.Raising.{raise, set_init}
+use Rattle.step_rules.specs.Raising.{raise}
 use Rattle.step_rules.specs.Frames.{enter, started, head_of, head_has}
 use Rattle.step_rules.specs.Dispatch.{is_abstract, is_virtual, slots_of, dispatched, path_into_box, this_for}
 use Rattle.step_rules.specs.CoreWords.{Gives}
-use Rattle.step_rules.specs.Core.{core_call, with_option}
+use Rattle.step_rules.specs.Core.{core_call}
 
 -- ---- what is called runs
 
@@ -165,7 +162,7 @@ constructs q here i c vs a s = invoke q c (value.Object a ∷ vs) (state.makes a
 abbrev pub constructs_value : Queries → Here → Instruction → Callee → List Value → ℕ → State → Next
 constructs_value q here i c vs a s =
     invoke q c (value.Pointer (path_into_box a c.called.owner) ∷ vs) (state.makes_value a) s
-      (λ t result bytes. given (option_and_then boxed_in (object_at t a)) t (λ v. gives_made here i v t result bytes))
+    (λ t result bytes. given (option_and_then boxed_in (object_at t a)) t (λ v. gives_made here i v t result bytes))
 
 abbrev pub new_instance : Queries → TypeExpr → Obj
 new_instance q e = object.Instance e (zeros_of (q.cells e))

@@ -1,9 +1,8 @@
 -- Comparisons (III.1.5 table III.4, III.3.21 to III.3.26), for the instructions that give 0 or 1 and for the branches.
-use Rattle.std.specs.Prelude.{ℕ, nat_eq, nat_lt, List, ℤ, int_lt, int_le, Bool, true, false, not, ◌&&◌, ◌||◌, Option, Some, None, ◌==◌}
+use Rattle.std.specs.Prelude.{nat_eq, nat_lt, ℤ, int_lt, Bool, true, false, not, ◌&&◌, Option, Some, None}
 use Rattle.std.specs.Ordering.{int_eq}
 use Rattle.std.specs.Cmp.Lexicographic.{pointwise}
 use Rattle.std.specs.Int.{Width, w32, w64, cast_unsigned}
-use Rattle.std.specs.Option.{option_map}
 use Rattle.world_model.specs.Exprs.{same_expr}
 use Rattle.cil_values.specs.declared.value.Value.{Value}
 use Rattle.cil_values.specs.declared.value.Value.TheVariants as value

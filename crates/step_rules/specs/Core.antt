@@ -1,5 +1,5 @@
 -- Calls of members of the core library: each is whole in its step, but for one that calls a method of the program.
-use Rattle.std.specs.Prelude.{ℕ, pos, List, [], ◌∷◌, nat_eq, Bool, true, false, Option, Some, None}
+use Rattle.std.specs.Prelude.{ℕ, List, [], ◌∷◌, Bool, true, false, Option, Some, None}
 use Rattle.il_base.specs.declared.element.TheConstants.{BOOLEAN, OBJECT}
 use Rattle.world_model.specs.declared.expr.TypeExpr as expr
 use Rattle.world_model.specs.declared.expr.MethodUse.{MethodUse}
@@ -17,7 +17,7 @@ use Rattle.step_rules.specs.Stores.{all_fit}
 use Rattle.step_rules.specs.Objects.{type_of}
 use Rattle.step_rules.specs.Frames.{enter}
 use Rattle.step_rules.specs.Dispatch.{dispatched, this_for}
-use Rattle.step_rules.specs.CoreWords.{Gives, CoreForm, checked, gives_nothing, gives_value, gives_truth}
+use Rattle.step_rules.specs.CoreWords.{Gives, CoreForm, checked, gives_value, gives_truth}
 use Rattle.step_rules.specs.CoreObjects.{halt, idle_form, type_name_form, same_form, number_text_form, number_is_form, int_equals_form, int_compare_form, exception_text_form, exception_inner_form, exception_parameter_form, get_message_form, get_inner_form, is_same}
 use Rattle.step_rules.specs.CoreTexts.{string_length_form, string_unit_form, string_index_form, string_concat_form, string_from_form, string_part_form, string_itself_form, string_same_form, string_other_form, string_is_form, string_is_empty_form, string_compare_form, int_parse_form}
 use Rattle.step_rules.specs.CoreConsole.{print_form, line_end_form, read_unit_form, read_line_form}

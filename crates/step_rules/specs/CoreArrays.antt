@@ -1,15 +1,14 @@
 -- Members of Array, and RuntimeHelpers.InitializeArray.
-use Rattle.std.specs.Prelude.{ℕ, zero, suc, ◌+◌, ◌*◌, nat_le, pos, List, [], ◌∷◌, length, drop, Option, Some, None, if◌then◌else◌}
+use Rattle.std.specs.Prelude.{ℕ, zero, suc, ◌*◌, nat_le, pos, List, [], ◌∷◌, length, drop, Some, if◌then◌else◌}
 use Rattle.byteorder.specs.Endian.{little_number}
 use Rattle.world_model.specs.declared.expr.TypeExpr.{TypeExpr}
-use Rattle.world_model.specs.declared.known.Known.{Known}
 use Rattle.world_model.specs.declared.known.Known.TheVariants.{Good, Bad}
 use Rattle.core_table.specs.declared.names.CoreName.TheVariants.{ArgumentException, NullReferenceException}
 use Rattle.cil_values.specs.declared.value.Value.{Value}
 use Rattle.cil_values.specs.declared.value.Value.TheVariants as value
 use Rattle.cil_values.specs.declared.object.Obj.{Obj}
 use Rattle.cil_values.specs.declared.object.Obj.TheVariants as object
-use Rattle.step_rules.specs.Queries.{Queries, First, blank, bytes, empty_text, Shape, integer}
+use Rattle.step_rules.specs.Queries.{Queries, First, bytes, Shape, integer}
 use Rattle.step_rules.specs.State.{State, Next}
 use Rattle.step_rules.specs.Words.{stuck, stopped, given, had, object_at}
 use Rattle.step_rules.specs.Integers.{width_of, number}

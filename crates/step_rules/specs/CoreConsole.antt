@@ -1,12 +1,10 @@
 -- Members of Console. Each step's text is printed by itself, as UTF-8 with LF ends of lines.
-use Rattle.std.specs.Prelude.{ℕ, ◌==◌, ℤ, pos, negsuc, List, [], ◌∷◌, ◌++◌, codes, reverse, Bool, true, false, Option, Some, None, if◌then◌else◌}
+use Rattle.std.specs.Prelude.{ℕ, ◌==◌, ℤ, pos, negsuc, List, [], ◌∷◌, ◌++◌, reverse, Bool, true, false, Option, Some, None, if◌then◌else◌}
 use Rattle.std.specs.Fmt.{signed_decimal}
 use Rattle.std.specs.Int.{w32, cast_unsigned}
-use Rattle.std.specs.List.{list_any}
 use Rattle.std.specs.Option.{option_map}
 use Rattle.cil_values.specs.declared.value.Value.{Value}
 use Rattle.cil_values.specs.declared.value.Value.TheVariants as value
-use Rattle.step_rules.specs.Queries.{Queries}
 use Rattle.step_rules.specs.State.{State, Next}
 use Rattle.step_rules.specs.Members.{Printed, of_string, of_number, of_bool, of_char, of_object}
 use Rattle.step_rules.specs.Words.{stuck, given}

@@ -1,5 +1,5 @@
 -- Members of String, and Int32.Parse. Places and lengths count UTF-16 units.
-use Rattle.std.specs.Prelude.{ℕ, suc, ◌+◌, ◌-◌, ◌*◌, ◌==◌, nat_eq, nat_le, nat_lt, ℤ, pos, negsuc, neg_ℤ, List, [], ◌∷◌, ◌++◌, length, take, drop, slice_get, Bool, true, false, not, ◌&&◌, ◌||◌, Option, Some, None, if◌then◌else◌}
+use Rattle.std.specs.Prelude.{ℕ, ◌+◌, ◌-◌, ◌*◌, ◌==◌, nat_eq, nat_le, nat_lt, ℤ, pos, negsuc, neg_ℤ, List, [], ◌∷◌, ◌++◌, length, take, drop, slice_get, Bool, true, false, not, ◌&&◌, Option, Some, None, if◌then◌else◌}
 use Rattle.std.specs.Cmp.Lexicographic.{pointwise}
 use Rattle.std.specs.Option.{option_map, option_and_then}
 use Rattle.std.specs.List.{position}
@@ -9,9 +9,9 @@ use Rattle.cil_values.specs.declared.value.Value.{Value}
 use Rattle.cil_values.specs.declared.value.Value.TheVariants as value
 use Rattle.step_rules.specs.Queries.{Queries}
 use Rattle.step_rules.specs.State.{State, Next}
-use Rattle.step_rules.specs.Words.{stuck, given, object_at}
+use Rattle.step_rules.specs.Words.{stuck, given}
 use Rattle.step_rules.specs.Integers.{fits_signed}
-use Rattle.step_rules.specs.Objects.{units_in, units_of}
+use Rattle.step_rules.specs.Objects.{units_of}
 use Rattle.step_rules.specs.Raising.{raise}
 use Rattle.step_rules.specs.CoreWords.{Gives, CoreForm, gives_value, gives_truth, gives_int, gives_text}
 

@@ -1,7 +1,7 @@
 -- The words in which the members of the core library are written. A member takes its arguments, `this` first: a number's
 -- `this` as the number, each other as the object. It goes on with the state, what it gives, and what it prints.
-use Rattle.std.specs.Prelude.{ℕ, ℤ, pos, List, [], ◌∷◌, Bool, true, false, Option, Some, None, if◌then◌else◌}
-use Rattle.std.specs.Option.{option_map, option_and_then}
+use Rattle.std.specs.Prelude.{ℕ, ℤ, List, [], ◌∷◌, Bool, Option, Some, None, if◌then◌else◌}
+use Rattle.std.specs.Option.{option_and_then}
 use Rattle.world_model.specs.declared.expr.TypeExpr.{TypeExpr}
 use Rattle.world_model.specs.Exprs.{same_expr}
 use Rattle.core_table.specs.declared.names.CoreName.TheVariants.{NullReferenceException}

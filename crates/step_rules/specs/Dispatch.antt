@@ -1,6 +1,6 @@
 -- Which method a virtual call runs, and what it takes as `this` (I.12.4.1.4, III.4.2).
-use Rattle.std.specs.Prelude.{ℕ, ◌+◌, List, [], ◌∷◌, length, nat_eq, Bool, true, false, not, ◌&&◌, Option, Some, None, if◌then◌else◌}
-use Rattle.std.specs.Option.{option_map, option_and_then}
+use Rattle.std.specs.Prelude.{ℕ, ◌+◌, [], length, nat_eq, Bool, not, ◌&&◌, Option, Some, None, if◌then◌else◌}
+use Rattle.std.specs.Option.{option_map}
 use Rattle.std.specs.Bool.{beq}
 use Rattle.il_base.specs.declared.method_flags.TheConstants.{ABSTRACT, VIRTUAL}
 use Rattle.world_model.specs.declared.expr.TypeExpr.{TypeExpr}

@@ -1,11 +1,10 @@
 -- Fields (III.4.10, III.4.11, III.4.14, III.4.15, III.4.28, III.4.30).
-use Rattle.std.specs.Prelude.{ℕ, pos, List, [], ◌∷◌, ◌++◌, length, nat_le, ◌==◌, Bool, true, false, not, ◌&&◌, ◌||◌, Option, Some, None, slice_get, find, if◌then◌else◌}
+use Rattle.std.specs.Prelude.{ℕ, pos, List, [], ◌∷◌, ◌++◌, length, nat_le, ◌==◌, Bool, true, not, ◌&&◌, ◌||◌, Option, Some, None, slice_get, find, if◌then◌else◌}
 use Rattle.std.specs.Option.{option_map, option_and_then}
 use Rattle.byteorder.specs.Endian.{little_number}
 use Rattle.il_base.specs.declared.opcode.TheConstants.{LDFLD, LDFLDA, STFLD, LDSFLD, LDSFLDA, STSFLD}
 use Rattle.il_base.specs.declared.field_flags.TheConstants.{LITERAL, STATIC}
 use Rattle.world_model.specs.declared.expr.TypeExpr.{TypeExpr}
-use Rattle.world_model.specs.declared.known.Known.{Known}
 use Rattle.world_model.specs.declared.known.Known.TheVariants.{Good, Bad}
 use Rattle.world_model.specs.Exprs.{same_expr}
 use Rattle.core_table.specs.declared.names.CoreName.TheVariants.{NullReferenceException}
@@ -14,12 +13,11 @@ use Rattle.cil_values.specs.declared.value.Value.TheVariants as value
 use Rattle.cil_values.specs.declared.object.Obj.{Obj}
 use Rattle.cil_values.specs.declared.object.Obj.TheVariants as object
 use Rattle.cil_values.specs.declared.path.Path.{Path}
-use Rattle.cil_values.specs.declared.path.Root.{Root}
 use Rattle.cil_values.specs.declared.path.Root.TheVariants as root
 use Rattle.step_rules.specs.Queries.{Queries, Instruction, Use, First, blank, bytes, empty_text, Cell, of_field, Layout, Shape, integer, structure}
 use Rattle.step_rules.specs.Queries as queries
-use Rattle.step_rules.specs.State.{State, Next, Global}
-use Rattle.step_rules.specs.Words.{Form, Here, stuck, stopped, given, had, required, within, popped, has_flag, args_of, good, goes, object_at}
+use Rattle.step_rules.specs.State.{State, Next}
+use Rattle.step_rules.specs.Words.{Form, Here, stuck, stopped, given, had, required, popped, has_flag, args_of, good, goes, object_at}
 use Rattle.step_rules.specs.Closing.{Accessed, closed_field, closed_cell}
 use Rattle.step_rules.specs.Integers.{number, width_of}
 use Rattle.step_rules.specs.Stores.{Parts, parts_of, fits, zero_of}

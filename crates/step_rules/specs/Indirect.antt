@@ -1,5 +1,5 @@
 -- Loads and stores through pointers (III.3.42, III.3.62, III.4.4, III.4.5, III.4.13, III.4.29).
-use Rattle.std.specs.Prelude.{ℕ, List, [], ◌∷◌, ◌==◌, Bool, true, false, Option, Some, None, if◌then◌else◌}
+use Rattle.std.specs.Prelude.{ℕ, List, ◌∷◌, ◌==◌, Option, Some, None, if◌then◌else◌}
 use Rattle.il_base.specs.declared.opcode.TheConstants as opcode
 use Rattle.il_base.specs.declared.element.TheConstants as element
 use Rattle.world_model.specs.declared.expr.TypeExpr.{TypeExpr}
@@ -7,7 +7,7 @@ use Rattle.core_table.specs.declared.names.CoreName.TheVariants.{NullReferenceEx
 use Rattle.cil_values.specs.declared.value.Value.{Value}
 use Rattle.cil_values.specs.declared.value.Value.TheVariants as value
 use Rattle.cil_values.specs.declared.path.Path.{Path}
-use Rattle.step_rules.specs.Queries.{Queries, Instruction, Use, typ}
+use Rattle.step_rules.specs.Queries.{Queries, Instruction, typ}
 use Rattle.step_rules.specs.State.{State, Next}
 use Rattle.step_rules.specs.Words.{Form, Here, stuck, given, had, required, popped, goes}
 use Rattle.step_rules.specs.Closing.{closed}

@@ -1,6 +1,6 @@
 -- Integers as cells of their types keep them, and as the evaluation stack has them (I.12.1.2, III.1.1.1). A type is known by
 -- its element type (II.23.1.16); Boolean has one byte, Char two, native integers eight.
-use Rattle.std.specs.Prelude.{ℕ, ◌+◌, ◌-◌, ◌*◌, ◌^◌, ◌==◌, nat_lt, ℤ, pos, negsuc, unsigned_abs, Bool, ◌||◌, Option, Some, None, if◌then◌else◌}
+use Rattle.std.specs.Prelude.{ℕ, ◌-◌, ◌*◌, ◌^◌, ◌==◌, nat_lt, ℤ, pos, negsuc, unsigned_abs, Bool, ◌||◌, Option, Some, None, if◌then◌else◌}
 use Rattle.std.specs.Int.{Width, w8, w16, w32, w64, int_wrap, int_rem_euclid, byte_len, cast_unsigned}
 use Rattle.std.specs.Option.{option_map}
 use Rattle.il_base.specs.declared.element.TheConstants.{BOOLEAN, CHAR, I1, U1, I2, U2, I4, U4, I8, U8, I, U}

@@ -30,3 +30,6 @@ pub mod Indirect
 pub mod Arrays
 pub mod Types
 pub mod Step
+pub mod Run
+pub mod Sample
+pub mod Examples

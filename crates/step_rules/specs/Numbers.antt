@@ -2,8 +2,7 @@
 -- or 64 bits; a native integer has 64.
 use Rattle.std.specs.Prelude.{ℕ, ◌+◌, ◌-◌, ◌*◌, ◌/◌, ◌%◌, ◌^◌, ◌==◌, nat_le, ℤ, pos, negsuc, ◌+ℤ◌, ◌-ℤ◌, ◌*ℤ◌, int_div, int_rem, List, ◌∷◌, Bool, true, false, ◌&&◌, ◌||◌, not, Option, Some, None, if◌then◌else◌}
 use Rattle.std.specs.Ordering.{int_eq}
-use Rattle.std.specs.Option.{option_map}
-use Rattle.std.specs.Int.{Width, w8, w16, w32, w64, cast_signed, cast_unsigned, int_wrapping_add, int_wrapping_sub, int_wrapping_mul, int_wrapping_neg, int_bit_and, int_bit_or, int_bit_xor, int_bit_not, int_shl, int_shr}
+use Rattle.std.specs.Int.{Width, w32, w64, cast_signed, cast_unsigned, int_wrapping_add, int_wrapping_sub, int_wrapping_mul, int_wrapping_neg, int_bit_and, int_bit_or, int_bit_xor, int_bit_not, int_shl, int_shr}
 use Rattle.il_base.specs.declared.opcode.TheConstants as opcode
 use Rattle.il_base.specs.declared.element.TheConstants as element
 use Rattle.core_table.specs.declared.names.CoreName.{CoreName}
@@ -13,7 +12,7 @@ use Rattle.cil_values.specs.declared.value.Value.TheVariants as value
 use Rattle.step_rules.specs.Queries.{Queries, Instruction}
 use Rattle.step_rules.specs.State.{State, Next}
 use Rattle.step_rules.specs.Words.{Form, Here, given, popped, goes, truth_value}
-use Rattle.step_rules.specs.Integers.{bits, wrap, fits_signed, fits_unsigned, width_of, number}
+use Rattle.step_rules.specs.Integers.{bits, fits_signed, fits_unsigned, width_of, number}
 use Rattle.step_rules.specs.Comparisons.{Test, equal, less, less_unsigned, greater, greater_unsigned, Numbers, numbers, test}
 use Rattle.step_rules.specs.Raising.{raise}
 

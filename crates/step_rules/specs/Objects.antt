@@ -1,6 +1,6 @@
 -- Objects: their types, the objects of texts, exceptions and their messages.
-use Rattle.std.specs.Prelude.{ℕ, List, [], ◌∷◌, ◌++◌, length, nat_eq, nat_le, codes, Bool, false, Option, Some, None, slice_get, find, unwrap_or, if◌then◌else◌}
-use Rattle.std.specs.Option.{option_map, option_and_then}
+use Rattle.std.specs.Prelude.{ℕ, List, [], ◌∷◌, ◌++◌, length, nat_eq, nat_le, codes, Bool, false, Option, Some, None, find, unwrap_or}
+use Rattle.std.specs.Option.{option_and_then}
 use Rattle.std.specs.Cmp.Lexicographic.{pointwise}
 use Rattle.std.specs.Str.{encode_utf8_all, chars}
 use Rattle.std.specs.Char.Escape.{encode_utf16}

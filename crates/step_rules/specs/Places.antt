@@ -1,7 +1,7 @@
 -- Places that managed pointers lead to (I.12.3.2.1): what stands there, and what a store makes of the state.
-use Rattle.std.specs.Prelude.{ℕ, List, [], ◌∷◌, ◌++◌, nat_eq, Bool, true, false, not, ◌&&◌, ◌||◌, Option, Some, None, slice_get, slice_set, find, map, if◌then◌else◌}
+use Rattle.std.specs.Prelude.{ℕ, List, [], ◌∷◌, nat_eq, Bool, true, false, not, ◌&&◌, Option, Some, None, slice_get, slice_set, find, map, if◌then◌else◌}
 use Rattle.std.specs.Option.{option_map, option_and_then, is_some}
-use Rattle.std.specs.List.{list_any, position}
+use Rattle.std.specs.List.{position}
 use Rattle.world_model.specs.declared.expr.TypeExpr.{TypeExpr}
 use Rattle.world_model.specs.Exprs.{same_expr}
 use Rattle.cil_values.specs.declared.value.Value.{Value}

@@ -10,8 +10,8 @@ use Rattle.core_table.specs.declared.names.CoreName.{CoreName}
 use Rattle.core_table.specs.declared.names.CoreName.TheVariants as name
 use Rattle.cil_values.specs.declared.value.Value.{Value}
 use Rattle.cil_values.specs.declared.value.Value.TheVariants as value
-use Rattle.step_rules.specs.Queries.{Queries, Code, Clause, Kind, catches, finally, fault}
-use Rattle.step_rules.specs.State.{State, Frame, Next, went, over, none, Reason, caught, leaving, unwinding, Unwinding, Running, Waits, starts, opens, Init, failed, Started}
+use Rattle.step_rules.specs.Queries.{Queries, Code, Clause, catches, finally, fault}
+use Rattle.step_rules.specs.State.{State, Frame, Next, went, none, Reason, caught, unwinding, Unwinding, Running, Waits, starts, opens, Init, failed, Started}
 use Rattle.step_rules.specs.Words.{Here, here_of, given, stopped, stuck, good, in_try, in_handler, made, object_at}
 use Rattle.step_rules.specs.Closing.{closed_slot}
 use Rattle.step_rules.specs.Objects.{is_a, threw, new_exception, wrapping}

@@ -1,5 +1,5 @@
 -- Arguments, locals, constants and the evaluation stack (III.3.33 to III.3.63).
-use Rattle.std.specs.Prelude.{ℕ, zero, suc, ℤ, List, [], ◌∷◌, Bool, true, false, Option, Some, None, slice_get, slice_set, ◌==◌, if◌then◌else◌}
+use Rattle.std.specs.Prelude.{ℕ, zero, suc, List, [], ◌∷◌, Option, Some, slice_get, if◌then◌else◌}
 use Rattle.std.specs.Option.{option_and_then, is_some}
 use Rattle.std.specs.Int.{w32, w64}
 use Rattle.world_model.specs.declared.expr.TypeExpr.{TypeExpr}
@@ -9,7 +9,7 @@ use Rattle.cil_values.specs.declared.value.Value.TheVariants as value
 use Rattle.cil_values.specs.declared.path.Path.{Path}
 use Rattle.cil_values.specs.declared.path.Root.{Root}
 use Rattle.cil_values.specs.declared.path.Root.TheVariants as root
-use Rattle.step_rules.specs.Queries.{Queries, Instruction, Signature, Use, slot, number}
+use Rattle.step_rules.specs.Queries.{Queries, Instruction, Signature, slot, number}
 use Rattle.step_rules.specs.State.{State, Frame, Next}
 use Rattle.step_rules.specs.Words.{Form, Here, stuck, given, required, popped, goes, good}
 use Rattle.step_rules.specs.Closing.{closed_slot}

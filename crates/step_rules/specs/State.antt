@@ -1,5 +1,5 @@
 -- What the machine holds between two steps (I.12.3), and what a step comes to.
-use Rattle.std.specs.Prelude.{ℕ, List, Option}
+use Rattle.std.specs.Prelude.{ℕ, List}
 use Rattle.world_model.specs.declared.expr.TypeExpr.{TypeExpr}
 use Rattle.world_model.specs.declared.expr.MethodUse.{MethodUse}
 use Rattle.cil_values.specs.declared.value.Value.{Value}

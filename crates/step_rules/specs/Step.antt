@@ -1,9 +1,8 @@
 -- A step of the machine: the instruction at the top frame's offset (III.1.3). An offset where none begins is stuck.
-use Rattle.std.specs.Prelude.{ℕ, Option}
 use Rattle.il_base.specs.declared.body.Form.TheVariants as form
-use Rattle.step_rules.specs.Queries.{Queries, Instruction}
+use Rattle.step_rules.specs.Queries.{Queries}
 use Rattle.step_rules.specs.State.{State, Next}
-use Rattle.step_rules.specs.Words.{Form, Here, given, here_of, instruction_at}
+use Rattle.step_rules.specs.Words.{Form, given, here_of, instruction_at}
 use Rattle.il_base.specs.declared.body as body
 use Rattle.step_rules.specs.Slots.{nop, load_arg, address_arg, store_arg, load_local, address_local, store_local, load_null, load_int32, load_int64, duplicate, pop}
 use Rattle.step_rules.specs.Texts.{load_string}

@@ -1,12 +1,12 @@
 -- Instructions of exceptions (III.3.35, III.3.46, III.4.24, III.4.31).
-use Rattle.std.specs.Prelude.{ℕ, suc, ◌-◌, List, [], ◌∷◌, nat_eq, nat_lt, ◌==◌, Bool, true, false, not, ◌&&◌, Option, Some, None, find, if◌then◌else◌}
+use Rattle.std.specs.Prelude.{ℕ, suc, ◌-◌, List, [], ◌∷◌, nat_eq, nat_lt, ◌==◌, Bool, true, not, ◌&&◌, Option, Some, None, find, if◌then◌else◌}
 use Rattle.std.specs.Option.{option_map}
 use Rattle.std.specs.List.{list_all}
 use Rattle.il_base.specs.declared.opcode.TheConstants.{THROW}
 use Rattle.core_table.specs.declared.names.CoreName.TheVariants.{Exception, NullReferenceException}
 use Rattle.cil_values.specs.declared.value.Value.{Value}
 use Rattle.cil_values.specs.declared.value.Value.TheVariants as value
-use Rattle.step_rules.specs.Queries.{Queries, Code, Clause, Use, target}
+use Rattle.step_rules.specs.Queries.{Queries, Code, Clause, target}
 use Rattle.step_rules.specs.State.{State, Frame, Next, went, none, Reason, caught, leaving, unwinding, Running}
 use Rattle.step_rules.specs.Words.{Form, Here, stuck, given, required, popped, in_try, in_handler, implies, enters_no_handler, object_at}
 use Rattle.step_rules.specs.Objects.{core_type, is_a}

@@ -1,8 +1,6 @@
 -- Casts, boxes and handles (III.4.1, III.4.3, III.4.6, III.4.17, III.4.32, III.4.33).
-use Rattle.std.specs.Prelude.{ℕ, List, [], ◌∷◌, ◌==◌, Bool, true, false, ◌||◌, Option, Some, None, if◌then◌else◌}
-use Rattle.std.specs.Option.{option_and_then}
+use Rattle.std.specs.Prelude.{ℕ, List, ◌∷◌, ◌==◌, Bool, true, false, ◌||◌, Option, Some, None, if◌then◌else◌}
 use Rattle.il_base.specs.declared.opcode.TheConstants.{CASTCLASS, UNBOX}
-use Rattle.world_model.specs.declared.known.Known.{Known}
 use Rattle.world_model.specs.declared.expr.TypeExpr.{TypeExpr, out-TypeExpr}
 use Rattle.world_model.specs.declared.expr.TypeExpr.TheOpen.{TypeExpr-F}
 use Rattle.world_model.specs.Exprs.{subst, same_expr}
@@ -111,7 +109,8 @@ load_handle q here i s e = had (closed_handle q here e) s (λ c. goes here i (va
 unfoldable pub load_token : Form
 load_token q here i s =
     elim i.operand [
-      typ e ↦ known e s (load_handle q here i s)
-    | queries.field f ↦ closed_field q here f s (λ a. goes here i (value.FieldHandle (record { 0 = a.id }) ∷ s.top.stack) s)
-    | method m ↦ stopped s
-    | _ ↦ stuck s ]
+      | typ e ↦ known e s (load_handle q here i s)
+      | queries.field f ↦ closed_field q here f s (λ a. goes here i (value.FieldHandle (record { 0 = a.id }) ∷ s.top.stack) s)
+      | method m ↦ stopped s
+      | _ ↦ stuck s
+    ]

@@ -1,6 +1,6 @@
 -- The words in which each form of instruction is written: a continuation goes on with what a look-up or the stack gave,
 -- and what is missing ends the run.
-use Rattle.std.specs.Prelude.{ℕ, ◌+◌, ◌/◌, ◌%◌, ◌*◌, ◌==◌, nat_eq, nat_le, nat_lt, pos, List, [], ◌∷◌, ◌++◌, length, take, drop, reverse, Bool, true, false, not, ◌&&◌, ◌||◌, Option, Some, None, slice_get, find, if◌then◌else◌}
+use Rattle.std.specs.Prelude.{ℕ, ◌/◌, ◌%◌, ◌==◌, nat_eq, nat_le, nat_lt, pos, List, [], ◌∷◌, ◌++◌, length, take, drop, reverse, Bool, true, false, not, ◌&&◌, ◌||◌, Option, Some, None, slice_get, find, if◌then◌else◌}
 use Rattle.std.specs.List.{list_all}
 use Rattle.std.specs.Option.{option_and_then}
 use Rattle.world_model.specs.declared.known.Known.{Known}
@@ -11,8 +11,8 @@ use Rattle.cil_values.specs.declared.value.Value.{Value}
 use Rattle.cil_values.specs.declared.value.Value.TheVariants.{I4}
 use Rattle.cil_values.specs.declared.object.Obj.{Obj}
 use Rattle.cil_values.specs.declared.end.End.TheVariants.{Stopped, Stuck}
-use Rattle.step_rules.specs.Queries.{Queries, Method, Code, Clause, Instruction, Kind, catches, finally, fault}
-use Rattle.step_rules.specs.State.{State, Frame, Next, went, over, Prefix, none}
+use Rattle.step_rules.specs.Queries.{Queries, Method, Code, Clause, Instruction}
+use Rattle.step_rules.specs.State.{State, Frame, Next, went, over, none}
 
 -- ---- ends
 

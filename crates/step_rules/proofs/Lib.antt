@@ -1,0 +1,3 @@
+pub mod Opened
+pub mod TypeLayers
+pub mod Computed
