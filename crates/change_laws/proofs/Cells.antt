@@ -49,7 +49,7 @@ keep_set (false ∷ bs) (y ∷ ys) zero x e = cc
 keep_set (true ∷ bs) (y ∷ ys) (suc m) x e = ap (λ zs. y ∷ zs) (keep_set bs ys m x e)
 keep_set (false ∷ bs) (y ∷ ys) (suc m) x e = keep_set bs ys m x e
 
-set_map : {A B : Type 0} (f : A → B) (xs : List A) (m : ℕ) (x : A) → slice_set (map f xs) m (f x) ≡ map f (slice_set xs m x)
+pub set_map : {A B : Type 0} (f : A → B) (xs : List A) (m : ℕ) (x : A) → slice_set (map f xs) m (f x) ≡ map f (slice_set xs m x)
 set_map f [] m x = refl
 set_map f (y ∷ ys) zero x = refl
 set_map f (y ∷ ys) (suc m) x = ap (λ zs. f y ∷ zs) (set_map f ys m x)

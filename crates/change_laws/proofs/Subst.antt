@@ -120,7 +120,7 @@ pub record Stays (a b : Names) : Type 0 where
   pub kept : IsTrue a.kept → IsTrue b.kept
   pub shown : IsTrue (both a) → IsTrue (both b)
 
-same_stays : (a b : Names) → a ≡ b → Stays a b
+pub same_stays : (a b : Names) → a ≡ b → Stays a b
 same_stays a b e = common.subst (Stays a) e (record { kept = λ h. h; shown = λ h. h })
 
 pub arg_stays : (k : Keep) (args : List TypeExpr) (n : ℕ) (other : TypeExpr) → IsTrue (list_all (shows_expr k) args) → IsTrue (shows_expr k other) → IsTrue (shows_expr k (arg_or args n other))

@@ -41,6 +41,10 @@ module _ (r : Rho) where
   move_rolled (Value-F.Handle e) = fold-roll-Value Value (move_value_layer r) (Value-F.Handle e) ∙ sym (value.rolls-Handle (move_expr r e))
   move_rolled (Value-F.FieldHandle f) = fold-roll-Value Value (move_value_layer r) (Value-F.FieldHandle f) ∙ sym (value.rolls-FieldHandle (move_field_id r f))
 
+  -- with the outermost construct in sight
+  pub move_opened : (v : Value) → move_value r v ≡ roll-Value (moved_in r (out-Value v))
+  move_opened v = ap (move_value r) (sym (roll-out-Value v)) ∙ move_rolled (out-Value v)
+
   pub out_moved : (v : Value) → out-Value (move_value r v) ≡ moved_in r (out-Value v)
   out_moved v = ap (λ (x : Value). out-Value (move_value r x)) (sym (roll-out-Value v)) ∙ ap out-Value (move_rolled (out-Value v)) ∙ out-roll-Value (moved_in r (out-Value v))
 

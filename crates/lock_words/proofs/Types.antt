@@ -1,0 +1,248 @@
+-- Closed types under new numbers: without modifiers, with arguments put in.
+use Rattle.std.proofs.Common.{◌≡◌, Bool, true, false, ◌&&◌, List, [], ◌∷◌, length, map, Option, Some, None, refl, sym, ap, subst, ◌∙◌}
+use Rattle.std.specs.Prelude.{IsTrue, if◌then◌else◌}
+use Rattle.std.specs.List.{list_all}
+use Rattle.std.specs.Option.{option_map, option_and_then}
+use Rattle.std.specs.Cmp.{first_so, second_so}
+use Rattle.il_base.specs.declared.ids.TypeId.{TypeId}
+use Rattle.world_model.specs.declared.expr.TypeExpr.{TypeExpr, fold-TypeExpr, fold-roll-TypeExpr, ind-TypeExpr, out-TypeExpr, roll-TypeExpr}
+use Rattle.world_model.specs.declared.expr.TypeExpr.TheFolds.{map-TypeExpr}
+use Rattle.world_model.specs.declared.expr.TypeExpr.TheOpen.{TypeExpr-F}
+use Rattle.world_model.specs.declared.expr.TypeExpr.TheVariants as expr
+use Rattle.world_model.specs.Exprs as exprs
+use Rattle.step_rules.specs.Queries.{Queries}
+use Rattle.step_rules.specs.Closing.{plain_layer, plain, whole_of, whole_if, alone_if, takes, is_whole, is_sound, Standing, standing_layer, standing, is_void_in, is_void, if_so, closed_return, closed_slot}
+use Rattle.change_rules.specs.Change.{Rho, Keep, Change}
+use Rattle.change_rules.specs.Moves.{move_expr, move_exprs}
+use Rattle.change_rules.specs.Keeps.{Names, both, names_layer, names_of, keeps_expr, shows_expr}
+use Rattle.change_rules.specs.Agree.{Agree}
+use Rattle.change_laws.proofs.Exprs.{With, plain_parts, moved_in, move_rolled, out_moved}
+use Rattle.change_laws.proofs.Subst.{Stays, same_stays, subst_moves, subst_stays, names_rolled, names_mod_of}
+
+-- ---- without modifiers
+
+abbrev Pair : TypeExpr → TypeExpr × TypeExpr
+Pair = fold-TypeExpr (TypeExpr × TypeExpr) plain_layer
+
+abbrev IsFirst : TypeExpr → Type 0
+IsFirst e = (Pair e).0 ≡ e
+
+pair_rolled : (x : TypeExpr-F TypeExpr) → Pair (roll-TypeExpr x) ≡ plain_layer (map-TypeExpr TypeExpr (TypeExpr × TypeExpr) Pair x)
+pair_rolled x = fold-roll-TypeExpr (TypeExpr × TypeExpr) plain_layer x
+
+whole_args : (xs : List (With IsFirst)) → whole_of (map Pair (map (λ e. e.0) xs)) ≡ map (λ e. e.0) xs
+whole_args [] = refl
+whole_args (x ∷ xs) = λ i. x.1 i ∷ whole_args xs i
+
+first_layer : (y : TypeExpr-F (With IsFirst)) → (plain_layer (map-TypeExpr TypeExpr (TypeExpr × TypeExpr) Pair (plain_parts IsFirst y))).0 ≡ roll-TypeExpr (plain_parts IsFirst y)
+first_layer (TypeExpr-F.Prim n) = sym (expr.rolls-Prim n)
+first_layer (TypeExpr-F.Def t) = sym (expr.rolls-Def t)
+first_layer (TypeExpr-F.Inst t xs) = ap (expr.Inst t) (whole_args xs) ∙ sym (expr.rolls-Inst t (map (λ e. e.0) xs))
+first_layer (TypeExpr-F.Array x) = ap expr.Array x.1 ∙ sym (expr.rolls-Array x.0)
+first_layer (TypeExpr-F.ByRef x) = ap expr.ByRef x.1 ∙ sym (expr.rolls-ByRef x.0)
+first_layer (TypeExpr-F.Var n) = sym (expr.rolls-Var n)
+first_layer (TypeExpr-F.MVar n) = sym (expr.rolls-MVar n)
+first_layer (TypeExpr-F.Mod required by x) = ap (expr.Mod required by) x.1 ∙ sym (expr.rolls-Mod required by x.0)
+
+first_rolled : (y : TypeExpr-F (With IsFirst)) → IsFirst (roll-TypeExpr (plain_parts IsFirst y))
+first_rolled y = ap (λ (p : TypeExpr × TypeExpr). p.0) (pair_rolled (plain_parts IsFirst y)) ∙ first_layer y
+
+pair_first : (e : TypeExpr) → (Pair e).0 ≡ e
+pair_first = ind-TypeExpr IsFirst (λ x y is. subst (λ z. IsFirst (roll-TypeExpr z)) is (first_rolled y))
+
+firsts : (es : List TypeExpr) → whole_of (map Pair es) ≡ es
+firsts [] = refl
+firsts (e ∷ es) = λ i. pair_first e i ∷ firsts es i
+
+-- by layers
+abbrev pub plain_in : TypeExpr-F TypeExpr → TypeExpr
+plain_in (TypeExpr-F.Mod required by x) = plain x
+plain_in x = roll-TypeExpr x
+
+second_layer : (x : TypeExpr-F TypeExpr) → (plain_layer (map-TypeExpr TypeExpr (TypeExpr × TypeExpr) Pair x)).1 ≡ plain_in x
+unfolding plain
+second_layer (TypeExpr-F.Prim n) = sym (expr.rolls-Prim n)
+second_layer (TypeExpr-F.Def t) = sym (expr.rolls-Def t)
+second_layer (TypeExpr-F.Inst t args) = ap (expr.Inst t) (firsts args) ∙ sym (expr.rolls-Inst t args)
+second_layer (TypeExpr-F.Array x) = ap expr.Array (pair_first x) ∙ sym (expr.rolls-Array x)
+second_layer (TypeExpr-F.ByRef x) = ap expr.ByRef (pair_first x) ∙ sym (expr.rolls-ByRef x)
+second_layer (TypeExpr-F.Var n) = sym (expr.rolls-Var n)
+second_layer (TypeExpr-F.MVar n) = sym (expr.rolls-MVar n)
+second_layer (TypeExpr-F.Mod required by x) = refl
+
+pub plain_rolled : (x : TypeExpr-F TypeExpr) → plain (roll-TypeExpr x) ≡ plain_in x
+unfolding plain
+plain_rolled x = ap (λ (p : TypeExpr × TypeExpr). p.1) (pair_rolled x) ∙ second_layer x
+
+module _ (r : Rho) where
+  abbrev PlainMoves : TypeExpr → Type 0
+  PlainMoves e = plain (move_expr r e) ≡ move_expr r (plain e)
+
+  plain_layer_moves : (y : TypeExpr-F (With PlainMoves)) → plain_in (moved_in r (plain_parts PlainMoves y)) ≡ move_expr r (plain_in (plain_parts PlainMoves y))
+  plain_layer_moves (TypeExpr-F.Prim n) = sym (move_rolled r (TypeExpr-F.Prim n))
+  plain_layer_moves (TypeExpr-F.Def t) = sym (move_rolled r (TypeExpr-F.Def t))
+  plain_layer_moves (TypeExpr-F.Inst t xs) = sym (move_rolled r (TypeExpr-F.Inst t (map (λ e. e.0) xs)))
+  plain_layer_moves (TypeExpr-F.Array x) = sym (move_rolled r (TypeExpr-F.Array x.0))
+  plain_layer_moves (TypeExpr-F.ByRef x) = sym (move_rolled r (TypeExpr-F.ByRef x.0))
+  plain_layer_moves (TypeExpr-F.Var n) = sym (move_rolled r (TypeExpr-F.Var n))
+  plain_layer_moves (TypeExpr-F.MVar n) = sym (move_rolled r (TypeExpr-F.MVar n))
+  plain_layer_moves (TypeExpr-F.Mod required by x) = x.1
+
+  plain_rolled_moves : (y : TypeExpr-F (With PlainMoves)) → PlainMoves (roll-TypeExpr (plain_parts PlainMoves y))
+  plain_rolled_moves y =
+      let x : TypeExpr-F TypeExpr = plain_parts PlainMoves y in
+      ap plain (move_rolled r x) ∙ plain_rolled (moved_in r x) ∙ plain_layer_moves y ∙ ap (move_expr r) (sym (plain_rolled x))
+
+  pub plain_moved : (e : TypeExpr) → plain (move_expr r e) ≡ move_expr r (plain e)
+  plain_moved = ind-TypeExpr PlainMoves (λ x y is. subst (λ z. PlainMoves (roll-TypeExpr z)) is (plain_rolled_moves y))
+
+  void_in : (x : TypeExpr-F TypeExpr) → is_void_in (moved_in r x) ≡ is_void_in x
+  void_in (TypeExpr-F.Prim n) = refl
+  void_in (TypeExpr-F.Def t) = refl
+  void_in (TypeExpr-F.Inst t args) = refl
+  void_in (TypeExpr-F.Array x) = refl
+  void_in (TypeExpr-F.ByRef x) = refl
+  void_in (TypeExpr-F.Var n) = refl
+  void_in (TypeExpr-F.MVar n) = refl
+  void_in (TypeExpr-F.Mod required by x) = refl
+
+  pub is_void_moved : (e : TypeExpr) → is_void (move_expr r e) ≡ is_void e
+  unfolding is_void
+  is_void_moved e = ap (λ (x : TypeExpr). is_void_in (out-TypeExpr x)) (plain_moved e) ∙ ap is_void_in (out_moved r (plain e)) ∙ void_in (out-TypeExpr (plain e))
+
+-- what is kept stays so without modifiers
+module _ (k : Keep) where
+  abbrev PlainStays : TypeExpr → Type 0
+  PlainStays e = Stays (names_of k e) (names_of k (plain e))
+
+  mod_stays : (by : TypeId) (a b : Names) → Stays a b → Stays (names_mod_of k by a) b
+  mod_stays by a b s =
+      record {
+        kept = λ h. s.kept (second_so (k.typ by.0) a.kept h);
+        shown = λ h. s.shown (both_of a.kept a.shown (second_so (k.typ by.0) a.kept (first_so _ _ h)) (second_so (k.shown by.0) a.shown (second_so (k.typ by.0 && a.kept) _ h)));
+      }
+    where
+      both_of : (p q : Bool) → IsTrue p → IsTrue q → IsTrue (p && q)
+      both_of true q h g = g
+      both_of false q h g = h
+
+  plain_layer_stays : (y : TypeExpr-F (With PlainStays)) → Stays (names_of k (roll-TypeExpr (plain_parts PlainStays y))) (names_of k (plain_in (plain_parts PlainStays y)))
+  plain_layer_stays (TypeExpr-F.Mod required by x) =
+      subst (λ (a : Names). Stays a (names_of k (plain x.0))) (sym (names_rolled k (TypeExpr-F.Mod required by x.0))) (mod_stays by (names_of k x.0) (names_of k (plain x.0)) x.1)
+  plain_layer_stays (TypeExpr-F.Prim n) = same_stays _ _ refl
+  plain_layer_stays (TypeExpr-F.Def t) = same_stays _ _ refl
+  plain_layer_stays (TypeExpr-F.Inst t xs) = same_stays _ _ refl
+  plain_layer_stays (TypeExpr-F.Array x) = same_stays _ _ refl
+  plain_layer_stays (TypeExpr-F.ByRef x) = same_stays _ _ refl
+  plain_layer_stays (TypeExpr-F.Var n) = same_stays _ _ refl
+  plain_layer_stays (TypeExpr-F.MVar n) = same_stays _ _ refl
+
+  plain_rolled_stays : (y : TypeExpr-F (With PlainStays)) → PlainStays (roll-TypeExpr (plain_parts PlainStays y))
+  plain_rolled_stays y =
+      let x : TypeExpr-F TypeExpr = plain_parts PlainStays y in
+      subst (λ (z : TypeExpr). Stays (names_of k (roll-TypeExpr x)) (names_of k z)) (sym (plain_rolled x)) (plain_layer_stays y)
+
+  pub plain_stays : (e : TypeExpr) → Stays (names_of k e) (names_of k (plain e))
+  plain_stays = ind-TypeExpr PlainStays (λ x y is. subst (λ z. PlainStays (roll-TypeExpr z)) is (plain_rolled_stays y))
+
+-- ---- closed types
+
+module _ (k : Change) (after before : Queries) (a : Agree k after before) where
+  abbrev StandsAlike : TypeExpr → Type 0
+  StandsAlike e = IsTrue (keeps_expr k.keep e) → standing after (move_expr k.rho e) ≡ standing before e
+
+  standing_rolled : (q : Queries) (x : TypeExpr-F TypeExpr) → standing q (roll-TypeExpr x) ≡ standing_layer q (map-TypeExpr TypeExpr Standing (standing q) x)
+  unfolding standing
+  standing_rolled q x = fold-roll-TypeExpr Standing (standing_layer q) x
+
+  stand_args : (xs : List (With StandsAlike)) → IsTrue (list_all both (map (names_of k.keep) (map (λ e. e.0) xs)))
+      → map (standing after) (move_exprs k.rho (map (λ e. e.0) xs)) ≡ map (standing before) (map (λ e. e.0) xs)
+  stand_args [] h = refl
+  stand_args (x ∷ xs) h =
+      let n : Names = names_of k.keep x.0 in
+      let rest : Bool = list_all both (map (names_of k.keep) (map (λ e. e.0) xs)) in
+      λ i. x.1 (first_so n.kept n.shown (first_so (both n) rest h)) i ∷ stand_args xs (second_so (both n) rest h) i
+
+  stand_layer : (y : TypeExpr-F (With StandsAlike)) → IsTrue (names_layer k.keep (map-TypeExpr TypeExpr Names (names_of k.keep) (plain_parts StandsAlike y))).kept
+      → standing_layer after (map-TypeExpr TypeExpr Standing (standing after) (moved_in k.rho (plain_parts StandsAlike y))) ≡ standing_layer before (map-TypeExpr TypeExpr Standing (standing before) (plain_parts StandsAlike y))
+  stand_layer (TypeExpr-F.Prim n) h = refl
+  stand_layer (TypeExpr-F.Def t) h = ap (λ o. whole_if (takes o 0)) (a.head t.0 h)
+  stand_layer (TypeExpr-F.Inst t xs) h =
+      let rest : Bool = list_all both (map (names_of k.keep) (map (λ e. e.0) xs)) in
+      let args : map (standing after) (move_exprs k.rho (map (λ e. e.0) xs)) ≡ map (standing before) (map (λ e. e.0) xs) = stand_args xs (second_so (k.keep.typ t.0) rest h) in
+      λ i. whole_if (takes (a.head t.0 (first_so (k.keep.typ t.0) rest h) i) (length (args i)) && list_all is_whole (args i))
+  stand_layer (TypeExpr-F.Array x) h = ap (λ s. whole_if (is_whole s)) (x.1 h)
+  stand_layer (TypeExpr-F.ByRef x) h = ap alone_if (x.1 h)
+  stand_layer (TypeExpr-F.Var n) h = refl
+  stand_layer (TypeExpr-F.MVar n) h = refl
+  stand_layer (TypeExpr-F.Mod required by x) h = x.1 (second_so (k.keep.typ by.0) _ h)
+
+  stand_rolled : (y : TypeExpr-F (With StandsAlike)) → StandsAlike (roll-TypeExpr (plain_parts StandsAlike y))
+  stand_rolled y h =
+      let x : TypeExpr-F TypeExpr = plain_parts StandsAlike y in
+      ap (standing after) (move_rolled k.rho x) ∙ standing_rolled after (moved_in k.rho x)
+      ∙ stand_layer y (sym (ap (λ (n : Names). n.kept) (names_rolled k.keep x)) ∙ h) ∙ sym (standing_rolled before x)
+
+  pub standing_moved : (e : TypeExpr) → IsTrue (keeps_expr k.keep e) → standing after (move_expr k.rho e) ≡ standing before e
+  standing_moved = ind-TypeExpr StandsAlike (λ x y is. subst (λ z. StandsAlike (roll-TypeExpr z)) is (stand_rolled y))
+
+  module _ (targs margs : List TypeExpr) (ts : IsTrue (list_all (shows_expr k.keep) targs)) (ms : IsTrue (list_all (shows_expr k.keep) margs)) where
+    abbrev In : TypeExpr → TypeExpr
+    In e = plain (exprs.subst targs margs e)
+
+    in_stays : (e : TypeExpr) → IsTrue (keeps_expr k.keep e) → IsTrue (keeps_expr k.keep (In e))
+    in_stays e h = (plain_stays k.keep (exprs.subst targs margs e)).kept ((subst_stays k.keep targs margs ts ms e).kept h)
+
+    in_moves : (e : TypeExpr) → plain (exprs.subst (move_exprs k.rho targs) (move_exprs k.rho margs) (move_expr k.rho e)) ≡ move_expr k.rho (In e)
+    in_moves e = ap plain (sym (subst_moves k.rho targs margs e)) ∙ plain_moved k.rho (exprs.subst targs margs e)
+
+    so_moved : (b : Bool) (c : TypeExpr) → if_so b (move_expr k.rho c) ≡ option_map (move_expr k.rho) (if_so b c)
+    so_moved true c = refl
+    so_moved false c = refl
+
+    pub closed_return_moved : (e : TypeExpr) → IsTrue (keeps_expr k.keep e)
+        → closed_return after (move_exprs k.rho targs) (move_exprs k.rho margs) (move_expr k.rho e) ≡ option_map (move_expr k.rho) (closed_return before targs margs e)
+    unfolding closed_return
+    closed_return_moved e h =
+        ap (λ (c : TypeExpr). if_so (is_sound (standing after c)) c) (in_moves e)
+        ∙ ap (λ s. if_so (is_sound s) (move_expr k.rho (In e))) (standing_moved (In e) (in_stays e h))
+        ∙ so_moved (is_sound (standing before (In e))) (In e)
+
+    unless_void : TypeExpr → Option TypeExpr
+    unless_void c = if is_void c then None else Some c
+
+    void_by : (b : Bool) (c : TypeExpr) → (if b then None else Some (move_expr k.rho c)) ≡ option_map (move_expr k.rho) (if b then None else Some c)
+    void_by true c = refl
+    void_by false c = refl
+
+    slot_by : (o : Option TypeExpr) → option_and_then (λ c. if is_void c then None else Some c) (option_map (move_expr k.rho) o)
+        ≡ option_map (move_expr k.rho) (option_and_then (λ c. if is_void c then None else Some c) o)
+    slot_by None = refl
+    slot_by (Some c) = ap (λ (b : Bool). if b then None else Some (move_expr k.rho c)) (is_void_moved k.rho c) ∙ void_by (is_void c) c
+
+    pub closed_slot_moved : (e : TypeExpr) → IsTrue (keeps_expr k.keep e)
+        → closed_slot after (move_exprs k.rho targs) (move_exprs k.rho margs) (move_expr k.rho e) ≡ option_map (move_expr k.rho) (closed_slot before targs margs e)
+    unfolding closed_slot
+    closed_slot_moved e h =
+        ap (option_and_then (λ c. if is_void c then None else Some c)) (closed_return_moved e h) ∙ slot_by (closed_return before targs margs e)
+
+    -- what comes out is kept
+    so_is : (b : Bool) (c d : TypeExpr) → if_so b c ≡ Some d → c ≡ d
+    so_is true c d e = cc
+    so_is false c d e = cc
+
+    pub closed_return_kept : (e c : TypeExpr) → IsTrue (keeps_expr k.keep e) → closed_return before targs margs e ≡ Some c → IsTrue (keeps_expr k.keep c)
+    unfolding closed_return
+    closed_return_kept e c h is = subst (λ (d : TypeExpr). IsTrue (keeps_expr k.keep d)) (so_is (is_sound (standing before (In e))) (In e) c is) (in_stays e h)
+
+    void_is : (b : Bool) (c d : TypeExpr) → (if b then None else Some c) ≡ Some d → c ≡ d
+    void_is true c d e = cc
+    void_is false c d e = cc
+
+    slot_from : (o : Option TypeExpr) (c : TypeExpr) → option_and_then (λ c. if is_void c then None else Some c) o ≡ Some c → o ≡ Some c
+    slot_from None c e = cc
+    slot_from (Some d) c e = ap (λ (x : TypeExpr). Some x) (void_is (is_void d) d c e)
+
+    pub closed_slot_kept : (e c : TypeExpr) → IsTrue (keeps_expr k.keep e) → closed_slot before targs margs e ≡ Some c → IsTrue (keeps_expr k.keep c)
+    unfolding closed_slot
+    closed_slot_kept e c h is = closed_return_kept e c h (slot_from (closed_return before targs margs e) c is)
