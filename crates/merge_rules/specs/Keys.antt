@@ -1,6 +1,7 @@
 -- References by what they name, so that those which would be one row are one: a type of an input by its row, one of the core library
--- by its own, a signature with the types that it names in place of their tokens, a member by its row and its owner.
-use Rattle.std.specs.Prelude.{ℕ, suc, List, [], ◌∷◌, length, map, Option, Some, None, slice_get, nat_eq, nat_lt, ◌==◌, ◌&&◌, ◌||◌, Bool, true, false, if◌then◌else◌}
+-- by its own, a signature with the types that it names in place of their tokens, a member by its row and its owner. What names nothing
+-- is known by its names.
+use Rattle.std.specs.Prelude.{ℕ, zero, suc, List, [], ◌∷◌, length, map, Option, Some, None, slice_get, nat_eq, nat_lt, ◌==◌, ◌&&◌, ◌||◌, Bool, true, false, if◌then◌else◌}
 use Rattle.std.specs.List.{list_any}
 use Rattle.std.specs.Option.{option_map, option_and_then}
 use Rattle.std.specs.Cmp.Lexicographic.{pointwise}
@@ -10,7 +11,8 @@ use Rattle.il_base.specs.declared.ids.FieldId.{FieldId}
 use Rattle.il_base.specs.declared.sig.Sig.{Sig, fold-Sig, out-Sig}
 use Rattle.il_base.specs.declared.sig.Sig.TheOpen.{Sig-F}
 use Rattle.il_base.specs.declared.sig.Sig as sig
-use Rattle.il_base.specs.declared.table.TheConstants.{FIELD, METHOD_DEF, METHOD_SPEC, TYPE_SPEC}
+use Rattle.il_base.specs.declared.sig.MethodSig.{MethodSig}
+use Rattle.il_base.specs.declared.table.TheConstants.{TYPE_REF, FIELD, METHOD_DEF, METHOD_SPEC, TYPE_SPEC}
 use Rattle.world_model.specs.declared.known.Known.{Known}
 use Rattle.world_model.specs.declared.known.Known.TheVariants.{Good, Bad}
 use Rattle.world_model.specs.declared.expr.TypeExpr.{TypeExpr, fold-TypeExpr, out-TypeExpr}
@@ -21,20 +23,22 @@ use Rattle.world_model.specs.declared.types.TypeSpecRow.{TypeSpecRow}
 use Rattle.world_model.specs.declared.members.MethodSpecRow.{MethodSpecRow}
 use Rattle.world_model.specs.declared.record.AsmRec.{AsmRec}
 use Rattle.world_model.specs.Tokens.{table_of, index_in}
+use Rattle.world_model.specs.Core.{same_name}
 use Rattle.world_model.specs.Exprs.{same_bool, same_expr}
 use Rattle.world_model.specs.Worlds.{prim_type}
 use Rattle.link_rules.specs.declared.row_at.RowAt.{RowAt}
-use Rattle.link_rules.specs.Types.{added_by}
+use Rattle.link_rules.specs.Types.{at_row, added_by}
 use Rattle.link_rules.specs.Signatures.{named_type}
 use Rattle.link_rules.specs.Members.{type_home, owner_of, param_count}
 use Rattle.link_rules.specs.Cycles.{listed, is_value_type}
 use Rattle.type_rules.specs.Rows.{rec_at}
 use Rattle.mark_rules.specs.Naming.{method_named, field_named}
+use Rattle.merge_rules.specs.Absent.{absent_type}
 
 -- ---- signatures over the types of the world
 
--- The type that a token of an assembly names, as a number: that of a definition, one more than its place among the types of the
--- world. What names nothing has 0.
+-- The type that a token of an assembly names, as a number: one more than its place among the types of the world, behind which are
+-- the references that name nothing. A token without a row has 0.
 abbrev pub number_of : List AsmRec → Known TypeExpr → ℕ
 number_of recs (Good e) = def_number (out-TypeExpr e)
   where
@@ -44,12 +48,23 @@ number_of recs (Good e) = def_number (out-TypeExpr e)
     def_number _ = 0
 number_of recs (Bad why) = 0
 
-abbrev pub class_number : List AsmRec → ℕ → AsmRec → ℕ → ℕ
-class_number recs a rec token = number_of recs (named_type recs a rec token)
+abbrev pub number_or : Option TypeId → ℕ → ℕ
+number_or None other = other
+number_or (Some t) other = suc t.0
+
+abbrev pub absent_number : List AsmRec → ℕ → ℕ → ℕ
+absent_number recs a token = number_or (option_and_then (λ k. absent_type recs (at_row a k)) (index_in TYPE_REF token)) 0
+
+abbrev pub found_or : ℕ → ℕ → ℕ
+found_or zero other = other
+found_or (suc t) other = suc t
+
+unfoldable pub class_number : List AsmRec → ℕ → AsmRec → ℕ → ℕ
+class_number recs a rec token = found_or (number_of recs (named_type recs a rec token)) (absent_number recs a token)
 
 -- a modifier also finds the names that only modifiers use
 abbrev pub modifier_number : List AsmRec → ℕ → AsmRec → ℕ → ℕ
-modifier_number recs a rec token = elim (added_by recs a rec token) [ Some t ↦ suc t.0 | None ↦ class_number recs a rec token ]
+modifier_number recs a rec token = number_or (added_by recs a rec token) (class_number recs a rec token)
 
 abbrev pub world_layer : List AsmRec → ℕ → AsmRec → Sig-F Sig → Sig
 world_layer recs a rec (Sig-F.Prim n) = sig.Prim n
@@ -129,14 +144,24 @@ same_type (named t) (named u) = nat_eq t.0 u.0
 same_type (spec s) (spec r) = same_sig s r
 same_type _ _ = false
 
--- a definition by its own token, or a member with the type in which it is found
+-- a method's signature over the types of the world
+abbrev pub world_method_sig : List AsmRec → ℕ → AsmRec → MethodSig → MethodSig
+world_method_sig recs a rec s = record s { ret = world_sig recs a rec s.ret; params = world_sigs recs a rec s.params }
+
+abbrev pub same_method_sig : MethodSig → MethodSig → Bool
+same_method_sig s r = same_bool s.this r.this && nat_eq s.generic r.generic && same_sig s.ret r.ret && same_sigs s.params r.params
+
+-- a definition by its own token, a member with the type in which it is found, or one that names nothing, by its parent, name and
+-- signature
 pub data MethodKey : Type 0 where
   own_method : MethodId → MethodKey
   found_method : MethodId → TypeExpr → MethodKey
+  absent_method : TypeKey → List ℕ → MethodSig → MethodKey
 
 abbrev pub same_method : MethodKey → MethodKey → Bool
 same_method (own_method m) (own_method n) = nat_eq m.0 n.0
 same_method (found_method m e) (found_method n f) = nat_eq m.0 n.0 && same_expr e f
+same_method (absent_method p x s) (absent_method q y r) = same_type p q && same_name x y && same_method_sig s r
 same_method _ _ = false
 
 pub data FieldKey : Type 0 where
@@ -158,14 +183,9 @@ same_instance x y = same_method x.method y.method && same_sigs x.args y.args
 
 -- ---- the key of a token
 
-abbrev pub def_key : List AsmRec → Known TypeExpr → Option TypeKey
-def_key recs (Good e) = named_key (out-TypeExpr e)
-  where
-    named_key : TypeExpr-F TypeExpr → Option TypeKey
-    named_key (TypeExpr-F.Def t) = Some (named t)
-    named_key (TypeExpr-F.Prim n) = option_map named (prim_type recs n)
-    named_key _ = None
-def_key recs (Bad why) = None
+abbrev pub numbered_key : ℕ → Option TypeKey
+numbered_key zero = None
+numbered_key (suc t) = Some (named (record { 0 = t }))
 
 abbrev pub spec_key : List AsmRec → ℕ → AsmRec → Option TypeSpecRow → Option TypeKey
 spec_key recs a rec None = None
@@ -179,7 +199,7 @@ spec_key recs a rec (Some row) = good_spec row.signature
 unfoldable pub type_key : List AsmRec → ℕ → AsmRec → ℕ → Option TypeKey
 type_key recs a rec token =
     if table_of token == TYPE_SPEC then spec_key recs a rec (option_and_then (slice_get rec.type_spec) (index_in TYPE_SPEC token))
-    else def_key recs (named_type recs a rec token)
+    else numbered_key (class_number recs a rec token)
 
 abbrev pub expr_key_in : List AsmRec → TypeExpr → TypeExpr-F TypeExpr → Option TypeKey
 expr_key_in recs e (TypeExpr-F.Def t) = Some (named t)

@@ -1,5 +1,13 @@
 pub mod Numbers
 pub mod Names
+pub mod Absent
 pub mod Keys
 pub mod Order
 pub mod Refs
+pub mod Sorted
+pub mod Rows
+pub mod Attributes
+pub mod Moved
+pub mod Restricted
+pub mod Sample
+pub mod Examples

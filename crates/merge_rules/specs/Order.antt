@@ -1,6 +1,6 @@
 -- The references of the output in the order in which they are first met: the types in order, of each its base, interfaces, fields,
 -- methods, constraints, properties, events and MethodImpl rows. The cells of a reference row are met before the row.
-use Rattle.std.specs.Prelude.{ℕ, suc, List, [], ◌∷◌, ◌++◌, map, Option, slice_get, ◌==◌, ◌&&◌, ◌||◌, Bool, if◌then◌else◌}
+use Rattle.std.specs.Prelude.{ℕ, suc, List, [], ◌∷◌, ◌++◌, map, Option, slice_get, ◌==◌, ◌&&◌, ◌||◌, Bool, false, if◌then◌else◌}
 use Rattle.std.specs.List.{list_any, flat_map, filter}
 use Rattle.std.specs.Option.{option_and_then}
 use Rattle.il_base.specs.declared.ids.Item.{Item}
@@ -36,7 +36,7 @@ use Rattle.mark_rules.specs.Places.{is_core, method_item, field_item, prop_item,
 use Rattle.mark_rules.specs.Bodies.{body_of, is_field_token, is_method_token, is_catch}
 use Rattle.mark_rules.specs.Members.{properties_of_type, events_of_type}
 use Rattle.merge_rules.specs.Numbers.{Kept, kept_types}
-use Rattle.merge_rules.specs.Keys.{TypeKey, MethodKey, own_method, found_method, FieldKey, InstanceKey, good, world_sig, world_sigs, type_key, method_key, field_key, instance_key}
+use Rattle.merge_rules.specs.Keys.{TypeKey, MethodKey, own_method, found_method, absent_method, FieldKey, InstanceKey, good, world_sig, world_sigs, type_key, method_key, field_key, instance_key}
 
 -- ---- what is met
 
@@ -136,6 +136,7 @@ met_constraints recs at owner = flat_map (λ (rec : AsmRec). each_row (met_param
 abbrev pub is_kept_method : List AsmRec → Kept → MethodKey → Bool
 is_kept_method recs kept (own_method m) = kept (item.Method m) || is_core recs (item.Method m)
 is_kept_method recs kept (found_method m e) = kept (item.Method m) || is_core recs (item.Method m)
+is_kept_method recs kept (absent_method p name s) = false
 
 abbrev pub is_impl_of : List AsmRec → Kept → RowAt → AsmRec → MethodImplRow → Bool
 is_impl_of recs kept at rec row =

@@ -1,8 +1,8 @@
 -- The reference rows of the output, each once, in the order in which they are first met, and the tokens by which rows and code name
 -- them. Rows are counted from 1 in tokens.
-use Rattle.std.specs.Prelude.{ℕ, zero, suc, List, [], ◌∷◌, ◌++◌, map, codes, Option, Some, None, slice_get, position, ◌%◌, ◌==◌, ◌&&◌, Bool, false, if◌then◌else◌}
+use Rattle.std.specs.Prelude.{ℕ, zero, suc, List, [], ◌∷◌, ◌++◌, map, codes, Option, Some, None, slice_get, position, nat_le, ◌+◌, ◌%◌, ◌==◌, ◌&&◌, ◌||◌, length, Bool, false, if◌then◌else◌}
 use Rattle.std.specs.List.{list_any, flat_map, filter}
-use Rattle.std.specs.Option.{option_and_then}
+use Rattle.std.specs.Option.{option_map, option_and_then}
 use Rattle.il_base.specs.declared.ids.TypeId.{TypeId}
 use Rattle.il_base.specs.declared.ids.MethodId.{MethodId}
 use Rattle.il_base.specs.declared.ids.FieldId.{FieldId}
@@ -29,14 +29,16 @@ use Rattle.world_model.specs.declared.record.AsmRec.{AsmRec}
 use Rattle.world_model.specs.Tokens.{token_of, index_in}
 use Rattle.world_model.specs.Core.{same_name, is_core_scope}
 use Rattle.world_model.specs.Exprs.{same_expr}
+use Rattle.world_model.specs.Worlds.{type_id}
 use Rattle.link_rules.specs.declared.row_at.RowAt.{RowAt}
-use Rattle.link_rules.specs.Types.{ref_at}
+use Rattle.link_rules.specs.Types.{ref_at, encloser}
 use Rattle.link_rules.specs.Members.{home_from, type_home, methods_in, fields_in}
 use Rattle.link_rules.specs.Cycles.{listed, same_row}
 use Rattle.type_rules.specs.Rows.{rec_at, type_row_at, each_row}
 use Rattle.mark_rules.specs.Places.{is_core}
+use Rattle.merge_rules.specs.Absent.{bare, same_assembly, reference_rows, reference_at, definition_of, assembly_scope, reference_scope, type_count, absent_type, absent_row}
 use Rattle.merge_rules.specs.Numbers.{Kept, inputs, kept_types, kept_methods, kept_fields, new_row}
-use Rattle.merge_rules.specs.Keys.{TypeKey, named, spec, same_sig, same_sigs, MethodKey, own_method, found_method, FieldKey, own_field, found_field, InstanceKey, same_instance, expr_key, world_sig, world_sigs}
+use Rattle.merge_rules.specs.Keys.{TypeKey, named, spec, same_sig, same_sigs, MethodKey, own_method, found_method, absent_method, same_type, world_method_sig, same_method_sig, FieldKey, own_field, found_field, InstanceKey, same_instance, expr_key, world_sig}
 use Rattle.merge_rules.specs.Order.{Met, met_type, met_sig, met_method, met_field, met_instance, met_locals}
 
 -- ---- each once, as first met
@@ -82,6 +84,9 @@ abbrev pub types_of_key : TypeKey → List TypeId
 types_of_key (named t) = t ∷ []
 types_of_key (spec s) = types_of_sig s
 
+abbrev pub types_of_method_sig : MethodSig → List TypeId
+types_of_method_sig s = types_of_sigs (s.ret ∷ s.params)
+
 -- the signature of a member, over the types of the world
 abbrev pub known_list : {A : Type 0} → Known A → List A
 known_list (Good x) = x ∷ []
@@ -89,7 +94,7 @@ known_list (Bad why) = []
 
 abbrev pub own_method_sig : List AsmRec → RowAt → List MethodSig
 own_method_sig recs at =
-    flat_map (λ (rec : AsmRec). flat_map (λ (m : MethodDefRow). map (λ (s : MethodSig). record s { ret = world_sig recs at.asm rec s.ret; params = world_sigs recs at.asm rec s.params }) (known_list m.signature)) (listed (slice_get rec.method_def at.row))) (listed (rec_at recs at))
+    flat_map (λ (rec : AsmRec). flat_map (λ (m : MethodDefRow). map (world_method_sig recs at.asm rec) (known_list m.signature)) (listed (slice_get rec.method_def at.row))) (listed (rec_at recs at))
 
 abbrev pub own_field_sig : List AsmRec → RowAt → List Sig
 own_field_sig recs at =
@@ -108,7 +113,8 @@ types_of_owner recs e = flat_map types_of_key (listed (expr_key recs e))
 abbrev pub types_of_method : List AsmRec → MethodKey → List TypeId
 types_of_method recs (own_method m) = []
 types_of_method recs (found_method m e) =
-    types_of_owner recs e ++ flat_map (λ (s : MethodSig). types_of_sigs (s.ret ∷ s.params)) (flat_map (own_method_sig recs) (listed (method_at recs m)))
+    types_of_owner recs e ++ flat_map types_of_method_sig (flat_map (own_method_sig recs) (listed (method_at recs m)))
+types_of_method recs (absent_method p name s) = types_of_key p ++ types_of_method_sig s
 
 abbrev pub types_of_field : List AsmRec → FieldKey → List TypeId
 types_of_field recs (own_field f) = []
@@ -125,9 +131,39 @@ types_of_met recs (met_locals ss) = types_of_sigs ss
 abbrev pub same_id : TypeId → TypeId → Bool
 same_id t u = t.0 == u.0
 
--- the types of the core library that have a TypeRef row
+-- types of the core library, and what names nothing
+abbrev pub is_reference : List AsmRec → TypeId → Bool
+is_reference recs t = nat_le (type_count recs) t.0 || is_core recs (item.Typ t)
+
+-- ---- scopes
+
+abbrev pub enclosing_type : List AsmRec → RowAt → Option TypeId
+enclosing_type recs at = option_and_then (λ (rec : AsmRec). option_map (type_id recs at.asm) (encloser rec at.row)) (rec_at recs at)
+
+abbrev pub outer_reference : List AsmRec → RowAt → Option TypeId
+outer_reference recs at =
+    elim (definition_of recs at) [ Some def ↦ Some (type_id recs def.asm def.row) | None ↦ absent_type recs at ]
+
+abbrev pub scope_type_by : List AsmRec → TypeId → Option RowAt → Option TypeId
+scope_type_by recs t None = option_and_then (enclosing_type recs) (type_home recs t)
+scope_type_by recs t (Some at) = option_and_then (outer_reference recs) (reference_scope recs at)
+
+-- the type that a TypeRef row has as its scope: that of its encloser, and of what names nothing the one that the inputs have
+unfoldable pub scope_type : List AsmRec → TypeId → Option TypeId
+scope_type recs t = scope_type_by recs t (absent_row recs t)
+
+-- a type behind its scopes, over at most n of them
+unfoldable pub with_scopes : List AsmRec → ℕ → TypeId → List TypeId
+with_scopes recs zero t = t ∷ []
+with_scopes recs (suc n) t = flat_map (with_scopes recs n) (listed (scope_type recs t)) ++ t ∷ []
+
+-- no chain of scopes is longer than there are types and references
+abbrev pub most_scopes : List AsmRec → ℕ
+most_scopes recs = type_count recs + length (reference_rows recs)
+
+-- the types that have a TypeRef row
 unfoldable pub type_refs : List AsmRec → List Met → List TypeId
-type_refs recs mets = each_once same_id (filter (λ t. is_core recs (item.Typ t)) (flat_map (types_of_met recs) mets))
+type_refs recs mets = each_once same_id (flat_map (with_scopes recs (most_scopes recs)) (filter (is_reference recs) (flat_map (types_of_met recs) mets)))
 
 -- ---- TypeSpec rows: tokens of signatures, and owners of members
 
@@ -138,6 +174,7 @@ spec_of_key (spec s) = s ∷ []
 abbrev pub spec_of_method : List AsmRec → MethodKey → List Sig
 spec_of_method recs (own_method m) = []
 spec_of_method recs (found_method m e) = flat_map spec_of_key (listed (expr_key recs e))
+spec_of_method recs (absent_method p name s) = spec_of_key p
 
 abbrev pub spec_of_field : List AsmRec → FieldKey → List Sig
 spec_of_field recs (own_field f) = []
@@ -159,15 +196,18 @@ type_specs recs mets = each_once same_sig (flat_map (specs_of_met recs) mets)
 pub data MemberKey : Type 0 where
   a_method : MethodId → TypeExpr → MemberKey
   a_field : FieldId → TypeExpr → MemberKey
+  an_absent : TypeKey → List ℕ → MethodSig → MemberKey
 
 abbrev pub same_member : MemberKey → MemberKey → Bool
 same_member (a_method m e) (a_method n f) = m.0 == n.0 && same_expr e f
 same_member (a_field m e) (a_field n f) = m.0 == n.0 && same_expr e f
+same_member (an_absent p x s) (an_absent q y r) = same_type p q && same_name x y && same_method_sig s r
 same_member _ _ = false
 
 abbrev pub member_of_method : MethodKey → List MemberKey
 member_of_method (own_method m) = []
 member_of_method (found_method m e) = a_method m e ∷ []
+member_of_method (absent_method p name s) = an_absent p name s ∷ []
 
 abbrev pub member_of_field : FieldKey → List MemberKey
 member_of_field (own_field f) = []
@@ -208,10 +248,6 @@ names_core_type recs t a rec k row =
     if is_core_scope rec row.resolution_scope && list_any (λ (at : RowAt). list_any (same_row at) (listed (type_home recs t))) (listed (ref_at recs a rec k))
     then listed (option_and_then (slice_get rec.assembly_ref) (index_in table.ASSEMBLY_REF row.resolution_scope)) else []
 
--- without the hash, which isn't written
-abbrev pub bare : AssemblyRefRow → AssemblyRefRow
-bare row = record row { hash_value = [] }
-
 abbrev pub system_runtime : AssemblyRefRow
 system_runtime = record {
   major_version = 0;
@@ -233,14 +269,13 @@ unfoldable pub scope_of : List AsmRec → TypeId → AssemblyRefRow
 scope_of recs t =
     bare (first_or (flat_map (λ (x : ℕ × AsmRec). each_row (names_core_type recs t x.0 x.1) x.1.type_ref) (inputs recs)) system_runtime)
 
-abbrev pub same_assembly : AssemblyRefRow → AssemblyRefRow → Bool
-same_assembly a b =
-    a.major_version == b.major_version && a.minor_version == b.minor_version && a.build_number == b.build_number
-    && a.revision_number == b.revision_number && a.flags == b.flags && same_name a.public_key_or_token b.public_key_or_token
-    && same_name a.name b.name && same_name a.culture b.culture
+-- the assembly that a TypeRef row has as its scope: none where that is a type or the module
+abbrev pub assemblies_of : List AsmRec → TypeId → List AssemblyRefRow
+assemblies_of recs t =
+    elim (absent_row recs t) [ Some at ↦ map bare (listed (assembly_scope recs at)) | None ↦ elim (scope_type recs t) [ Some around ↦ [] | None ↦ scope_of recs t ∷ [] ] ]
 
 unfoldable pub assembly_refs : List AsmRec → List Met → List AssemblyRefRow
-assembly_refs recs mets = each_once same_assembly (map (scope_of recs) (type_refs recs mets))
+assembly_refs recs mets = each_once same_assembly (flat_map (assemblies_of recs) (type_refs recs mets))
 
 -- ---- tokens
 
@@ -257,10 +292,10 @@ row_token table (Some k) = token_of table (suc k) % 4294967296
 abbrev pub kept_token : ℕ → List RowAt → Option RowAt → ℕ
 kept_token table rows at = row_token table (option_and_then (new_row rows) at)
 
--- a type of an input by its row, one of the core library by its reference
+-- a type of an input by its row, one of the core library and one that isn't there by its reference
 unfoldable pub type_token : Output → TypeId → ℕ
 type_token o t =
-    if is_core o.recs (item.Typ t) then row_token table.TYPE_REF (position (same_id t) (type_refs o.recs o.mets))
+    if is_reference o.recs t then row_token table.TYPE_REF (position (same_id t) (type_refs o.recs o.mets))
     else kept_token table.TYPE_DEF (kept_types o.recs o.kept) (type_home o.recs t)
 
 unfoldable pub key_token : Output → TypeKey → ℕ
@@ -273,6 +308,7 @@ member_token o m = row_token table.MEMBER_REF (position (same_member m) (member_
 unfoldable pub method_token : Output → MethodKey → ℕ
 method_token o (own_method m) = kept_token table.METHOD_DEF (kept_methods o.recs o.kept) (method_at o.recs m)
 method_token o (found_method m e) = member_token o (a_method m e)
+method_token o (absent_method p name s) = member_token o (an_absent p name s)
 
 unfoldable pub field_token : Output → FieldKey → ℕ
 field_token o (own_field f) = kept_token table.FIELD (kept_fields o.recs o.kept) (field_at o.recs f)
@@ -310,12 +346,26 @@ new_method_sig o s = record s { ret = new_sig o s.ret; params = map (new_sig o) 
 
 -- ---- the rows
 
+-- the scope that a row without a type or an assembly as its scope keeps: 0, or the module (II.22.38)
+abbrev pub own_scope : List AsmRec → TypeId → ℕ
+own_scope recs t = first_or (map (λ (row : TypeRefRow). row.resolution_scope) (listed (option_and_then (reference_at recs) (absent_row recs t)))) 0
+
+abbrev pub assembly_token : Output → AssemblyRefRow → ℕ
+assembly_token o row = row_token table.ASSEMBLY_REF (position (same_assembly row) (assembly_refs o.recs o.mets))
+
 abbrev pub scope_token : Output → TypeId → ℕ
-scope_token o t = row_token table.ASSEMBLY_REF (position (same_assembly (scope_of o.recs t)) (assembly_refs o.recs o.mets))
+scope_token o t =
+    elim (scope_type o.recs t) [ Some around ↦ type_token o around | None ↦ first_or (map (assembly_token o) (assemblies_of o.recs t)) (own_scope o.recs t) ]
+
+abbrev pub found_ref : Output → TypeId → TypeDefRow → TypeRefRow
+found_ref o t row = record { resolution_scope = scope_token o t; name = row.name; namespace = row.namespace }
+
+abbrev pub absent_ref : Output → TypeId → TypeRefRow → TypeRefRow
+absent_ref o t row = record row { resolution_scope = scope_token o t }
 
 abbrev pub type_ref_row : Output → TypeId → List TypeRefRow
 type_ref_row o t =
-    map (λ (row : TypeDefRow). record { resolution_scope = scope_token o t; name = row.name; namespace = row.namespace }) (listed (option_and_then (type_row_at o.recs) (type_home o.recs t)))
+    elim (absent_row o.recs t) [ Some at ↦ map (absent_ref o t) (listed (reference_at o.recs at)) | None ↦ map (found_ref o t) (listed (option_and_then (type_row_at o.recs) (type_home o.recs t))) ]
 
 unfoldable pub type_ref_rows : Output → List TypeRefRow
 type_ref_rows o = flat_map (type_ref_row o) (type_refs o.recs o.mets)
@@ -332,12 +382,13 @@ method_name recs at = flat_map (λ (rec : AsmRec). flat_map (λ (m : MethodDefRo
 abbrev pub field_name : List AsmRec → RowAt → List ℕ
 field_name recs at = flat_map (λ (rec : AsmRec). flat_map (λ (f : FieldRow). f.name) (listed (slice_get rec.field at.row))) (listed (rec_at recs at))
 
--- the name and the own signature of the member that it names, in the type in which it was found
+-- the name and the own signature of the member that it names, in the type in which it was found; what names nothing keeps its own
 abbrev pub member_ref_row : Output → MemberKey → List MemberRefRow
 member_ref_row o (a_method m e) =
     flat_map (λ at. map (λ s. record { class = parent_token o e; name = method_name o.recs at; signature = Good (member.Method (new_method_sig o s)) }) (own_method_sig o.recs at)) (listed (method_at o.recs m))
 member_ref_row o (a_field f e) =
     flat_map (λ at. map (λ s. record { class = parent_token o e; name = field_name o.recs at; signature = Good (member.Field (new_sig o s)) }) (own_field_sig o.recs at)) (listed (field_at o.recs f))
+member_ref_row o (an_absent p name s) = record { class = key_token o p; name = name; signature = Good (member.Method (new_method_sig o s)) } ∷ []
 
 unfoldable pub member_ref_rows : Output → List MemberRefRow
 member_ref_rows o = flat_map (member_ref_row o) (member_refs o.mets)
