@@ -149,14 +149,14 @@ module _ (k : Keep) where
 
 module _ (k : Change) (after before : Queries) (a : Agree k after before) where
   abbrev StandsAlike : TypeExpr → Type 0
-  StandsAlike e = IsTrue (keeps_expr k.keep e) → standing after (move_expr k.rho e) ≡ standing before e
+  StandsAlike e = IsTrue (keeps_expr k.keep e) → standing after.head (move_expr k.rho e) ≡ standing before.head e
 
-  standing_rolled : (q : Queries) (x : TypeExpr-F TypeExpr) → standing q (roll-TypeExpr x) ≡ standing_layer q (map-TypeExpr TypeExpr Standing (standing q) x)
+  standing_rolled : (q : Queries) (x : TypeExpr-F TypeExpr) → standing q.head (roll-TypeExpr x) ≡ standing_layer q.head (map-TypeExpr TypeExpr Standing (standing q.head) x)
   unfolding standing
-  standing_rolled q x = fold-roll-TypeExpr Standing (standing_layer q) x
+  standing_rolled q x = fold-roll-TypeExpr Standing (standing_layer q.head) x
 
   stand_args : (xs : List (With StandsAlike)) → IsTrue (list_all both (map (names_of k.keep) (map (λ e. e.0) xs)))
-      → map (standing after) (move_exprs k.rho (map (λ e. e.0) xs)) ≡ map (standing before) (map (λ e. e.0) xs)
+      → map (standing after.head) (move_exprs k.rho (map (λ e. e.0) xs)) ≡ map (standing before.head) (map (λ e. e.0) xs)
   stand_args [] h = refl
   stand_args (x ∷ xs) h =
       let n : Names = names_of k.keep x.0 in
@@ -164,12 +164,12 @@ module _ (k : Change) (after before : Queries) (a : Agree k after before) where
       λ i. x.1 (first_so n.kept n.shown (first_so (both n) rest h)) i ∷ stand_args xs (second_so (both n) rest h) i
 
   stand_layer : (y : TypeExpr-F (With StandsAlike)) → IsTrue (names_layer k.keep (map-TypeExpr TypeExpr Names (names_of k.keep) (plain_parts StandsAlike y))).kept
-      → standing_layer after (map-TypeExpr TypeExpr Standing (standing after) (moved_in k.rho (plain_parts StandsAlike y))) ≡ standing_layer before (map-TypeExpr TypeExpr Standing (standing before) (plain_parts StandsAlike y))
+      → standing_layer after.head (map-TypeExpr TypeExpr Standing (standing after.head) (moved_in k.rho (plain_parts StandsAlike y))) ≡ standing_layer before.head (map-TypeExpr TypeExpr Standing (standing before.head) (plain_parts StandsAlike y))
   stand_layer (TypeExpr-F.Prim n) h = refl
   stand_layer (TypeExpr-F.Def t) h = ap (λ o. whole_if (takes o 0)) (a.head t.0 h)
   stand_layer (TypeExpr-F.Inst t xs) h =
       let rest : Bool = list_all both (map (names_of k.keep) (map (λ e. e.0) xs)) in
-      let args : map (standing after) (move_exprs k.rho (map (λ e. e.0) xs)) ≡ map (standing before) (map (λ e. e.0) xs) = stand_args xs (second_so (k.keep.typ t.0) rest h) in
+      let args : map (standing after.head) (move_exprs k.rho (map (λ e. e.0) xs)) ≡ map (standing before.head) (map (λ e. e.0) xs) = stand_args xs (second_so (k.keep.typ t.0) rest h) in
       λ i. whole_if (takes (a.head t.0 (first_so (k.keep.typ t.0) rest h) i) (length (args i)) && list_all is_whole (args i))
   stand_layer (TypeExpr-F.Array x) h = ap (λ s. whole_if (is_whole s)) (x.1 h)
   stand_layer (TypeExpr-F.ByRef x) h = ap alone_if (x.1 h)
@@ -180,10 +180,10 @@ module _ (k : Change) (after before : Queries) (a : Agree k after before) where
   stand_rolled : (y : TypeExpr-F (With StandsAlike)) → StandsAlike (roll-TypeExpr (plain_parts StandsAlike y))
   stand_rolled y h =
       let x : TypeExpr-F TypeExpr = plain_parts StandsAlike y in
-      ap (standing after) (move_rolled k.rho x) ∙ standing_rolled after (moved_in k.rho x)
+      ap (standing after.head) (move_rolled k.rho x) ∙ standing_rolled after (moved_in k.rho x)
       ∙ stand_layer y (sym (ap (λ (n : Names). n.kept) (names_rolled k.keep x)) ∙ h) ∙ sym (standing_rolled before x)
 
-  pub standing_moved : (e : TypeExpr) → IsTrue (keeps_expr k.keep e) → standing after (move_expr k.rho e) ≡ standing before e
+  pub standing_moved : (e : TypeExpr) → IsTrue (keeps_expr k.keep e) → standing after.head (move_expr k.rho e) ≡ standing before.head e
   standing_moved = ind-TypeExpr StandsAlike (λ x y is. subst (λ z. StandsAlike (roll-TypeExpr z)) is (stand_rolled y))
 
   module _ (targs margs : List TypeExpr) (ts : IsTrue (list_all (shows_expr k.keep) targs)) (ms : IsTrue (list_all (shows_expr k.keep) margs)) where
@@ -204,9 +204,9 @@ module _ (k : Change) (after before : Queries) (a : Agree k after before) where
         → closed_return after (move_exprs k.rho targs) (move_exprs k.rho margs) (move_expr k.rho e) ≡ option_map (move_expr k.rho) (closed_return before targs margs e)
     unfolding closed_return
     closed_return_moved e h =
-        ap (λ (c : TypeExpr). if_so (is_sound (standing after c)) c) (in_moves e)
+        ap (λ (c : TypeExpr). if_so (is_sound (standing after.head c)) c) (in_moves e)
         ∙ ap (λ s. if_so (is_sound s) (move_expr k.rho (In e))) (standing_moved (In e) (in_stays e h))
-        ∙ so_moved (is_sound (standing before (In e))) (In e)
+        ∙ so_moved (is_sound (standing before.head (In e))) (In e)
 
     unless_void : TypeExpr → Option TypeExpr
     unless_void c = if is_void c then None else Some c
@@ -233,7 +233,7 @@ module _ (k : Change) (after before : Queries) (a : Agree k after before) where
 
     pub closed_return_kept : (e c : TypeExpr) → IsTrue (keeps_expr k.keep e) → closed_return before targs margs e ≡ Some c → IsTrue (keeps_expr k.keep c)
     unfolding closed_return
-    closed_return_kept e c h is = subst (λ (d : TypeExpr). IsTrue (keeps_expr k.keep d)) (so_is (is_sound (standing before (In e))) (In e) c is) (in_stays e h)
+    closed_return_kept e c h is = subst (λ (d : TypeExpr). IsTrue (keeps_expr k.keep d)) (so_is (is_sound (standing before.head (In e))) (In e) c is) (in_stays e h)
 
     void_is : (b : Bool) (c d : TypeExpr) → (if b then None else Some c) ≡ Some d → c ≡ d
     void_is true c d e = cc

@@ -54,7 +54,7 @@ use Rattle.link_rules.specs.Members.{with_bases}
 use Rattle.link_rules.specs.Cycles.{listed, home_of, is_static_field}
 use Rattle.type_rules.specs.Slots.{nearest}
 use Rattle.type_rules.specs.Texts.{full_name}
-use Rattle.type_rules.specs.Searches.{find_type}
+use Rattle.type_rules.specs.Searches.{find_type, has_owner}
 use Rattle.type_rules.specs.Rows.{each_row, field_row_at, fields_of_type, is_enum, rec_at, run_places, type_row_at}
 use Rattle.mark_rules.specs.Facts.{Fact}
 use Rattle.mark_rules.specs.Facts.Fact.{marked}
@@ -129,7 +129,7 @@ enum_size recs at = first_size (flat_map (field_size recs) (fields_of_type recs 
 -- a type's path: the full name of the outermost type, then the names of nested ones, at most n
 abbrev pub path_by : (ℕ → List (List ℕ)) → AsmRec → ℕ → TypeDefRow → Option ℕ → List (List ℕ)
 path_by outer rec k t None = full_name t ∷ []
-path_by outer rec k t (Some around) = outer around ++ full_name t ∷ []
+path_by outer rec k t (Some around) = outer around ++ t.name ∷ []
 
 unfoldable pub path_within : AsmRec → ℕ → ℕ → List (List ℕ)
 path_within rec zero k = []
@@ -175,10 +175,15 @@ abbrev pub named_kind : List AsmRec → RowAt → Option ParamKind
 named_kind recs at =
     elim (prim_at recs at) [ Some n ↦ prim_kind n | None ↦ (if is_system_type_row recs at then Some kind.Typ else if is_enum recs at then Some (kind.Enum [] (enum_size recs at)) else None) ]
 
--- a reference to the core library
+-- a reference to the core library, by way of enclosers, over at most n rows
+unfoldable pub is_core_ref_within : AsmRec → ℕ → ℕ → Bool
+is_core_ref_within rec zero token = false
+is_core_ref_within rec (suc n) token =
+    list_any (λ (row : TypeRefRow). is_core_scope rec row.resolution_scope || is_core_ref_within rec n row.resolution_scope)
+    (listed (option_and_then (slice_get rec.type_ref) (index_in TYPE_REF token)))
+
 abbrev pub is_core_ref : AsmRec → ℕ → Bool
-is_core_ref rec token =
-    list_any (λ (row : TypeRefRow). is_core_scope rec row.resolution_scope) (listed (option_and_then (slice_get rec.type_ref) (index_in TYPE_REF token)))
+is_core_ref rec token = is_core_ref_within rec (length rec.type_ref) token
 
 -- a value type of the core library that its table lacks is an enum of four bytes
 abbrev pub absent_kind : Bool → Option ParamKind
@@ -297,13 +302,13 @@ is_property_called recs name at = list_any (λ (p : PropertyRow). same_name p.na
 abbrev pub properties_called_in : List AsmRec → List ℕ → TypeExpr → List RowAt
 properties_called_in recs name e = filter (is_property_called recs name) (flat_map (properties_of_type recs) (listed (home_of recs e)))
 
-abbrev pub setter_in : ℕ → MethodSemanticsRow → List ℕ
-setter_in token row = if row.association == token && row.semantics % 2 == SETTER then listed (index_in METHOD_DEF row.method) else []
+abbrev pub setter_in : AsmRec → ℕ → MethodSemanticsRow → List ℕ
+setter_in rec token row = if row.association == token && row.semantics % 2 == SETTER then filter (has_owner rec) (listed (index_in METHOD_DEF row.method)) else []
 
 -- the first setter of a property; one without a setter marks nothing, and no base further up is searched
 abbrev pub setters_of : List AsmRec → RowAt → List RowAt
 setters_of recs p =
-    flat_map (λ (rec : AsmRec). map (at_row p.asm) (listed (head_of (flat_map (setter_in (token_of PROPERTY (suc p.row))) rec.method_semantics)))) (listed (rec_at recs p))
+    flat_map (λ (rec : AsmRec). map (at_row p.asm) (listed (head_of (flat_map (setter_in rec (token_of PROPERTY (suc p.row))) rec.method_semantics)))) (listed (rec_at recs p))
 
 abbrev pub setter_facts : List AsmRec → List ℕ → TypeExpr → Option (List Fact)
 setter_facts recs name e =

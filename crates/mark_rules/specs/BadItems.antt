@@ -149,8 +149,12 @@ is_input_constructor recs (Bad why) = false
 abbrev pub are_kinds : ℕ → Bool
 are_kinds n = nat_lt n 0x4000 || n == 0xffffffff
 
+-- the attributes whose first number is a set of kinds
+abbrev pub has_kinds : AsmRec → CustomAttributeRow → Bool
+has_kinds rec row = is_called rec dynamically_accessed row || is_called rec dynamic_dependency row
+
 abbrev pub has_no_reading : List AsmRec → ℕ → AsmRec → CustomAttributeRow → Bool
-has_no_reading recs a rec row = elim (value_of recs a rec row) [ None ↦ true | Some v ↦ is_called rec dynamically_accessed row && list_any (λ n. not (are_kinds n)) (first_number v) ]
+has_no_reading recs a rec row = elim (value_of recs a rec row) [ None ↦ true | Some v ↦ has_kinds rec row && list_any (λ n. not (are_kinds n)) (first_number v) ]
 
 abbrev pub attribute_flaw : List AsmRec → Item → RowAt → AsmRec → ℕ → CustomAttributeRow → List Flaw
 attribute_flaw recs i at rec k row =
@@ -196,10 +200,16 @@ impl_rows recs = each_row (λ a (rec : AsmRec). each_row (impl_rows_by recs a re
 
 -- ---- the first
 
--- a flaw of a marked item of an input, where `holds` says which facts hold
-pub data IsFlaw (recs : List AsmRec) (holds : Fact → Type 0) : Flaw → Type 0 where
-  of_item : (i : Item) (f : Flaw) → holds (marked i) → is_core recs i ≡ false → Contains (flaws_of recs i) f → IsFlaw recs holds f
-  of_row : (r : ImplRow) (f : Flaw) → Contains (impl_rows recs) r → holds (marked r.class) → holds (marked r.body) → Contains r.flaws f → IsFlaw recs holds f
+-- an entry method that no type's run has
+abbrev pub entry_flaws : List AsmRec → Option RowAt → List Flaw
+entry_flaws recs entry =
+    flat_map (λ (at : RowAt). elim (type_of_method recs at) [ Some t ↦ [] | None ↦ flaw at (token_of METHOD_DEF (suc at.row)) 0 Unresolved ∷ [] ]) (listed entry)
+
+-- a flaw of a marked item of an input, or of the entry, where `holds` says which facts hold
+pub data IsFlaw (recs : List AsmRec) (entry : Option RowAt) (holds : Fact → Type 0) : Flaw → Type 0 where
+  of_item : (i : Item) (f : Flaw) → holds (marked i) → is_core recs i ≡ false → Contains (flaws_of recs i) f → IsFlaw recs entry holds f
+  of_row : (r : ImplRow) (f : Flaw) → Contains (impl_rows recs) r → holds (marked r.class) → holds (marked r.body) → Contains r.flaws f → IsFlaw recs entry holds f
+  of_entry : (f : Flaw) → Contains (entry_flaws recs entry) f → IsFlaw recs entry holds f
 
 -- Unresolved comes before Outside, which goes by its number, and Over comes last
 abbrev pub rank : BadKind → ℕ
@@ -215,6 +225,6 @@ before x y =
     || nat_eq x.offset y.offset && nat_lt (rank x.kind) (rank y.kind)))
 
 -- the least flaw, or None where there is none
-abbrev pub IsFirstFlaw : List AsmRec → (Fact → Type 0) → Option Flaw → Type 0
-IsFirstFlaw recs holds None = (f : Flaw) → IsFlaw recs holds f → ⊥
-IsFirstFlaw recs holds (Some f) = IsFlaw recs holds f × ((g : Flaw) → IsFlaw recs holds g → before g f ≡ false)
+abbrev pub IsFirstFlaw : List AsmRec → Option RowAt → (Fact → Type 0) → Option Flaw → Type 0
+IsFirstFlaw recs entry holds None = (f : Flaw) → IsFlaw recs entry holds f → ⊥
+IsFirstFlaw recs entry holds (Some f) = IsFlaw recs entry holds f × ((g : Flaw) → IsFlaw recs entry holds g → before g f ≡ false)

@@ -97,14 +97,17 @@ abbrev pub are_locals_read : AsmRec → ℕ → Bool
 are_locals_read rec token =
     token == 0 || list_any (λ (row : StandAloneSigRow). is_read row.signature) (listed (option_and_then (slice_get rec.stand_alone_sig) (index_in STAND_ALONE_SIG token)))
 
--- A body of which the method's signature or the locals have no reading has no operands.
+-- A body of which the method's signature or the locals have no reading has no operands. Nor will one whose evaluation stack is at
+-- fault, once that is looked at.
 abbrev pub operands_of : List AsmRec → ℕ → AsmRec → ℕ → Bool → Body → List Part
 operands_of recs a rec place read b = if read && are_locals_read rec b.locals then flat_map (instruction_parts recs a rec place) b.code else []
 
--- `read` says whether the method's signature has a reading
+-- What a body names but the types that it catches. `read` says whether the method's signature has a reading.
+abbrev pub code_parts : List AsmRec → ℕ → AsmRec → ℕ → Bool → Body → List Part
+code_parts recs a rec place read b = locals_parts recs a rec place b.locals ++ operands_of recs a rec place read b
+
 abbrev pub body_parts : List AsmRec → ℕ → AsmRec → ℕ → Bool → Body → List Part
-body_parts recs a rec place read b =
-    locals_parts recs a rec place b.locals ++ flat_map (handler_parts recs a rec place) b.handlers ++ operands_of recs a rec place read b
+body_parts recs a rec place read b = code_parts recs a rec place read b ++ flat_map (handler_parts recs a rec place) b.handlers
 
 -- the body of a method; none where it has no reading
 abbrev pub body_of : MethodDefRow → List Body

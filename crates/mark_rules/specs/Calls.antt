@@ -21,7 +21,7 @@ use Rattle.world_model.specs.Tokens.{token_of, index_in}
 use Rattle.link_rules.specs.declared.row_at.RowAt.{RowAt}
 use Rattle.link_rules.specs.Types.{at_row}
 use Rattle.link_rules.specs.Members.{owner_of, with_bases, is_interface_row, generic_method}
-use Rattle.link_rules.specs.Cycles.{listed, same_row, home_of, is_static_field}
+use Rattle.link_rules.specs.Cycles.{listed, same_row, home_of, is_static_field, only_interface}
 use Rattle.type_rules.specs.Slots.{is_virtual, is_new_slot, method_row_at, type_of_method, type_of_row, open_type, inherited, slot_of, method_home}
 use Rattle.type_rules.specs.Dispatch.{Choice, good_use, class_dispatch, implied, from_choice, in_interface}
 use Rattle.type_rules.specs.Initializers.{initializer}
@@ -31,7 +31,7 @@ use Rattle.mark_rules.specs.Facts.Fact.{instantiated}
 use Rattle.mark_rules.specs.Places.{marks_type, marks_method}
 use Rattle.mark_rules.specs.Naming.{Part, of_known, of_parts, of_method_use, method_sig_parts, method_named}
 use Rattle.il_base.specs.declared.body.Body.{Body}
-use Rattle.mark_rules.specs.Bodies.{is_read, are_locals_read, body_parts, body_of}
+use Rattle.mark_rules.specs.Bodies.{is_read, are_locals_read, code_parts, body_parts, body_of}
 use Rattle.mark_rules.specs.Types.{impl_row_at, impl_type, constraints_of}
 
 -- ---- the method itself
@@ -46,6 +46,15 @@ row_parts recs at rec m =
 
 unfoldable pub parts_of_method : List AsmRec → RowAt → List Part
 parts_of_method recs at = flat_map (λ (rec : AsmRec). flat_map (row_parts recs at rec) (listed (slice_get rec.method_def at.row))) (listed (rec_at recs at))
+
+abbrev pub uncaught_row_parts : List AsmRec → RowAt → AsmRec → MethodDefRow → List Part
+uncaught_row_parts recs at rec m =
+    method_sig_parts recs at.asm rec (token_of METHOD_DEF (suc at.row)) m.signature ++ constraints_of recs at.asm rec (token_of METHOD_DEF (suc at.row))
+    ++ flat_map (code_parts recs at.asm rec (token_of METHOD_DEF (suc at.row)) (is_read m.signature)) (body_of m)
+
+-- what a method names but the types that it catches
+unfoldable pub uncaught_parts : List AsmRec → RowAt → List Part
+uncaught_parts recs at = flat_map (λ (rec : AsmRec). flat_map (uncaught_row_parts recs at rec) (listed (slice_get rec.method_def at.row))) (listed (rec_at recs at))
 
 -- A marked method marks its owner, the types of its signature, the constraints of its parameters, its locals, the types that it
 -- catches, and what each operand names, with owner and arguments.
@@ -139,7 +148,7 @@ abbrev pub row_class : List AsmRec → RowAt → Option RowAt
 row_class recs r = option_and_then (λ row. option_map (at_row r.asm) (index_in 0x02 row.class)) (impl_row_at recs r)
 
 abbrev pub searched : List AsmRec → RowAt → RowAt → RowAt → RowAt → List RowAt
-searched recs t b r c = if is_base_of recs c t then flat_map (found_for recs b (open_type recs c)) (listed (impl_type recs r)) else []
+searched recs t b r c = if is_base_of recs c t then flat_map (found_for recs b (open_type recs c)) (only_interface recs (impl_type recs r)) else []
 
 -- The methods that the search for an interface slot finds first, for an interface row of a type or of one of its bases, and each
 -- instance of the slot's interface that the row is or implies.

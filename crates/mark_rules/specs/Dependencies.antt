@@ -104,7 +104,7 @@ has_doc_name recs wanted at name =
 -- `#ctor` is `.ctor`
 abbrev pub plain : List ℕ → List ℕ
 plain [] = []
-plain (c ∷ cs) = if same_name (take 5 (c ∷ cs)) (codes "#ctor") then 0x2e ∷ cs else c ∷ cs
+plain (c ∷ cs) = if same_name (c ∷ cs) (codes "#ctor") || same_name (take 6 (c ∷ cs)) (codes "#ctor(") then 0x2e ∷ cs else c ∷ cs
 
 abbrev pub is_method_called : List AsmRec → List ℕ → RowAt → Bool
 is_method_called recs name at =

@@ -141,11 +141,12 @@ is_nested_public recs at = list_any (λ (t : TypeDefRow). t.flags % 8 == type_fl
 abbrev pub nested_counts : List AsmRec → ℕ → RowAt → Bool
 nested_counts recs flags at = if is_nested_public recs at then has_kind flags kind.PUBLIC_NESTED_TYPES else has_kind flags kind.NON_PUBLIC_NESTED_TYPES
 
--- all that a type holds, itself first
+-- all that a type holds, itself first, with the accessors of its properties and events
 abbrev pub whole_type : List AsmRec → RowAt → List Item
 whole_type recs at =
     type_item recs at ∷ map (method_item recs) (methods_of_type recs at) ++ map (field_item recs) (fields_of_type recs at)
-    ++ map (prop_item recs) (properties_of_type recs at) ++ map (event_item recs) (events_of_type recs at)
+    ++ flat_map (λ p. prop_item recs p ∷ map (method_item recs) (property_accessors recs p)) (properties_of_type recs at)
+    ++ flat_map (λ e. event_item recs e ∷ map (method_item recs) (event_accessors recs e)) (events_of_type recs at)
 
 -- with the types nested in it, at most n levels: no chain of enclosers of a linked world is longer than its assembly has types
 unfoldable pub whole_within : List AsmRec → ℕ → RowAt → List Item

@@ -61,8 +61,6 @@ row_of recs (item.Impl i) = home_from impls_in 0 recs i.0
 unfoldable pub is_core : List AsmRec → Item → Bool
 is_core recs i = list_any (λ (at : RowAt). suc at.asm == length recs) (listed (row_of recs i))
 
--- ---- rows of an assembly and of a type
-
 -- ---- facts of rows
 
 abbrev pub marks_type : List AsmRec → RowAt → Fact

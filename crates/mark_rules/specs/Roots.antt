@@ -2,16 +2,18 @@
 use Rattle.std.specs.Prelude.{ℕ, zero, suc, List, [], ◌∷◌, ◌++◌, length, map, codes, Option, Some, None, slice_get, position, nat_eq, ◌==◌, ◌&&◌, ◌||◌, Bool, true, false, not, if◌then◌else◌}
 use Rattle.std.specs.List.{list_any, flat_map, filter}
 use Rattle.std.specs.Option.{option_and_then}
-use Rattle.std.specs.Fmt.{decimal}
 use Rattle.il_base.specs.declared.ids.TypeId.{TypeId}
 use Rattle.il_base.specs.declared.ids.Item.{Item}
 use Rattle.il_base.specs.declared.ids.Item.TheVariants as item
+use Rattle.il_base.specs.declared.table.TheConstants.{TYPE_DEF, METHOD_DEF}
 use Rattle.world_model.specs.declared.expr.TypeExpr.{TypeExpr, fold-TypeExpr}
 use Rattle.world_model.specs.declared.expr.TypeExpr.TheOpen.{TypeExpr-F}
 use Rattle.world_model.specs.declared.types.TypeDefRow.{TypeDefRow}
+use Rattle.world_model.specs.declared.types.GenericParamRow.{GenericParamRow}
 use Rattle.world_model.specs.declared.members.FieldRow.{FieldRow}
 use Rattle.world_model.specs.declared.members.MethodDefRow.{MethodDefRow}
 use Rattle.world_model.specs.declared.record.AsmRec.{AsmRec}
+use Rattle.world_model.specs.Tokens.{token_of}
 use Rattle.world_model.specs.Core.{same_name}
 use Rattle.world_model.specs.Worlds.{known_then, sig_expr, prim_type, type_id}
 use Rattle.descriptor_file.specs.declared.root.Root.{Root}
@@ -24,7 +26,7 @@ use Rattle.link_rules.specs.Types.{at_row, is_called, encloser}
 use Rattle.link_rules.specs.Signatures.{names_at}
 use Rattle.link_rules.specs.Members.{type_home}
 use Rattle.link_rules.specs.Cycles.{listed}
-use Rattle.type_rules.specs.Slots.{method_row_at, type_of_row}
+use Rattle.type_rules.specs.Slots.{method_row_at, type_of_row, type_of_method}
 use Rattle.type_rules.specs.Texts.{full_name, joined}
 use Rattle.type_rules.specs.Rows.{each_row, fields_of_type, is_module_type, methods_of_type, rec_at}
 use Rattle.mark_rules.specs.Facts.{Fact}
@@ -43,13 +45,13 @@ unfoldable pub input_named : List AsmRec → List ℕ → Option ℕ
 input_named recs name = option_and_then (λ a. if suc a == length recs then None else Some a) (position (is_called name) recs)
 
 -- a type's full name, with `/` before the name of a nested type, at most n levels
-abbrev pub slashed_by : (ℕ → List ℕ) → Option ℕ → List ℕ → List ℕ
-slashed_by outer None name = name
-slashed_by outer (Some around) name = outer around ++ codes "/" ++ name
+abbrev pub slashed_by : (ℕ → List ℕ) → TypeDefRow → Option ℕ → List ℕ
+slashed_by outer t None = full_name t
+slashed_by outer t (Some around) = outer around ++ codes "/" ++ t.name
 
 unfoldable pub slashed_within : AsmRec → ℕ → ℕ → List ℕ
 slashed_within rec zero k = []
-slashed_within rec (suc n) k = flat_map (λ (t : TypeDefRow). slashed_by (slashed_within rec n) (encloser rec k) (full_name t)) (listed (slice_get rec.type_def k))
+slashed_within rec (suc n) k = flat_map (λ (t : TypeDefRow). slashed_by (slashed_within rec n) t (encloser rec k)) (listed (slice_get rec.type_def k))
 
 abbrev pub slashed_name : AsmRec → ℕ → List ℕ
 slashed_name rec k = slashed_within rec (suc (length rec.type_def)) k
@@ -72,34 +74,57 @@ definition_slashed recs None = []
 definition_slashed recs (Some t) =
     flat_map (λ (at : RowAt). flat_map (λ (rec : AsmRec). slashed_name rec at.row) (listed (rec_at recs at))) (listed (type_home recs t))
 
-abbrev pub sig_text_layer : List AsmRec → TypeExpr-F (List ℕ) → List ℕ
-sig_text_layer recs (TypeExpr-F.Prim n) = definition_slashed recs (prim_type recs n)
-sig_text_layer recs (TypeExpr-F.Def t) = definition_slashed recs (Some t)
-sig_text_layer recs (TypeExpr-F.Inst t args) = definition_slashed recs (Some t) ++ codes "<" ++ joined args ++ codes ">"
-sig_text_layer recs (TypeExpr-F.Array x) = x ++ codes "[]"
-sig_text_layer recs (TypeExpr-F.ByRef x) = x ++ codes "&"
-sig_text_layer recs (TypeExpr-F.Var n) = codes "!" ++ decimal n
-sig_text_layer recs (TypeExpr-F.MVar n) = codes "!!" ++ decimal n
-sig_text_layer recs (TypeExpr-F.Mod required by x) = x
+-- whose generic parameters a signature has: tokens of a type and of a method, 0 for none
+pub record Owners : Type 0 where
+  pub type : ℕ
+  pub method : ℕ
 
--- a type in a signature, modifiers left out
-unfoldable pub sig_text : List AsmRec → TypeExpr → List ℕ
-sig_text recs = fold-TypeExpr (List ℕ) (sig_text_layer recs)
+abbrev pub parameter_row : ℕ → ℕ → ℕ → GenericParamRow → List (List ℕ)
+parameter_row owner n k row = if row.owner == owner && row.number == n then row.name ∷ [] else []
 
-abbrev pub method_text : List AsmRec → List ℕ → MethodType → List ℕ
-method_text recs name m = sig_text recs m.ret ++ codes " " ++ name ++ codes "(" ++ joined (map (sig_text recs) m.params) ++ codes ")"
+abbrev pub first_text : List (List ℕ) → List ℕ
+first_text [] = codes "?"
+first_text (x ∷ xs) = x
 
-abbrev pub method_fits : List AsmRec → RootMember → RowAt → MethodDefRow → Bool
-method_fits recs r at m =
-    if r.by_signature then list_any (λ (s : MethodType). same_name (method_text recs m.name s) r.text) (good_signatures (type_of_row recs at))
+-- a generic parameter by the name in its row (II.22.20), `?` without one
+abbrev pub parameter_name : AsmRec → ℕ → ℕ → List ℕ
+parameter_name rec owner n = first_text (each_row (parameter_row owner n) rec.generic_param)
+
+abbrev pub sig_text_layer : List AsmRec → AsmRec → Owners → TypeExpr-F (List ℕ) → List ℕ
+sig_text_layer recs rec o (TypeExpr-F.Prim n) = definition_slashed recs (prim_type recs n)
+sig_text_layer recs rec o (TypeExpr-F.Def t) = definition_slashed recs (Some t)
+sig_text_layer recs rec o (TypeExpr-F.Inst t args) = definition_slashed recs (Some t) ++ codes "<" ++ joined args ++ codes ">"
+sig_text_layer recs rec o (TypeExpr-F.Array x) = x ++ codes "[]"
+sig_text_layer recs rec o (TypeExpr-F.ByRef x) = x ++ codes "&"
+sig_text_layer recs rec o (TypeExpr-F.Var n) = parameter_name rec o.type n
+sig_text_layer recs rec o (TypeExpr-F.MVar n) = parameter_name rec o.method n
+sig_text_layer recs rec o (TypeExpr-F.Mod required by x) = x
+
+-- a type in a signature of an assembly, modifiers left out
+unfoldable pub sig_text : List AsmRec → AsmRec → Owners → TypeExpr → List ℕ
+sig_text recs rec o = fold-TypeExpr (List ℕ) (sig_text_layer recs rec o)
+
+abbrev pub method_text : List AsmRec → AsmRec → Owners → List ℕ → MethodType → List ℕ
+method_text recs rec o name m = sig_text recs rec o m.ret ++ codes " " ++ name ++ codes "(" ++ joined (map (sig_text recs rec o) m.params) ++ codes ")"
+
+abbrev pub method_owners : RowAt → RowAt → Owners
+method_owners t at = record { type = token_of TYPE_DEF (suc t.row); method = token_of METHOD_DEF (suc at.row) }
+
+abbrev pub has_method_text : List AsmRec → RootMember → RowAt → RowAt → MethodDefRow → AsmRec → Bool
+has_method_text recs r t at m rec =
+    list_any (λ (s : MethodType). same_name (method_text recs rec (method_owners t at) m.name s) r.text) (good_signatures (type_of_row recs at))
+
+abbrev pub method_fits : List AsmRec → RootMember → RowAt → RowAt → MethodDefRow → Bool
+method_fits recs r t at m =
+    if r.by_signature then list_any (has_method_text recs r t at m) (listed (rec_at recs at))
     else same_name m.name r.text
 
-abbrev pub field_text : List AsmRec → List ℕ → TypeExpr → List ℕ
-field_text recs name e = sig_text recs e ++ codes " " ++ name
+abbrev pub field_text : List AsmRec → AsmRec → RowAt → List ℕ → TypeExpr → List ℕ
+field_text recs rec t name e = sig_text recs rec (record { type = token_of TYPE_DEF (suc t.row); method = 0 }) e ++ codes " " ++ name
 
-abbrev pub field_fits : List AsmRec → RootMember → RowAt → AsmRec → FieldRow → Bool
-field_fits recs r at rec f =
-    if r.by_signature then list_any (λ e. same_name (field_text recs f.name e) r.text) (good_expr (known_then (sig_expr (names_at recs at.asm rec)) f.signature))
+abbrev pub field_fits : List AsmRec → RootMember → RowAt → RowAt → AsmRec → FieldRow → Bool
+field_fits recs r t at rec f =
+    if r.by_signature then list_any (λ e. same_name (field_text recs rec t f.name e) r.text) (good_expr (known_then (sig_expr (names_at recs at.asm rec)) f.signature))
     else same_name f.name r.text
 
 -- ---- what an element keeps
@@ -126,17 +151,17 @@ preserved recs t kind =
     else if kind == preserve.ALL then all_members recs t
     else []
 
-abbrev pub fits_method : List AsmRec → RootMember → RowAt → Bool
-fits_method recs r at = list_any (method_fits recs r at) (listed (method_row_at recs at))
+abbrev pub fits_method : List AsmRec → RootMember → RowAt → RowAt → Bool
+fits_method recs r t at = list_any (method_fits recs r t at) (listed (method_row_at recs at))
 
-abbrev pub fits_field : List AsmRec → RootMember → RowAt → Bool
-fits_field recs r at = list_any (λ (rec : AsmRec). list_any (field_fits recs r at rec) (listed (slice_get rec.field at.row))) (listed (rec_at recs at))
+abbrev pub fits_field : List AsmRec → RootMember → RowAt → RowAt → Bool
+fits_field recs r t at = list_any (λ (rec : AsmRec). list_any (field_fits recs r t at rec) (listed (slice_get rec.field at.row))) (listed (rec_at recs at))
 
 -- the members that a member element names, all overloads; a property or event with its accessors
 abbrev pub member_by : List AsmRec → RowAt → RootMember → List Fact
 member_by recs t r =
-    if r.kind == member.METHOD then flat_map (keeps_method recs t) (filter (fits_method recs r) (methods_of_type recs t))
-    else if r.kind == member.FIELD then map (marks_field recs) (filter (fits_field recs r) (fields_of_type recs t))
+    if r.kind == member.METHOD then flat_map (keeps_method recs t) (filter (fits_method recs r t) (methods_of_type recs t))
+    else if r.kind == member.FIELD then map (marks_field recs) (filter (fits_field recs r t) (fields_of_type recs t))
     else if r.kind == member.PROPERTY then flat_map (whole_property recs) (filter (is_property_called recs r.text) (properties_of_type recs t))
     else flat_map (whole_event recs) (filter (is_event_called recs r.text) (events_of_type recs t))
 
@@ -177,7 +202,11 @@ abbrev pub module_facts : List AsmRec → List Fact
 module_facts recs =
     flat_map (λ (rec : AsmRec). flat_map (λ (t : TypeDefRow). if is_module_type 0 t then marks_type recs (at_row 0 0) ∷ [] else []) (listed (slice_get rec.type_def 0))) (listed (slice_get recs 0))
 
+-- a method that no type's run has belongs to nobody, and is never marked
+abbrev pub entry_facts : List AsmRec → Option RowAt → List Fact
+entry_facts recs entry = flat_map (λ (at : RowAt). map (λ t. marks_method recs at) (listed (type_of_method recs at))) (listed entry)
+
 -- the primary assembly, its `<Module>`, the entry method, and what descriptors keep
 unfoldable pub start_facts : List AsmRec → Option RowAt → List Root → List Fact
 start_facts recs entry roots =
-    marked (item.Asm (record { 0 = 0 })) ∷ module_facts recs ++ map (marks_method recs) (listed entry) ++ flat_map (root_facts recs) roots
+    marked (item.Asm (record { 0 = 0 })) ∷ module_facts recs ++ entry_facts recs entry ++ flat_map (root_facts recs) roots

@@ -31,7 +31,7 @@ use Rattle.mark_rules.specs.Places.{row_of}
 use Rattle.mark_rules.specs.Naming.{Named, Part, types_in, method_named}
 use Rattle.mark_rules.specs.Naming.Named.{type, method, field}
 use Rattle.mark_rules.specs.Types.{parts_of_type, parts_of_field, parts_of_impl}
-use Rattle.mark_rules.specs.Calls.{parts_of_method, code_of}
+use Rattle.mark_rules.specs.Calls.{parts_of_method, uncaught_parts, code_of}
 use Rattle.mark_rules.specs.Properties.{parts_of_property, parts_of_event}
 use Rattle.mark_rules.specs.Bodies.{is_field_token, is_method_token}
 
@@ -74,7 +74,7 @@ arguments_of_part (Bad why) = []
 abbrev pub arguments_of_parts : List Part → List TypeId
 arguments_of_parts parts = flat_map (λ (p : Part). arguments_of_part p.named) parts
 
--- the parts of an item: operands, locals, signatures, constraints, bases and interface rows
+-- the parts of an item: operands, locals, signatures, constraints, bases, interface rows, and the types that it catches or raises
 abbrev pub parts_of_item : List AsmRec → Item → RowAt → List Part
 parts_of_item recs (item.Asm a) at = []
 parts_of_item recs (item.Typ t) at = parts_of_type recs at
@@ -84,14 +84,33 @@ parts_of_item recs (item.Prop p) at = parts_of_property recs at
 parts_of_item recs (item.Event e) at = parts_of_event recs at
 parts_of_item recs (item.Impl i) at = parts_of_impl recs at
 
--- ---- instructions that show a type
+-- those in which a generic argument is shown: not catch types and event types
+abbrev pub showing_parts : List AsmRec → Item → RowAt → List Part
+showing_parts recs (item.Method m) at = uncaught_parts recs at
+showing_parts recs (item.Event e) at = []
+showing_parts recs i at = parts_of_item recs i at
+
+-- ---- instructions that show a type: its definition, or that of its elements
+
+abbrev pub shown_layer : TypeExpr-F (List TypeId) → List TypeId
+shown_layer (TypeExpr-F.Prim n) = []
+shown_layer (TypeExpr-F.Def t) = t ∷ []
+shown_layer (TypeExpr-F.Inst t args) = t ∷ []
+shown_layer (TypeExpr-F.Array x) = x
+shown_layer (TypeExpr-F.ByRef x) = x
+shown_layer (TypeExpr-F.Var n) = []
+shown_layer (TypeExpr-F.MVar n) = []
+shown_layer (TypeExpr-F.Mod required by x) = x
+
+unfoldable pub definitions_in : TypeExpr → List TypeId
+definitions_in = fold-TypeExpr (List TypeId) shown_layer
 
 abbrev pub known_types : Known TypeExpr → List TypeId
-known_types (Good e) = types_in e
+known_types (Good e) = definitions_in e
 known_types (Bad why) = []
 
 abbrev pub made_types : Known MethodUse → List TypeId
-made_types (Good u) = types_in u.owner
+made_types (Good u) = definitions_in u.owner
 made_types (Bad why) = []
 
 -- `ldtoken` of a field or a method shows nothing
@@ -113,7 +132,7 @@ shown_in recs a rec i _ = []
 abbrev pub shown_code : List AsmRec → ℕ → AsmRec → MethodDefRow → List TypeId
 shown_code recs a rec m = flat_map (λ (i : Instr). shown_in recs a rec i i.operand) (code_of rec m)
 
--- the owner of a `newobj`, the types of `box`, `newarr`, `ldtoken` and `constrained.`, with their arguments and elements
+-- the owner of a `newobj`, the types of `box`, `newarr`, `ldtoken` and `constrained.`; their arguments are shown as parts
 abbrev pub shown_by_item : List AsmRec → Item → RowAt → List TypeId
 shown_by_item recs (item.Method m) at = flat_map (λ (rec : AsmRec). flat_map (shown_code recs at.asm rec) (listed (slice_get rec.method_def at.row))) (listed (rec_at recs at))
 shown_by_item recs _ at = []
@@ -121,7 +140,7 @@ shown_by_item recs _ at = []
 -- ---- the rules
 
 abbrev pub shows : List AsmRec → Item → RowAt → List Fact
-shows recs i at = map shown (arguments_of_parts (parts_of_item recs i at) ++ shown_by_item recs i at)
+shows recs i at = map shown (arguments_of_parts (showing_parts recs i at) ++ shown_by_item recs i at)
 
 -- what a marked item shows
 unfoldable pub item_shows : List AsmRec → Item → List Fact

@@ -1,4 +1,4 @@
--- New names of types. Two kept top-level types of one full name can't both keep it: the later one is renamed `<ASM>NAME`, with the
+-- New names of types. Kept top-level types of two assemblies can't both keep one full name: the later one is renamed `<ASM>NAME`, with the
 -- name of its assembly in angle brackets, and a number behind that where this name is taken too. A type that is public or shown
 -- can't be renamed, so the first such type is a collision with the earlier type.
 use Rattle.std.specs.Prelude.{ℕ, zero, suc, ◌+◌, List, [], ◌∷◌, ◌++◌, length, codes, Option, Some, None, find, ◌%◌, ◌==◌, ◌&&◌, ◌||◌, Bool, true, false, not, if◌then◌else◌}

@@ -1,5 +1,5 @@
 -- Calls and new objects (III.2.1, III.3.19, III.4.2, III.4.21).
-use Rattle.std.specs.Prelude.{ℕ, List, [], ◌∷◌, length, ◌==◌, Bool, false, not, ◌&&◌, ◌||◌, Option, Some, None, if◌then◌else◌}
+use Rattle.std.specs.Prelude.{ℕ, nat_eq, List, [], ◌∷◌, length, ◌==◌, Bool, false, not, ◌&&◌, ◌||◌, Option, Some, None, if◌then◌else◌}
 use Rattle.std.specs.Option.{option_map, option_and_then}
 use Rattle.il_base.specs.declared.opcode.TheConstants.{CALL, CONSTRAINED, READONLY}
 use Rattle.il_base.specs.declared.type_flags.TheConstants as type_flags
@@ -21,7 +21,7 @@ use Rattle.step_rules.specs.Stores.{all_fit, is_value, zero_of, zeros_of}
 use Rattle.step_rules.specs.Places.{at_place, alive, boxed_in}
 use Rattle.step_rules.specs.Objects.{type_of}
 use Rattle.step_rules.specs.Raising.{raise}
-use Rattle.step_rules.specs.Frames.{enter, started, head_of, head_has}
+use Rattle.step_rules.specs.Frames.{enter, started, definition_of, head_of, head_has}
 use Rattle.step_rules.specs.Dispatch.{is_abstract, is_virtual, slots_of, dispatched, path_into_box, this_for}
 use Rattle.step_rules.specs.CoreWords.{Gives}
 use Rattle.step_rules.specs.Core.{core_call}
@@ -82,14 +82,22 @@ call_virtual q here i c vs s value.Null = raise q NullReferenceException s
 call_virtual q here i c vs s (value.Object a) = virtual_on q here i c vs s a
 call_virtual q here i c vs s _ = stuck s
 
--- `constrained.` on a value type (III.2.1): the pointer where the method that is found is the type's own, else a box
+abbrev pub same_definition : Option ℕ → Option ℕ → Bool
+same_definition (Some a) (Some b) = nat_eq a b
+same_definition _ _ = false
+
+-- whether a method's owner has the definition of a type
+abbrev pub is_own : TypeExpr → TypeExpr → Bool
+is_own owner e = same_expr owner e || same_definition (definition_of owner) (definition_of e)
+
+-- `constrained.` on a value type (III.2.1): the pointer where the method that is found stands in the type's definition, else a box
 abbrev pub boxed_on : Queries → Here → Instruction → List Value → State → TypeExpr → Path → Callee → Next
 boxed_on q here i vs s e p found =
     at_place q p s (λ v. made (object.Boxed e v) s (λ a t. runs_on q here i vs t (value.Object a) found))
 
 abbrev pub constrained_found : Queries → Here → Instruction → List Value → State → TypeExpr → Path → Callee → Next
 constrained_found q here i vs s e p found =
-    if same_expr found.called.owner e then runs q here i found (value.Pointer p ∷ vs) s else boxed_on q here i vs s e p found
+    if is_own found.called.owner e then runs q here i found (value.Pointer p ∷ vs) s else boxed_on q here i vs s e p found
 
 -- on a reference the object of the place
 abbrev pub constrained_at : Queries → Here → Instruction → Callee → List Value → State → TypeExpr → Path → Next

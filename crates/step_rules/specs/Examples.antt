@@ -38,7 +38,7 @@ Shifts = Runs (plain_code (int 0 (negsuc 7) ∷ int 1 (pos 1) ∷ binary 2 opcod
 abbrev pub DividesLeast : Type 0
 DividesLeast = Runs (plain_code (int 0 (negsuc 2147483647) ∷ int 1 (negsuc 0) ∷ binary 2 opcode.DIV ∷ ret 3 ∷ [])) [] (Threw (codes "T") overflow)
 
--- a call of a method that adds, and what it printed
+-- a call of a method that adds
 abbrev pub Calls : Type 0
 Calls = Runs (plain_code (int 0 (pos 4) ∷ int 1 (pos 5) ∷ ins 2 form.Call opcode.CALL (queries.method (Good (at_first 1))) ∷ ret 3 ∷ [])) [] (Ended (pos 9))
 
@@ -95,7 +95,7 @@ LoadsField = Steps (one_ins (ins 3 form.Field opcode.LDFLD field_of_c)) (state_a
 -- a field of null, with nobody who catches
 abbrev pub FieldOfNull : Type 0
 FieldOfNull = Steps (one_ins (ins 3 form.Field opcode.LDFLD field_of_c)) (state_at [] (frame_at 3 [] (value.Null ∷ []) []))
-    (over (Threw (codes "T") (codes "Exception was thrown.")))
+    (over (Threw (codes "T") (codes "Object reference not set to an instance of an object.")))
 
 abbrev pub local_0 : Path
 local_0 = record { root = root.Local 0 0; steps = []; of = int32 }
@@ -109,7 +109,7 @@ abbrev pub Points : Type 0
 Points = Steps (one_ins (ins 3 form.Indirect opcode.LDIND_I4 queries.nothing)) (state_at [] (frame_at 3 (value.I4 (pos 3) ∷ []) (value.Pointer local_0 ∷ []) []))
     (went (state_at [] (frame_at 4 (value.I4 (pos 3) ∷ []) (value.I4 (pos 3) ∷ []) [])) [])
 
--- `newarr`, `stelem.i4`, `ldelem.u1` of an array of bytes
+-- `newarr` and `stelem.i4` of an array of int32
 abbrev pub numbers : ℤ → Obj
 numbers n = object.Array int32 (value.I4 (pos 0) ∷ value.I4 n ∷ [])
 

@@ -76,7 +76,8 @@ pub record Method : Type 0 where
   pub signature : Known Signature
   pub body : Option (Known Code)
 
--- what a static field holds at first (II.16.3.2): zero, the value of its bytes, or the object of the empty text
+-- What a field has at first (II.16.3.2): nothing, its bytes, or the object of the empty text. A static field begins as the number of
+-- its bytes where its type is a number, else as zero; InitializeArray takes the bytes whatever the field's type is.
 pub data First : Type 0 where
   blank : First
   bytes : Known (List ℕ) → First

@@ -47,7 +47,11 @@ known_in name.TypeInitializationException = 17
 known_in _ = 18
 
 abbrev pub kin_in : ℕ → CoreName
-kin_in t = if t == 11 then name.DivideByZeroException else if t == 12 then name.OverflowException else if t == 15 then name.ArrayTypeMismatchException else if t == 17 then name.TypeInitializationException else name.Exception
+kin_in t =
+    if t == 11 then name.DivideByZeroException else if t == 12 then name.OverflowException
+    else if t == 13 then name.NullReferenceException else if t == 14 then name.InvalidCastException
+    else if t == 15 then name.ArrayTypeMismatchException else if t == 16 then name.IndexOutOfRangeException
+    else if t == 17 then name.TypeInitializationException else name.Exception
 
 abbrev pub number_of : TypeExpr-F TypeExpr → Option ℕ
 number_of (TypeExpr-F.Def t) = Some t.0

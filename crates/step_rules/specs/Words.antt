@@ -20,7 +20,7 @@ use Rattle.step_rules.specs.State.{State, Frame, Next, went, over, none}
 abbrev pub stuck : State → Next
 stuck s = over (Stuck s.top.method.method s.top.at)
 
--- an operand, a place that is gone or a limit ends the run at this instruction
+-- an operand, a place that is gone, a member that ends the run, or a limit ends the run at this instruction
 abbrev pub stopped : State → Next
 stopped s = over (Stopped s.top.method.method s.top.at)
 

@@ -88,10 +88,15 @@ abbrev pub number_shape : Shape → Option Shape
 number_shape (integer n) = Some (integer n)
 number_shape _ = None
 
--- An enum whose first instance field is a number is as this number; another one is a struct.
-abbrev pub enum_shape : List AsmRec → (TypeExpr → Shape) → List TypeExpr → RowAt → Option Shape
-enum_shape recs below args at =
-    option_and_then (λ e. number_shape (below e)) (option_and_then (cell_type recs args) (first_or_none (instance_fields recs at)))
+-- the shape of an integer, Boolean or Char
+abbrev pub number_in : TypeExpr-F TypeExpr → Option Shape
+number_in (TypeExpr-F.Prim n) = number_shape (prim_shape n)
+number_in _ = None
+
+-- An enum whose first instance field is an integer, Boolean or Char is as this; another one is a struct.
+abbrev pub enum_shape : List AsmRec → List TypeExpr → RowAt → Option Shape
+enum_shape recs args at =
+    option_and_then (λ e. number_in (out-TypeExpr e)) (option_and_then (cell_type recs args) (first_or_none (instance_fields recs at)))
 
 abbrev pub value_shape : List AsmRec → (TypeExpr → Shape) → List TypeExpr → RowAt → Shape
 value_shape recs below args at =
@@ -107,7 +112,7 @@ abbrev pub row_shape : List AsmRec → (TypeExpr → Shape) → List TypeExpr �
 row_shape recs below args at =
     if not (fits_params recs at args) then no_value
     else if not (is_value_type recs at) then reference
-    else or_shape (if is_enum recs at then enum_shape recs below args at else None) (value_shape recs below args at)
+    else or_shape (if is_enum recs at then enum_shape recs args at else None) (value_shape recs below args at)
 
 abbrev pub home_shape : List AsmRec → (TypeExpr → Shape) → List TypeExpr → Option RowAt → Shape
 home_shape recs below args None = no_value
@@ -121,12 +126,19 @@ shape_in recs below (TypeExpr-F.Array x) = reference
 shape_in recs below (TypeExpr-F.ByRef x) = pointer
 shape_in recs below _ = no_value
 
--- a struct of more than so many structs in one another has no value
+-- a value of more than so many structs in one another isn't there; what is no struct counts nothing
 abbrev pub most_nested : ℕ
 most_nested = 1024
 
+-- a handle is a struct too
+abbrev pub without_struct : Shape → Shape
+without_struct (structure cells) = no_value
+without_struct type_handle = no_value
+without_struct field_handle = no_value
+without_struct other = other
+
 unfoldable pub shape_within : List AsmRec → ℕ → TypeExpr → Shape
-shape_within recs zero e = no_value
+shape_within recs zero e = without_struct (shape_in recs (λ d. no_value) (out-TypeExpr (plain e)))
 shape_within recs (suc n) e = shape_in recs (shape_within recs n) (out-TypeExpr (plain e))
 
 unfoldable pub shape_query : List AsmRec → TypeExpr → Shape

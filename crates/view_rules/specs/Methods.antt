@@ -1,17 +1,15 @@
 -- What a world answers on methods, fields and type definitions.
-use Rattle.std.specs.Prelude.{ℕ, suc, ◌/◌, ◌%◌, List, [], ◌∷◌, length, codes, Option, Some, None, slice_get, ◌==◌, ◌&&◌, Bool, false, not, if◌then◌else◌}
+use Rattle.std.specs.Prelude.{ℕ, suc, ◌/◌, ◌%◌, List, [], ◌∷◌, length, codes, Option, Some, None, slice_get, ◌==◌, ◌&&◌, Bool, not, if◌then◌else◌}
 use Rattle.std.specs.List.{list_any, flat_map}
 use Rattle.std.specs.Option.{option_and_then, option_map}
 use Rattle.il_base.specs.declared.body.Body.{Body}
-use Rattle.il_base.specs.declared.element.TheConstants as element
 use Rattle.il_base.specs.declared.outside.TheConstants.{PLATFORM, INTERFACE_BODY, GLOBAL_MEMBER, LAYOUT}
 use Rattle.il_base.specs.declared.table.TheConstants.{FIELD}
 use Rattle.il_base.specs.declared.type_flags.TheConstants.{EXPLICIT_LAYOUT}
 use Rattle.world_model.specs.declared.known.Known.{Known}
-use Rattle.world_model.specs.declared.known.Known.TheVariants.{Good, Bad}
+use Rattle.world_model.specs.declared.known.Known.TheVariants.{Bad}
 use Rattle.world_model.specs.declared.known.BadKind.TheVariants.{Outside}
-use Rattle.world_model.specs.declared.expr.TypeExpr.{TypeExpr, fold-TypeExpr}
-use Rattle.world_model.specs.declared.expr.TypeExpr.TheOpen.{TypeExpr-F}
+use Rattle.world_model.specs.declared.expr.TypeExpr.{TypeExpr}
 use Rattle.world_model.specs.declared.types.TypeDefRow.{TypeDefRow}
 use Rattle.world_model.specs.declared.members.FieldRow.{FieldRow}
 use Rattle.world_model.specs.declared.members.MethodDefRow.{MethodDefRow}
@@ -27,7 +25,7 @@ use Rattle.link_rules.specs.Signatures.{names_at, method_type}
 use Rattle.link_rules.specs.Members.{home_from, type_home, methods_in, fields_in, param_count}
 use Rattle.link_rules.specs.Cycles.{listed, is_static_field}
 use Rattle.type_rules.specs.Slots.{type_of_method}
-use Rattle.type_rules.specs.Rows.{rec_at, type_row_at, owner_of_field, is_enum}
+use Rattle.type_rules.specs.Rows.{rec_at, type_row_at, owner_of_field}
 use Rattle.mark_rules.specs.BadItems.{is_global, is_platform, is_interface_body}
 use Rattle.step_rules.specs.Queries.{Signature, Method, FieldDef, Head, First, Code}
 use Rattle.step_rules.specs.Queries.First.{blank, bytes, empty_text}
@@ -45,7 +43,7 @@ body_by recs a rec b = known_map (code_of recs a rec) b
 abbrev pub is_core_row : List AsmRec → RowAt → Bool
 is_core_row recs at = suc at.asm == length recs
 
--- a platform call, a method of an interface with a body, and a global method count as methods with a bad body
+-- a platform call, a method of an interface that is static or has a body, and a global method count as methods with a bad body
 abbrev pub body_of : List AsmRec → RowAt → AsmRec → MethodDefRow → Option (Known Code)
 body_of recs at rec m =
     if is_core_row recs at then None
@@ -83,21 +81,6 @@ field_type recs at rec owner f =
     else if not (is_static_field f) && has_explicit_layout recs owner then Bad (Outside LAYOUT)
     else known_then (sig_expr (names_at recs at.asm rec)) f.signature
 
--- whether a type is an integer, Boolean, Char or an enum, modifiers aside
-abbrev pub is_number_code : ℕ → Bool
-is_number_code n = not (n == element.VOID) && not (n == element.STRING) && not (n == element.OBJECT)
-
-abbrev pub number_layer : List AsmRec → TypeExpr-F Bool → Bool
-number_layer recs (TypeExpr-F.Prim n) = is_number_code n
-number_layer recs (TypeExpr-F.Def t) = list_any (is_enum recs) (listed (type_home recs t))
-number_layer recs (TypeExpr-F.Inst t args) = list_any (is_enum recs) (listed (type_home recs t))
-number_layer recs (TypeExpr-F.Mod required by x) = x
-number_layer recs _ = false
-
-abbrev pub is_number : List AsmRec → Known TypeExpr → Bool
-is_number recs (Good e) = fold-TypeExpr Bool (number_layer recs) e
-is_number recs (Bad why) = false
-
 abbrev pub bytes_by : ℕ → FieldRvaRow → List (Known (List ℕ))
 bytes_by token row = if row.field == token then row.bytes ∷ [] else []
 
@@ -105,19 +88,19 @@ abbrev pub first_bytes : List (Known (List ℕ)) → First
 first_bytes [] = blank
 first_bytes (b ∷ bs) = bytes b
 
--- String.Empty, the one field of the core library
-abbrev pub first_of : List AsmRec → RowAt → AsmRec → FieldRow → Known TypeExpr → First
-first_of recs at rec f typ =
+-- String.Empty, the one field of the core library, begins with the empty text; any other field has the bytes of its first row
+-- (II.22.18), whatever its type is
+abbrev pub first_of : List AsmRec → RowAt → AsmRec → First
+first_of recs at rec =
     if is_core_row recs at then empty_text
-    else if is_static_field f && is_number recs typ then first_bytes (flat_map (bytes_by (token_of FIELD (suc at.row))) rec.field_rva)
-    else blank
+    else first_bytes (flat_map (bytes_by (token_of FIELD (suc at.row))) rec.field_rva)
 
 abbrev pub field_owner : RowAt → AsmRec → Option RowAt
 field_owner at rec = option_map (at_row at.asm) (owner_of_field rec at.row)
 
 abbrev pub field_by : List AsmRec → RowAt → AsmRec → FieldRow → FieldDef
 field_by recs at rec f =
-    let typ : Known TypeExpr = field_type recs at rec (field_owner at rec) f in record { flags = f.flags; typ = typ; first = first_of recs at rec f typ }
+    record { flags = f.flags; typ = field_type recs at rec (field_owner at rec) f; first = first_of recs at rec }
 
 abbrev pub field_at : List AsmRec → RowAt → Option FieldDef
 field_at recs at = option_and_then (λ (rec : AsmRec). option_map (field_by recs at rec) (slice_get rec.field at.row)) (rec_at recs at)

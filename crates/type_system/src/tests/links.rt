@@ -161,6 +161,9 @@ fn names_that_only_modifiers_use(rt: HostRuntime) -> Result<(), Fail> {
     let world = world(alloc, recs)?;
     assert!(rt; is_type_found(&world, 0x1b00_0001));
     assert!(rt; !is_type_found(&world, 0x0100_0002));
+    Ok(())
+}
+
 /// compiler-controlled
 const COMPILER_CONTROLLED: u16 = 0x00;
 
