@@ -1,0 +1,46 @@
+-- Examples: fields with bytes, and the shapes of enums and structs.
+use Rattle.std.specs.Prelude.{◌≡◌, ℕ, pos, List, [], ◌∷◌, Some}
+use Rattle.std.specs.Option.{option_map}
+use Rattle.il_base.specs.declared.element.TheConstants as element
+use Rattle.world_model.specs.declared.known.Known.TheVariants.{Good}
+use Rattle.world_model.specs.declared.expr.TypeExpr.{TypeExpr}
+use Rattle.world_model.specs.declared.expr.TypeExpr as expr
+use Rattle.cil_values.specs.declared.value.Value.TheVariants as value
+use Rattle.step_rules.specs.Queries.{First}
+use Rattle.step_rules.specs.Queries as queries
+use Rattle.view_rules.specs.Methods.{field_query}
+use Rattle.view_rules.specs.Layouts.{shape_query, shape_within}
+use Rattle.view_rules.specs.Sample.{recs}
+
+abbrev pub Begins : ℕ → First → Type 0
+Begins f first = option_map (λ d. d.first) (field_query recs f) ≡ Some first
+
+abbrev pub def : ℕ → TypeExpr
+def t = expr.Def (record { 0 = t })
+
+-- a field of a struct type has its bytes
+abbrev pub HasBytes : Type 0
+HasBytes = Begins 0 (queries.bytes (Good (1 ∷ 2 ∷ 3 ∷ [])))
+
+abbrev pub HasNone : Type 0
+HasNone = Begins 1 queries.blank
+
+abbrev pub ClassIsReference : Type 0
+ClassIsReference = shape_query recs (def 1) ≡ queries.reference
+
+abbrev pub StructHasCells : Type 0
+StructHasCells = shape_query recs (def 0) ≡ queries.structure []
+
+-- an enum over int32 is an int32, and one over an enum a struct
+abbrev pub EnumIsNumber : Type 0
+EnumIsNumber = shape_query recs (def 2) ≡ queries.integer element.I4
+
+abbrev pub EnumOfEnum : Type 0
+EnumOfEnum = shape_within recs 1 (def 3) ≡ queries.structure (record { cell = queries.of_field 3; typ = def 2; zero = value.I4 (pos 0) } ∷ [])
+
+-- as deep as there may be structs: a struct more isn't there, and a number is
+abbrev pub TooDeep : Type 0
+TooDeep = shape_within recs 0 (def 0) ≡ queries.no_value
+
+abbrev pub NumberIsThere : Type 0
+NumberIsThere = shape_within recs 0 (def 2) ≡ queries.integer element.I4
