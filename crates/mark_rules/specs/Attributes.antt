@@ -129,7 +129,7 @@ enum_size recs at = first_size (flat_map (field_size recs) (fields_of_type recs 
 -- a type's path: the full name of the outermost type, then the names of nested ones, at most n
 abbrev pub path_by : (ℕ → List (List ℕ)) → AsmRec → ℕ → TypeDefRow → Option ℕ → List (List ℕ)
 path_by outer rec k t None = full_name t ∷ []
-path_by outer rec k t (Some around) = outer around ++ full_name t ∷ []
+path_by outer rec k t (Some around) = outer around ++ t.name ∷ []
 
 unfoldable pub path_within : AsmRec → ℕ → ℕ → List (List ℕ)
 path_within rec zero k = []

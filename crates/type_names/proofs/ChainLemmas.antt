@@ -1,10 +1,11 @@
 -- The names of nested types, one more at a time.
-use Rattle.std.proofs.Common.{◌≡◌, ℕ, suc, List, [], ◌∷◌, ◌++◌, Some, None, ◌+◌, ◌-◌, ◌<◌, sym, ap, ◌∙◌, append_assoc, arith}
+use Rattle.std.proofs.Common.{◌≡◌, ℕ, suc, List, [], ◌∷◌, ◌++◌, Option, Some, None, slice_get, ◌+◌, ◌-◌, ◌<◌, refl, sym, ap, ◌∙◌, append_assoc, arith}
 use Rattle.std.proofs.lemmas.List.{append-nil}
+use Rattle.world_model.specs.declared.types.TypeDefRow.{TypeDefRow}
 use Rattle.world_model.specs.declared.record.AsmRec.{AsmRec}
 use Rattle.link_rules.specs.Types.{encloser}
-use Rattle.type_rules.specs.Texts.{row_name}
-use Rattle.type_names.specs.Chains.{own_name, inner_name, inner_names}
+use Rattle.type_rules.specs.Texts.{part_or_none, row_name}
+use Rattle.type_names.specs.Chains.{bare_or_none, bare_name, own_name, inner_name, inner_names}
 
 pub inner_push : (rec : AsmRec) (ks : List ℕ) (k : ℕ) → inner_names rec (ks ++ k ∷ []) ≡ inner_name rec k ++ inner_names rec ks
 unfolding inner_names
@@ -12,7 +13,7 @@ inner_push rec [] k = simp append-nil
 inner_push rec (j ∷ ks) k = ap (λ (t : List ℕ). t ++ inner_name rec j) (inner_push rec ks k) ∙ append_assoc (inner_name rec k) (inner_names rec ks) (inner_name rec j)
 
 -- a name put behind, in which `+` is 43
-pub more_put : (rec : AsmRec) (out signed put full left new : List ℕ) (row : ℕ) → left ≡ new ++ row ∷ [] → signed ≡ out ++ 43 ∷ [] → put ≡ signed ++ own_name rec row → out ++ inner_names rec left ≡ full → put ++ inner_names rec new ≡ full
+pub more_put : (rec : AsmRec) (out signed put full left new : List ℕ) (row : ℕ) → left ≡ new ++ row ∷ [] → signed ≡ out ++ 43 ∷ [] → put ≡ signed ++ bare_name rec row → out ++ inner_names rec left ≡ full → put ++ inner_names rec new ≡ full
 more_put rec out signed put full left new row l s p h = rw (p, s) (simp append_assoc (rw (l, inner_push rec new row) at h))
 
 pub none_inner : (rec : AsmRec) (name inner : List ℕ) → inner ≡ [] → name ++ inner_names rec inner ≡ name
@@ -29,9 +30,15 @@ pub not_nested : (rec : AsmRec) (n i at : ℕ) (inner full : List ℕ) → i < n
 unfolding row_name
 not_nested rec n i at inner full h e g = rw (one_less n i h, ← e) at g
 
+-- a nested type's name has no namespace, whichever type encloses it
+bare_is : (around : ℕ) (t : Option TypeDefRow) → part_or_none (Some around) t ≡ bare_or_none t
+bare_is around None = refl
+bare_is around (Some t) = refl
+
 pub nested : (rec : AsmRec) (n i at around : ℕ) (inner more full : List ℕ) → i < n → Some around ≡ encloser rec at → more ≡ inner ++ at ∷ [] → row_name rec (n - i) at ++ inner_names rec inner ≡ full → row_name rec (n - (i + 1)) around ++ inner_names rec more ≡ full
 unfolding row_name
-nested rec n i at around inner more full h e m g = rw (m, inner_push rec inner at) (simp append_assoc at (rw (one_less n i h, ← e) at g))
+nested rec n i at around inner more full h e m g =
+    rw (m, inner_push rec inner at) (simp append_assoc at (rw (one_less n i h, ← e, bare_is around (slice_get rec.type_def at)) at g))
 
 pub none_left : (rec : AsmRec) (out left full : List ℕ) → left ≡ [] → out ++ inner_names rec left ≡ full → out ≡ full
 none_left rec out left full l h = sym (none_inner rec out left l) ∙ h

@@ -8,7 +8,7 @@ use Rattle.world_model.specs.declared.record.AsmRec.{AsmRec}
 use Rattle.std.specs.Option.{option_map}
 use Rattle.link_rules.specs.declared.row_at.RowAt.{RowAt}
 use Rattle.link_rules.specs.Types.{same_place, encloser, at_row, is_added, listed_at}
-use Rattle.type_rules.specs.Texts.{full_name}
+use Rattle.type_rules.specs.Texts.{part_name}
 use Rattle.type_rules.specs.Searches.{named_from, named_within, nested_along, type_along, type_along_at}
 
 named_below : (rec : AsmRec) (around : Option ℕ) (name : List ℕ) (ts : List TypeDefRow) (k j : ℕ) → named_from rec around name k ts ≡ Some j → j < k + length ts
@@ -19,7 +19,7 @@ named_below rec around name (t ∷ ts) k j h =
       | true ↦ λ e. let s : k ≡ j = cc in omega arith
       | false ↦ λ e. let r = named_below rec around name ts (suc k) j e in omega arith
     ] in
-    f (same_name (full_name t) name && same_place (encloser rec k) around) h
+    f (same_name (part_name (encloser rec k) t) name && same_place (encloser rec k) around) h
 
 nested_below : (rec : AsmRec) (path : List (List ℕ)) (found : Option ℕ) (j : ℕ) → ((k : ℕ) → found ≡ Some k → k < length rec.type_def) → nested_along rec path found ≡ Some j → j < length rec.type_def
 unfolding nested_along

@@ -1,15 +1,24 @@
 -- A type and its enclosers, from inside outwards.
 use Rattle.std.specs.Prelude.{ℕ, List, [], ◌∷◌, ◌++◌, codes, Option, Some, None, slice_get}
+use Rattle.world_model.specs.declared.types.TypeDefRow.{TypeDefRow}
 use Rattle.world_model.specs.declared.record.AsmRec.{AsmRec}
-use Rattle.type_rules.specs.Texts.{name_or_none}
+use Rattle.type_rules.specs.Texts.{part_or_none}
 use Rattle.type_names.specs.declared.chain.Chain.{Chain}
 
--- the name of a row, without its enclosers
-abbrev pub own_name : AsmRec → ℕ → List ℕ
-own_name rec k = name_or_none (slice_get rec.type_def k)
+abbrev pub bare_or_none : Option TypeDefRow → List ℕ
+bare_or_none None = []
+bare_or_none (Some t) = t.name
+
+-- the name of a nested type's row, without a namespace and without its enclosers
+abbrev pub bare_name : AsmRec → ℕ → List ℕ
+bare_name rec k = bare_or_none (slice_get rec.type_def k)
 
 abbrev pub inner_name : AsmRec → ℕ → List ℕ
-inner_name rec k = codes "+" ++ own_name rec k
+inner_name rec k = codes "+" ++ bare_name rec k
+
+-- the name of the row of a type that isn't nested
+abbrev pub own_name : AsmRec → ℕ → List ℕ
+own_name rec k = part_or_none None (slice_get rec.type_def k)
 
 -- the names behind that of the outermost type, of which the last row comes first
 unfoldable pub inner_names : AsmRec → List ℕ → List ℕ

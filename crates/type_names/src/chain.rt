@@ -2,7 +2,7 @@
 
 ghost use Rattle.std.specs.Prelude.{◌≡◌, ◌++◌, length, IfOk, OnOk};
 ghost use Rattle.type_rules.specs.Texts.{full_name, row_name};
-ghost use Rattle.type_names.specs.Chains.{own_name, inner_names, chain_name};
+ghost use Rattle.type_names.specs.Chains.{bare_name, own_name, inner_names, chain_name};
 
 use crate::nested::Nested;
 use il_base::{NoMemory, Seq, Text};
@@ -69,13 +69,23 @@ fn put_inner(rec: &AsmRec, inner: Seq<u32>, out: &mut Text) -> Result<(), NoMemo
             None => return Ok(()),
             Some(row) => {
                 out.push(b'+')?;
-                put_own(rec, row, out)?;
+                put_bare(rec, row, out)?;
             }
         }
     }
 }
 
-/// Puts the name of a row, from 0, at the end.
+/// Puts the name of a nested type's row, from 0, at the end, without a namespace.
+fn put_bare(rec: &AsmRec, row: u32, out: &mut Text) -> Result<(), NoMemory>
+    ensures { OnOk result (out.new ≡ out.old ++ bare_name rec.now row) }
+{
+    if let Some(ty) = rec.type_def.get(row as usize) {
+        out.extend_from_slice(ty.name.as_slice())?;
+    }
+    Ok(())
+}
+
+/// Puts the name of the row, from 0, of a type that isn't nested at the end.
 fn put_own(rec: &AsmRec, row: u32, out: &mut Text) -> Result<(), NoMemory>
     ensures { OnOk result (out.new ≡ out.old ++ own_name rec.now row) }
 {

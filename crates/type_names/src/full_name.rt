@@ -11,7 +11,8 @@ ghost use Rattle.type_names.specs.FullNameLaws.{same_full_name_is_equality, hash
 use std::hash::{Hash, Hasher};
 
 /// A type of an assembly by its name: its namespace, if it has one, a full stop and its name, and the type that encloses
-/// it. Two are equal where the joined names are, wherever the namespace ends.
+/// it. Two are equal where the joined names are, wherever the namespace ends. Where an index is made, a nested type has no
+/// namespace.
 #[derive(Clone, Copy)]
 pub(crate) struct FullName<'a> {
     /// The row, from 0, of the type that encloses it; None for a type that isn't nested.

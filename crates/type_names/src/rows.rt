@@ -1,11 +1,12 @@
-//! The types of an assembly by their full names.
+//! The types of an assembly by their full names, nested ones by their names alone and their enclosers.
 
 ghost use Rattle.std.specs.Prelude.{◌≡◌, IfOk, OnOk};
 ghost use Rattle.std.specs.HashMap.{get};
 ghost use Rattle.link_rules.specs.Types.{or_else};
+ghost use Rattle.type_rules.specs.Texts.{part_name};
 ghost use Rattle.type_rules.specs.Searches.{named_within, nested_along, type_along};
 ghost use Rattle.type_names.specs.declared.full_name.FullName.{FullName};
-ghost use Rattle.type_names.specs.FullNames.{same_full_name, row_if};
+ghost use Rattle.type_names.specs.FullNames.{name_of, same_full_name, row_if};
 
 use crate::full_name::FullName;
 use crate::nested::Nested;
@@ -13,9 +14,9 @@ use il_base::{NoMemory, Text};
 use std::alloc::Global;
 use std::collections::HashMap;
 use std::marker::Model;
-use world_model::AsmRec;
+use world_model::{AsmRec, TypeDefRow};
 
-/// An assembly, and the first type of each full name. Contracts see the record.
+/// An assembly, and the first type of each name and encloser. Contracts see the record.
 #[derive(Drop)]
 pub(crate) struct TypeRows<'a> {
     rec: &'a AsmRec,
@@ -39,6 +40,21 @@ impl<'a> Model for TypeRows<'a> {
     ghost view = { λ t. t.rec.now };
 
     ghost invariant = { λ t. (q : FullName) → get same_full_name t.rows q ≡ named_within t.rec.now q.around (name_of q) };
+}
+
+/// The key of a type with this encloser. A nested type's is its name alone (II.22.37).
+fn key_of<'a>(around: Option<u32>, ty: &'a TypeDefRow) -> FullName<'a>
+    ensures { (result.around ≡ around) × (name_of result ≡ part_name around ty.now) }
+{
+    let namespace = match around {
+        None => ty.namespace.as_slice(),
+        Some(_) => &[],
+    };
+    FullName {
+        around,
+        namespace,
+        name: ty.name.as_slice(),
+    }
 }
 
 /// Puts a row under its full name, where the name has none yet.
@@ -66,17 +82,12 @@ impl<'a> TypeRows<'a> {
             let Ok(row) = u32::try_from(i) else {
                 return Err(NoMemory);
             };
-            let key = FullName {
-                around: nested.encloser(row),
-                namespace: ty.namespace.as_slice(),
-                name: ty.name.as_slice(),
-            };
-            put_first(&mut rows, key, row)?;
+            put_first(&mut rows, key_of(nested.encloser(row), ty), row)?;
         }
         Ok(TypeRows { rec, rows })
     }
 
-    /// The row, from 0, of the first type with this full name in a type of this row.
+    /// The row, from 0, of the first type with this name in a type of this row, or with this full name where it isn't nested.
     pub(crate) fn row(&self, around: Option<u32>, name: &[u8]) -> Option<u32>
         ensures { result ≡ named_within self.now around name.now }
     {

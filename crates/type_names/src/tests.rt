@@ -121,7 +121,7 @@ fn rows(
     Ok(made)
 }
 
-/// Types 0 to 4.
+/// Types 0 to 4. The nested type Inner has a namespace in its row, which its name leaves out.
 fn application(alloc: Global) -> Result<Tables, NoMemory> {
     rows(
         alloc,
@@ -129,7 +129,7 @@ fn application(alloc: Global) -> Result<Tables, NoMemory> {
         &[
             (b"", b"<Module>"),
             (b"N", b"Outer"),
-            (b"", b"Inner"),
+            (b"Own", b"Inner"),
             (b"N", b"Box`1"),
             (b"", b"Deep"),
         ],
@@ -299,7 +299,7 @@ fn finds_by_the_assembly_that_is_named(rt: HostRuntime) -> Result<(), Fail> {
     Ok(())
 }
 
-/// Nested types are found in their enclosers alone.
+/// Nested types are found in their enclosers alone, by their names without a namespace.
 #[test]
 fn finds_nested_types(rt: HostRuntime) -> Result<(), Fail> {
     let alloc = rt.alloc();
@@ -309,6 +309,8 @@ fn finds_nested_types(rt: HostRuntime) -> Result<(), Fail> {
         Some(4)
     );
     assert_eq!(rt; found(alloc, 0, &[b"Inner"], None)?, None);
+    assert_eq!(rt; found(alloc, 0, &[b"Own.Inner"], None)?, None);
+    assert_eq!(rt; found(alloc, 0, &[b"N.Outer", b"Own.Inner"], None)?, None);
     assert_eq!(rt; found(alloc, 0, &[b"N.Outer", b"Deep"], None)?, None);
     Ok(())
 }

@@ -29,16 +29,17 @@ use Rattle.link_rules.specs.Members.{methods_in, fields_in, owns_method, run_of,
 use Rattle.link_rules.specs.Cycles.{listed, same_row, home_of}
 use Rattle.type_rules.specs.Slots.{is_static, is_public, method_row_at, method_home, slot_of, is_slot}
 use Rattle.type_rules.specs.Dispatch.{good_use, body_at}
-use Rattle.type_rules.specs.Texts.{full_name}
+use Rattle.type_rules.specs.Texts.{part_name}
 
 -- ---- types by name
 
 abbrev pub named_from : AsmRec → Option ℕ → List ℕ → ℕ → List TypeDefRow → Option ℕ
 named_from rec around name k [] = None
 named_from rec around name k (t ∷ ts) =
-    if same_name (full_name t) name && same_place (encloser rec k) around then Some k else named_from rec around name (suc k) ts
+    if same_name (part_name (encloser rec k) t) name && same_place (encloser rec k) around then Some k else named_from rec around name (suc k) ts
 
--- the first type of an assembly with this full name and encloser
+-- the first type of an assembly with this encloser and this name, which is the full name of a type that isn't nested, and the
+-- name alone of a nested one, as in its text
 abbrev pub named_within : AsmRec → Option ℕ → List ℕ → Option ℕ
 named_within rec around name = named_from rec around name 0 rec.type_def
 

@@ -1,5 +1,5 @@
--- A type's text: its namespace, a full stop and its name; a nested type behind its encloser and `+`; arguments in brackets
--- behind a constructed type, `[]` behind an array's element, `&` behind what is referred to.
+-- A type's text: its namespace, a full stop and its name; a nested type's name alone, behind its encloser and `+`; arguments
+-- in brackets behind a constructed type, `[]` behind an array's element, `&` behind what is referred to.
 use Rattle.std.specs.Prelude.{ℕ, zero, suc, List, [], ◌∷◌, ◌++◌, length, codes, Option, Some, None, slice_get, Bool, true, false}
 use Rattle.std.specs.Fmt.{decimal}
 use Rattle.il_base.specs.declared.ids.TypeId.{TypeId}
@@ -22,9 +22,15 @@ full_name_of (c ∷ cs) name = (c ∷ cs) ++ codes "." ++ name
 abbrev pub full_name : TypeDefRow → List ℕ
 full_name t = full_name_of t.namespace t.name
 
-abbrev pub name_or_none : Option TypeDefRow → List ℕ
-name_or_none None = []
-name_or_none (Some t) = full_name t
+-- the name of a type with this encloser: a nested type has its name alone, since it has no namespace of its own (II.22.37),
+-- also in a file that gives it one
+abbrev pub part_name : Option ℕ → TypeDefRow → List ℕ
+part_name None t = full_name t
+part_name (Some around) t = t.name
+
+abbrev pub part_or_none : Option ℕ → Option TypeDefRow → List ℕ
+part_or_none around None = []
+part_or_none around (Some t) = part_name around t
 
 -- with its enclosers, at most n of them
 abbrev pub nested_name : (ℕ → List ℕ) → Option ℕ → List ℕ → List ℕ
@@ -33,7 +39,7 @@ nested_name outer (Some k) name = outer k ++ codes "+" ++ name
 
 unfoldable pub row_name : AsmRec → ℕ → ℕ → List ℕ
 row_name rec zero k = []
-row_name rec (suc n) k = nested_name (row_name rec n) (encloser rec k) (name_or_none (slice_get rec.type_def k))
+row_name rec (suc n) k = nested_name (row_name rec n) (encloser rec k) (part_or_none (encloser rec k) (slice_get rec.type_def k))
 
 -- no chain of enclosers of a linked world is longer than its assembly has types
 abbrev pub name_at : List AsmRec → RowAt → List ℕ

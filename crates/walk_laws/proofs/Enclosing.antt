@@ -14,7 +14,7 @@ use Rattle.link_rules.specs.Types.{or_else, encloser_in, encloser}
 use Rattle.link_rules.specs.Cycles.{is_on_cycle, around}
 use Rattle.link_rules.specs.Faults.{first_of, duplicate_assembly, cyclic_types, is_cyclic_around, cyclic_nesting_row, cyclic_nesting, duplicate_member, link_fault}
 use Rattle.link_rules.specs.Linked.{assemblies, link_fault_of}
-use Rattle.type_rules.specs.Texts.{nested_name, name_or_none, row_name}
+use Rattle.type_rules.specs.Texts.{nested_name, part_or_none, row_name}
 use Rattle.walk_laws.specs.Walks.{InLinked, NestsTypes, NamesWhole}
 use Rattle.type_laws.proofs.Within.{in_listed, listed_in}
 use Rattle.type_laws.proofs.Reaching.{Leads, Walks, cyclic}
@@ -108,10 +108,10 @@ module _ (rec : AsmRec) (right : NestsTypes rec) where
   -- ---- a greater bound
 
   nested_by : (n m k : ℕ) (o : Option ℕ) → encloser rec k ≡ o → (Walks (around rec) (suc n) k → ⊥) → ((j : ℕ) → (Walks (around rec) n j → ⊥) → row_name rec m j ≡ row_name rec n j)
-      → nested_name (row_name rec m) o (name_or_none (slice_get rec.type_def k)) ≡ nested_name (row_name rec n) o (name_or_none (slice_get rec.type_def k))
+      → nested_name (row_name rec m) o (part_or_none o (slice_get rec.type_def k)) ≡ nested_name (row_name rec n) o (part_or_none o (slice_get rec.type_def k))
   nested_by n m k None e none more = refl
   nested_by n m k (Some j) e none more =
-      ap (λ (name : List ℕ). nested_name (λ i. name) (Some j) (name_or_none (slice_get rec.type_def k))) (more j (λ w. none (j, listed_in j (encloser rec k) e, w)))
+      ap (λ (name : List ℕ). nested_name (λ i. name) (Some j) (part_or_none (Some j) (slice_get rec.type_def k))) (more j (λ w. none (j, listed_in j (encloser rec k) e, w)))
 
   grown : (n m k : ℕ) → n ≤ m → (Walks (around rec) n k → ⊥) → row_name rec m k ≡ row_name rec n k
   unfolding row_name

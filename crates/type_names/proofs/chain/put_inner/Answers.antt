@@ -6,4 +6,4 @@ returns-in-None c = none_left c.args.rec.now _ _ _ c.in-None.ensures.0 c.loop-le
 
 pub loop-left-preserved : goal.loop-left-preserved
 loop-left-preserved c =
-    more_put c.args.rec.now _ _ _ _ _ _ _ c.in-Some.ensures c.in_ok-push-in-Some.ensures.ok c.in_ok-put_own-in-Some.ensures c.loop-left.invariant
+    more_put c.args.rec.now _ _ _ _ _ _ _ c.in-Some.ensures c.in_ok-push-in-Some.ensures.ok c.in_ok-put_bare-in-Some.ensures c.loop-left.invariant
