@@ -4,6 +4,7 @@ use Rattle.std.specs.List.{list_all}
 use Rattle.il_base.specs.declared.body.Form.{Form}
 use Rattle.il_base.specs.declared.body.Form.TheVariants as form
 use Rattle.il_base.specs.declared.field_flags.TheConstants.{STATIC}
+use Rattle.il_base.specs.Flags.{has_flag}
 use Rattle.world_model.specs.declared.known.Known.{Known}
 use Rattle.world_model.specs.declared.known.Known.TheVariants.{Good, Bad}
 use Rattle.world_model.specs.declared.expr.TypeExpr.{TypeExpr, fold-TypeExpr, out-TypeExpr}
@@ -16,7 +17,6 @@ use Rattle.cil_values.specs.declared.path.Path.{Path}
 use Rattle.cil_values.specs.declared.path.Root.{Root}
 use Rattle.cil_values.specs.declared.path.Root.TheVariants as root
 use Rattle.step_rules.specs.Queries.{Queries, Use, typ, method, field, Instruction, Clause, Code, Signature, Method, FieldDef, Layout, Shape, structure}
-use Rattle.step_rules.specs.Words.{has_flag}
 use Rattle.change_rules.specs.Change.{Keep}
 use Rattle.change_rules.specs.States.{keeps_cell}
 

@@ -1,2 +1,3 @@
 pub mod formers
 pub mod Bytes
+pub mod Flags

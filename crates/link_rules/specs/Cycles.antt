@@ -1,5 +1,8 @@
 -- What a type leads to, and what lies on a cycle (II.10.3, II.22.32, II.22.37).
 use Rattle.std.specs.Prelude.{ℕ, zero, suc, ◌/◌, ◌%◌, List, [], ◌∷◌, ◌++◌, length, Option, Some, None, slice_get, nat_eq, ◌==◌, ◌&&◌, ◌||◌, Bool, not, if◌then◌else◌}
+use Rattle.il_base.specs.declared.table.TheConstants.{TYPE_DEF}
+use Rattle.il_base.specs.declared.field_flags.TheConstants.{STATIC}
+use Rattle.il_base.specs.Flags.{has_flag}
 use Rattle.std.specs.List.{list_any, flat_map}
 use Rattle.std.specs.Option.{option_and_then}
 use Rattle.world_model.specs.declared.expr.TypeExpr.{TypeExpr, fold-TypeExpr}
@@ -68,7 +71,7 @@ abbrev pub interface_of : List AsmRec → ℕ → AsmRec → ℕ → InterfaceIm
 interface_of recs a rec token row = if is_row_of token row then only_interface recs (good_type (token_type recs a rec row.interface)) else []
 
 abbrev pub interfaces_in : List AsmRec → RowAt → AsmRec → List TypeExpr
-interfaces_in recs at rec = flat_map (interface_of recs at.asm rec (token_of 0x02 (suc at.row))) rec.interface_impl
+interfaces_in recs at rec = flat_map (interface_of recs at.asm rec (token_of TYPE_DEF (suc at.row))) rec.interface_impl
 
 unfoldable pub interfaces_at : List AsmRec → RowAt → List TypeExpr
 interfaces_at recs at = flat_map (interfaces_in recs at) (listed (slice_get recs at.asm))
@@ -84,7 +87,7 @@ interface_rows recs at = flat_map (λ e. listed (home_of recs e)) (interfaces_at
 -- ---- value types in instance fields
 
 abbrev pub is_core_row_at : List AsmRec → ℕ → RowAt → Bool
-is_core_row_at recs token at = suc at.asm == length recs && token_of 0x02 (suc at.row) == token
+is_core_row_at recs token at = suc at.asm == length recs && token_of TYPE_DEF (suc at.row) == token
 
 -- whether the base of a type is this type of the core library
 abbrev pub extends_core : List AsmRec → ℕ → RowAt → Bool
@@ -117,7 +120,7 @@ values_in recs = fold-TypeExpr (List RowAt) (values_layer recs)
 
 -- static, of a field's flags (II.23.1.5)
 abbrev pub is_static_field : FieldRow → Bool
-is_static_field f = f.flags / 0x10 % 2 == 1
+is_static_field f = has_flag f.flags STATIC
 
 abbrev pub values_in_field : List AsmRec → ℕ → AsmRec → FieldRow → List RowAt
 values_in_field recs a rec f =

@@ -1,6 +1,8 @@
 -- Which demand on several assemblies fails first: names of assemblies that are taken, types on a cycle, enclosers on a cycle,
 -- members that are there twice, each kind over all assemblies in order.
 use Rattle.std.specs.Prelude.{ℕ, suc, List, [], ◌∷◌, length, Option, Some, None, nat_eq, ◌&&◌, ◌||◌, Bool, false, if◌then◌else◌}
+use Rattle.il_base.specs.declared.table.TheConstants.{TYPE_DEF, FIELD, METHOD_DEF, NESTED_CLASS}
+use Rattle.il_base.specs.declared.reason.TheConstants.{DUPLICATE_ASSEMBLY, CYCLIC_TYPES, CYCLIC_NESTING, DUPLICATE_MEMBER}
 use Rattle.std.specs.List.{list_any, position_from}
 use Rattle.std.specs.Option.{option_map}
 use Rattle.world_model.specs.declared.known.Known.{Known}
@@ -46,7 +48,7 @@ is_taken earlier name = is_core_name name || list_any (same_name name) earlier
 abbrev pub taken_from : List (List ℕ) → ℕ → List AsmRec → Option LinkError
 taken_from earlier i [] = None
 taken_from earlier i (rec ∷ recs) =
-    if is_taken earlier (own_name rec) then Some (fault.Bad i 14 0) else taken_from (own_name rec ∷ earlier) (suc i) recs
+    if is_taken earlier (own_name rec) then Some (fault.Bad i DUPLICATE_ASSEMBLY 0) else taken_from (own_name rec ∷ earlier) (suc i) recs
 
 unfoldable pub duplicate_assembly : List AsmRec → Option LinkError
 duplicate_assembly recs = taken_from [] 0 recs
@@ -61,7 +63,7 @@ is_cyclic_type all at =
     || is_on_cycle same_row (field_values all) (type_count all) at
 
 abbrev pub cyclic_type : List AsmRec → ℕ → ℕ → TypeDefRow → Option LinkError
-cyclic_type all i k t = if is_cyclic_type all (at_row i k) then Some (fault.Bad i 15 (token_of 0x02 (suc k))) else None
+cyclic_type all i k t = if is_cyclic_type all (at_row i k) then Some (fault.Bad i CYCLIC_TYPES (token_of TYPE_DEF (suc k))) else None
 
 -- among these assemblies, in the world of all
 unfoldable pub cyclic_types : List AsmRec → List AsmRec → Option LinkError
@@ -74,7 +76,7 @@ is_cyclic_around rec None = false
 is_cyclic_around rec (Some k) = is_on_cycle nat_eq (around rec) (length rec.type_def) k
 
 abbrev pub cyclic_nesting_row : AsmRec → ℕ → ℕ → NestedClassRow → Option LinkError
-cyclic_nesting_row rec i r row = if is_cyclic_around rec (index_in 0x02 row.nested_class) then Some (fault.Bad i 16 (token_of 0x29 (suc r))) else None
+cyclic_nesting_row rec i r row = if is_cyclic_around rec (index_in TYPE_DEF row.nested_class) then Some (fault.Bad i CYCLIC_NESTING (token_of NESTED_CLASS (suc r))) else None
 
 unfoldable pub cyclic_nesting : List AsmRec → Option LinkError
 cyclic_nesting recs = first_of (λ i (rec : AsmRec). first_of (cyclic_nesting_row rec i) 0 rec.nested_class) 0 recs
@@ -137,18 +139,18 @@ method_key all i rec k m =
     else member_key m.name (position_from (owns_method (suc k)) 0 rec.type_def) (known_then (method_type (names_at all i rec)) m.signature)
 
 abbrev pub repeated_row : ℕ → ℕ → Option ℕ → Option LinkError
-repeated_row i table at = option_map (λ k. fault.Bad i 17 (token_of table (suc k))) at
+repeated_row i table at = option_map (λ k. fault.Bad i DUPLICATE_MEMBER (token_of table (suc k))) at
 
 unfoldable pub repeated_type : ℕ → AsmRec → Option LinkError
-repeated_type i rec = repeated_row i 0x02 (first_repeat same_type_key (numbered (type_key rec) 0 rec.type_def))
+repeated_type i rec = repeated_row i TYPE_DEF (first_repeat same_type_key (numbered (type_key rec) 0 rec.type_def))
 
 unfoldable pub repeated_field : List AsmRec → ℕ → AsmRec → Option LinkError
 repeated_field all i rec =
-    repeated_row i 0x04 (first_repeat (same_member_key same_expr) (numbered (field_key all i rec) 0 rec.field))
+    repeated_row i FIELD (first_repeat (same_member_key same_expr) (numbered (field_key all i rec) 0 rec.field))
 
 unfoldable pub repeated_method : List AsmRec → ℕ → AsmRec → Option LinkError
 repeated_method all i rec =
-    repeated_row i 0x06 (first_repeat (same_member_key same_method_type) (numbered (method_key all i rec) 0 rec.method_def))
+    repeated_row i METHOD_DEF (first_repeat (same_member_key same_method_type) (numbered (method_key all i rec) 0 rec.method_def))
 
 abbrev pub repeated_in : List AsmRec → ℕ → AsmRec → Option LinkError
 repeated_in all i rec = or_else (repeated_type i rec) (or_else (repeated_field all i rec) (repeated_method all i rec))

@@ -2,7 +2,7 @@
 use Rattle.std.specs.Prelude.{◌≡◌, ℕ, suc, ◌+◌, List, [], ◌∷◌, ◌++◌, length, map, Option, Some, None, Result, Ok, Err}
 use Rattle.std.specs.List.{range_with_len}
 use Rattle.il_base.specs.declared.ids.TypeId.{TypeId}
-use Rattle.il_base.specs.declared.table.TheConstants.{TYPE_REF, TYPE_DEF, TYPE_SPEC}
+use Rattle.il_base.specs.declared.table.TheConstants.{TYPE_REF, TYPE_DEF, FIELD, METHOD_DEF, INTERFACE_IMPL, MEMBER_REF, EVENT, PROPERTY, TYPE_SPEC, ASSEMBLY, METHOD_SPEC}
 use Rattle.il_base.specs.declared.ids.Item.{Item}
 use Rattle.il_base.specs.declared.ids.Item.TheVariants as item
 use Rattle.world_model.specs.declared.known.Known.{Known}
@@ -52,13 +52,13 @@ homes_of count item table recs = homes_from count item table 0 0 recs
 
 unfoldable pub homes : List AsmRec → List Home
 homes recs =
-    homes_of (λ rec. 1) (λ n. item.Asm (record { 0 = n })) 0x20 recs
-    ++ homes_of (λ (rec : AsmRec). length rec.type_def) (λ n. item.Typ (record { 0 = n })) 0x02 recs
-    ++ homes_of methods_in (λ n. item.Method (record { 0 = n })) 0x06 recs
-    ++ homes_of fields_in (λ n. item.Field (record { 0 = n })) 0x04 recs
-    ++ homes_of (λ (rec : AsmRec). length rec.property) (λ n. item.Prop (record { 0 = n })) 0x17 recs
-    ++ homes_of (λ (rec : AsmRec). length rec.event) (λ n. item.Event (record { 0 = n })) 0x14 recs
-    ++ homes_of (λ (rec : AsmRec). length rec.interface_impl) (λ n. item.Impl (record { 0 = n })) 0x09 recs
+    homes_of (λ rec. 1) (λ n. item.Asm (record { 0 = n })) ASSEMBLY recs
+    ++ homes_of (λ (rec : AsmRec). length rec.type_def) (λ n. item.Typ (record { 0 = n })) TYPE_DEF recs
+    ++ homes_of methods_in (λ n. item.Method (record { 0 = n })) METHOD_DEF recs
+    ++ homes_of fields_in (λ n. item.Field (record { 0 = n })) FIELD recs
+    ++ homes_of (λ (rec : AsmRec). length rec.property) (λ n. item.Prop (record { 0 = n })) PROPERTY recs
+    ++ homes_of (λ (rec : AsmRec). length rec.event) (λ n. item.Event (record { 0 = n })) EVENT recs
+    ++ homes_of (λ (rec : AsmRec). length rec.interface_impl) (λ n. item.Impl (record { 0 = n })) INTERFACE_IMPL recs
 
 -- ---- what tokens name
 
@@ -76,17 +76,17 @@ method_link a table k to = record { asm = record { 0 = a }; token = token_of tab
 
 unfoldable pub methods_of : List AsmRec → ℕ → AsmRec → List MethodLink
 methods_of all a rec =
-    map (λ k. method_link a 0x06 k (method_def_use all a rec k)) (range_with_len 0 (length rec.method_def))
-    ++ numbered (λ k (row : MemberRefRow). method_link a 0x0a k (method_ref_use all a rec row)) 0 rec.member_ref
-    ++ numbered (λ k (row : MethodSpecRow). method_link a 0x2b k (method_spec_use all a rec row)) 0 rec.method_spec
+    map (λ k. method_link a METHOD_DEF k (method_def_use all a rec k)) (range_with_len 0 (length rec.method_def))
+    ++ numbered (λ k (row : MemberRefRow). method_link a MEMBER_REF k (method_ref_use all a rec row)) 0 rec.member_ref
+    ++ numbered (λ k (row : MethodSpecRow). method_link a METHOD_SPEC k (method_spec_use all a rec row)) 0 rec.method_spec
 
 abbrev pub field_link : ℕ → ℕ → ℕ → Known FieldUse → FieldLink
 field_link a table k to = record { asm = record { 0 = a }; token = token_of table (suc k); to = to }
 
 unfoldable pub fields_of : List AsmRec → ℕ → AsmRec → List FieldLink
 fields_of all a rec =
-    map (λ k. field_link a 0x04 k (field_def_use all a rec k)) (range_with_len 0 (length rec.field))
-    ++ numbered (λ k (row : MemberRefRow). field_link a 0x0a k (field_ref_use all a rec row)) 0 rec.member_ref
+    map (λ k. field_link a FIELD k (field_def_use all a rec k)) (range_with_len 0 (length rec.field))
+    ++ numbered (λ k (row : MemberRefRow). field_link a MEMBER_REF k (field_ref_use all a rec row)) 0 rec.member_ref
 
 -- those of each assembly, one after the other
 abbrev pub links_from : {A : Type 0} → (ℕ → AsmRec → List A) → ℕ → List AsmRec → List A

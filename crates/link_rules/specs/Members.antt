@@ -7,6 +7,7 @@ use Rattle.il_base.specs.declared.type_flags.TheConstants.{INTERFACE}
 use Rattle.il_base.specs.declared.method_flags.TheConstants.{COMPILER_CONTROLLED}
 use Rattle.il_base.specs.declared.ids.TypeId.{TypeId}
 use Rattle.il_base.specs.declared.sig.Sig.{Sig}
+use Rattle.il_base.specs.declared.table.TheConstants.{TYPE_DEF, METHOD_DEF, MEMBER_REF}
 use Rattle.world_model.specs.declared.known.Known.{Known}
 use Rattle.world_model.specs.declared.known.Known.TheVariants.{Good, Bad}
 use Rattle.world_model.specs.declared.known.BadKind.TheVariants.{Unresolved, Outside}
@@ -46,7 +47,7 @@ type_home recs t = home_from types_in 0 recs t.0
 
 -- the type System.Array of the core library
 abbrev pub array_type : List AsmRec → Option TypeId
-array_type recs = option_map (type_id recs (length recs - 1)) (index_in 0x02 ARRAY)
+array_type recs = option_map (type_id recs (length recs - 1)) (index_in TYPE_DEF ARRAY)
 
 -- An array has the members of System.Array (I.8.9.1). A reference, a parameter and a modified type have none.
 abbrev pub owner_in : List AsmRec → TypeExpr-F TypeExpr → Option TypeId
@@ -245,7 +246,7 @@ is_param_of token row = row.owner == token
 
 -- how many generic parameters a type has (II.22.20)
 unfoldable pub param_count : AsmRec → ℕ → ℕ
-param_count rec k = count_by (is_param_of (token_of 0x02 (suc k))) rec.generic_param
+param_count rec k = count_by (is_param_of (token_of TYPE_DEF (suc k))) rec.generic_param
 
 abbrev pub with_own_args : List AsmRec → RowAt → ℕ → TypeExpr
 with_own_args recs at zero = definition_expr recs at
@@ -326,8 +327,8 @@ def_use_at recs a rec (Some k) = method_def_use recs a rec k
 -- a MethodDef or MemberRef token
 unfoldable pub generic_method : List AsmRec → ℕ → AsmRec → ℕ → Known MethodUse
 generic_method recs a rec token =
-    if table_of token == 0x06 then def_use_at recs a rec (row_below (methods_in rec) (index_in 0x06 token))
-    else ref_use_at recs a rec (option_and_then (slice_get rec.member_ref) (index_in 0x0a token))
+    if table_of token == METHOD_DEF then def_use_at recs a rec (row_below (methods_in rec) (index_in METHOD_DEF token))
+    else ref_use_at recs a rec (option_and_then (slice_get rec.member_ref) (index_in MEMBER_REF token))
 
 abbrev pub instantiated : MethodUse → List TypeExpr → MethodUse
 instantiated u args = record { method = u.method; owner = u.owner; args = args }

@@ -2,6 +2,7 @@
 use Rattle.std.specs.Prelude.{ℕ, suc, List, [], length, map, Option, Some, None, slice_get, nat_eq, ◌==◌, ◌&&◌, Bool, if◌then◌else◌}
 use Rattle.std.specs.Option.{option_and_then}
 use Rattle.il_base.specs.declared.sig.MethodSig.{MethodSig}
+use Rattle.il_base.specs.declared.table.TheConstants.{TYPE_SPEC}
 use Rattle.world_model.specs.declared.known.Known.{Known}
 use Rattle.world_model.specs.declared.known.Known.TheVariants.{Good, Bad}
 use Rattle.world_model.specs.declared.known.BadKind.TheVariants.{Unresolved}
@@ -50,7 +51,7 @@ spec_type_at recs a rec (Some row) = spec_type recs a rec row
 -- what a TypeDef, TypeRef or TypeSpec token names
 unfoldable pub token_type : List AsmRec → ℕ → AsmRec → ℕ → Known TypeExpr
 token_type recs a rec token =
-    if table_of token == 0x1b then spec_type_at recs a rec (option_and_then (slice_get rec.type_spec) (index_in 0x1b token))
+    if table_of token == TYPE_SPEC then spec_type_at recs a rec (option_and_then (slice_get rec.type_spec) (index_in TYPE_SPEC token))
     else named_type recs a rec token
 
 -- ---- signatures of members

@@ -50,11 +50,11 @@ assembly_at recs rec k = option_and_then (λ (row : AssemblyRefRow). assembly_na
 
 abbrev pub encloser_in : ℕ → List NestedClassRow → Option ℕ
 encloser_in token [] = None
-encloser_in token (row ∷ rows) = if row.nested_class == token then index_in 0x02 row.enclosing_class else encloser_in token rows
+encloser_in token (row ∷ rows) = if row.nested_class == token then index_in TYPE_DEF row.enclosing_class else encloser_in token rows
 
 -- the type that encloses a type, None for a type that isn't nested
 unfoldable pub encloser : AsmRec → ℕ → Option ℕ
-encloser rec k = encloser_in (token_of 0x02 (suc k)) rec.nested_class
+encloser rec k = encloser_in (token_of TYPE_DEF (suc k)) rec.nested_class
 
 abbrev pub same_place : Option ℕ → Option ℕ → Bool
 same_place None None = true
@@ -79,12 +79,12 @@ type_in rec around namespace name = type_from rec around namespace name 0 rec.ty
 
 abbrev pub is_forwarded : List ℕ → List ℕ → ExportedTypeRow → Bool
 is_forwarded namespace name row =
-    same_name row.name name && same_name row.namespace namespace && table_of row.implementation == 0x23
+    same_name row.name name && same_name row.namespace namespace && table_of row.implementation == ASSEMBLY_REF
 
 abbrev pub forwarder_in : List ℕ → List ℕ → List ExportedTypeRow → Option ℕ
 forwarder_in namespace name [] = None
 forwarder_in namespace name (row ∷ rows) =
-    if is_forwarded namespace name row then index_in 0x23 row.implementation else forwarder_in namespace name rows
+    if is_forwarded namespace name row then index_in ASSEMBLY_REF row.implementation else forwarder_in namespace name rows
 
 -- the assembly to which an assembly forwards the type of this name
 unfoldable pub forwarded_to : List AsmRec → AsmRec → List ℕ → List ℕ → Option ℕ
@@ -131,8 +131,8 @@ nested_type recs namespace name (Some around) =
 -- a type that isn't nested, by the assembly of its scope; 0 and a Module token are the assembly itself
 abbrev pub type_of_scope : List AsmRec → ℕ → AsmRec → TypeRefRow → Option RowAt
 type_of_scope recs a rec row =
-    if table_of row.resolution_scope == 0x00 then top_type recs (length recs) row.namespace row.name a
-    else option_and_then (top_type recs (length recs) row.namespace row.name) (option_and_then (assembly_at recs rec) (index_in 0x23 row.resolution_scope))
+    if table_of row.resolution_scope == MODULE then top_type recs (length recs) row.namespace row.name a
+    else option_and_then (top_type recs (length recs) row.namespace row.name) (option_and_then (assembly_at recs rec) (index_in ASSEMBLY_REF row.resolution_scope))
 
 -- a reference in the type that another reference names, or in an assembly
 abbrev pub ref_type_by : List AsmRec → ℕ → AsmRec → TypeRefRow → (ℕ → Option RowAt) → Option ℕ → Option RowAt
@@ -144,7 +144,7 @@ ref_type_by recs a rec row outer None = type_of_scope recs a rec row
 unfoldable pub ref_type : List AsmRec → ℕ → AsmRec → ℕ → ℕ → Option RowAt
 ref_type recs a rec zero k = None
 ref_type recs a rec (suc n) k =
-    option_and_then (λ (row : TypeRefRow). ref_type_by recs a rec row (ref_type recs a rec n) (index_in 0x01 row.resolution_scope)) (slice_get rec.type_ref k)
+    option_and_then (λ (row : TypeRefRow). ref_type_by recs a rec row (ref_type recs a rec n) (index_in TYPE_REF row.resolution_scope)) (slice_get rec.type_ref k)
 
 abbrev pub ref_at : List AsmRec → ℕ → AsmRec → ℕ → Option RowAt
 ref_at recs a rec k = ref_type recs a rec (length rec.type_ref) k

@@ -3,6 +3,7 @@ use Rattle.std.specs.Prelude.{ℕ, ◌+◌, [], length, nat_eq, Bool, not, ◌&&
 use Rattle.std.specs.Option.{option_map}
 use Rattle.std.specs.Bool.{beq}
 use Rattle.il_base.specs.declared.method_flags.TheConstants.{ABSTRACT, VIRTUAL}
+use Rattle.il_base.specs.Flags.{has_flag}
 use Rattle.world_model.specs.declared.expr.TypeExpr.{TypeExpr}
 use Rattle.world_model.specs.declared.expr.MethodUse.{MethodUse}
 use Rattle.cil_values.specs.declared.value.Value.{Value}
@@ -13,7 +14,7 @@ use Rattle.cil_values.specs.declared.path.Path.{Path}
 use Rattle.cil_values.specs.declared.path.Root.TheVariants as root
 use Rattle.step_rules.specs.Queries.{Queries, Method, Signature}
 use Rattle.step_rules.specs.State.{State, Next}
-use Rattle.step_rules.specs.Words.{given, had, known, required, has_flag, object_at}
+use Rattle.step_rules.specs.Words.{given, had, known, required, object_at}
 use Rattle.step_rules.specs.Closing.{Callee, callee_of, is_void}
 use Rattle.step_rules.specs.Stores.{is_value}
 

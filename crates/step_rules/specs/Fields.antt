@@ -4,6 +4,7 @@ use Rattle.std.specs.Option.{option_map, option_and_then}
 use Rattle.byteorder.specs.Endian.{little_number}
 use Rattle.il_base.specs.declared.opcode.TheConstants.{LDFLD, LDFLDA, STFLD, LDSFLD, LDSFLDA, STSFLD}
 use Rattle.il_base.specs.declared.field_flags.TheConstants.{LITERAL, STATIC}
+use Rattle.il_base.specs.Flags.{has_flag}
 use Rattle.world_model.specs.declared.expr.TypeExpr.{TypeExpr}
 use Rattle.world_model.specs.declared.known.Known.TheVariants.{Good, Bad}
 use Rattle.world_model.specs.Exprs.{same_expr}
@@ -17,7 +18,7 @@ use Rattle.cil_values.specs.declared.path.Root.TheVariants as root
 use Rattle.step_rules.specs.Queries.{Queries, Instruction, Use, First, blank, bytes, empty_text, Cell, of_field, Layout, Shape, integer, structure}
 use Rattle.step_rules.specs.Queries as queries
 use Rattle.step_rules.specs.State.{State, Next}
-use Rattle.step_rules.specs.Words.{Form, Here, stuck, stopped, given, had, required, popped, has_flag, args_of, good, goes, object_at}
+use Rattle.step_rules.specs.Words.{Form, Here, stuck, stopped, given, had, required, popped, args_of, good, goes, object_at}
 use Rattle.step_rules.specs.Closing.{Accessed, closed_field, closed_cell}
 use Rattle.step_rules.specs.Integers.{number, width_of}
 use Rattle.step_rules.specs.Stores.{Parts, parts_of, fits, zero_of}

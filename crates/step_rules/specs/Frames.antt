@@ -2,6 +2,7 @@
 use Rattle.std.specs.Prelude.{ℕ, ◌+◌, List, [], ◌∷◌, ◌++◌, length, nat_lt, Bool, false, not, ◌||◌, Option, Some, None, find, if◌then◌else◌}
 use Rattle.std.specs.Option.{option_map, option_and_then}
 use Rattle.il_base.specs.declared.type_flags.TheConstants.{BEFORE_FIELD_INIT}
+use Rattle.il_base.specs.Flags.{has_flag}
 use Rattle.world_model.specs.declared.expr.TypeExpr.{TypeExpr, out-TypeExpr}
 use Rattle.world_model.specs.declared.expr.TypeExpr.TheOpen.{TypeExpr-F}
 use Rattle.world_model.specs.declared.expr.MethodUse.{MethodUse}
@@ -9,7 +10,7 @@ use Rattle.world_model.specs.Exprs.{same_expr}
 use Rattle.cil_values.specs.declared.value.Value.{Value}
 use Rattle.step_rules.specs.Queries.{Queries, Code, Head}
 use Rattle.step_rules.specs.State.{State, Frame, Next, went, none, Waits, starts, Init, begun, ended, failed}
-use Rattle.step_rules.specs.Words.{given, had, known, within, good, args_of, has_flag}
+use Rattle.step_rules.specs.Words.{given, had, known, within, good, args_of}
 use Rattle.step_rules.specs.Closing.{Callee, callee_of, closed_slot, all_of}
 use Rattle.step_rules.specs.Stores.{zero_of}
 use Rattle.step_rules.specs.Raising.{throw}

@@ -2,6 +2,7 @@
 use Rattle.std.specs.Prelude.{ℕ, zero, suc, nat_eq, List, [], ◌∷◌, ◌++◌, Bool, true, false, not, ◌&&◌, ◌||◌, Option, Some, None}
 use Rattle.il_base.specs.declared.element.TheConstants.{I4, STRING}
 use Rattle.il_base.specs.declared.method_flags.TheConstants.{STATIC}
+use Rattle.il_base.specs.Flags.{has_flag}
 use Rattle.world_model.specs.declared.known.Known.{Known}
 use Rattle.world_model.specs.declared.known.Known.TheVariants.{Good, Bad}
 use Rattle.world_model.specs.declared.expr.TypeExpr.{TypeExpr}
@@ -13,7 +14,6 @@ use Rattle.cil_values.specs.declared.end.End.TheVariants.{Stopped, Stuck}
 use Rattle.cil_values.specs.declared.value.Value.{Value}
 use Rattle.step_rules.specs.Queries.{Queries, Method, Signature, Code}
 use Rattle.step_rules.specs.State.{State, Next, went, over, nothing, opens, begun}
-use Rattle.step_rules.specs.Words.{has_flag}
 use Rattle.step_rules.specs.Closing.{Callee, callee_of, takes, is_void}
 use Rattle.step_rules.specs.Frames.{frame_of, zero_locals, initializer, with_init}
 use Rattle.step_rules.specs.Input.{decoded}

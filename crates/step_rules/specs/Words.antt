@@ -1,6 +1,6 @@
 -- The words in which each form of instruction is written: a continuation goes on with what a look-up or the stack gave,
 -- and what is missing ends the run.
-use Rattle.std.specs.Prelude.{ℕ, ◌/◌, ◌%◌, ◌==◌, nat_eq, nat_le, nat_lt, pos, List, [], ◌∷◌, ◌++◌, length, take, drop, reverse, Bool, true, false, not, ◌&&◌, ◌||◌, Option, Some, None, slice_get, find, if◌then◌else◌}
+use Rattle.std.specs.Prelude.{ℕ, nat_eq, nat_le, nat_lt, pos, List, [], ◌∷◌, ◌++◌, length, take, drop, reverse, Bool, true, false, not, ◌&&◌, ◌||◌, Option, Some, None, slice_get, find, if◌then◌else◌}
 use Rattle.std.specs.List.{list_all}
 use Rattle.std.specs.Option.{option_and_then}
 use Rattle.world_model.specs.declared.known.Known.{Known}
@@ -55,10 +55,6 @@ unfoldable pub taken : ℕ → List Value → Option (List Value × List Value)
 taken n stack = if nat_le n (length stack) then Some (reverse (take n stack), drop n stack) else None
 
 -- ---- numbers
-
--- whether a flag of one bit is set
-abbrev pub has_flag : ℕ → ℕ → Bool
-has_flag flags bit = flags / bit % 2 == 1
 
 -- what a comparison gives (III.3.21)
 abbrev pub truth_value : Bool → Value

@@ -3,6 +3,7 @@ use Rattle.std.specs.Prelude.{ℕ, suc, ◌+◌, ◌-◌, List, [], ◌∷◌, l
 use Rattle.std.specs.List.{list_any, flat_map, range_with_len}
 use Rattle.std.specs.Option.{option_map, option_and_then}
 use Rattle.il_base.specs.declared.ids.MethodId.{MethodId}
+use Rattle.il_base.specs.declared.table.TheConstants.{TYPE_DEF}
 use Rattle.world_model.specs.declared.known.Known.{Known}
 use Rattle.world_model.specs.declared.known.Known.TheVariants.{Good, Bad}
 use Rattle.world_model.specs.declared.expr.TypeExpr.{TypeExpr}
@@ -51,7 +52,7 @@ impl_body recs e declares declaration body =
 
 abbrev pub impl_of_row : List AsmRec → TypeExpr → (MethodUse → Bool) → RowAt → AsmRec → MethodImplRow → Option RowAt
 impl_of_row recs e declares at rec row =
-    if row.class == token_of 0x02 (suc at.row)
+    if row.class == token_of TYPE_DEF (suc at.row)
     then option_and_then (λ (d : MethodUse). option_and_then (impl_body recs e declares d) (good_use (generic_method recs at.asm rec row.body))) (good_use (generic_method recs at.asm rec row.declaration))
     else None
 

@@ -2,10 +2,11 @@
 use Rattle.std.specs.Prelude.{ℕ, suc, ◌+◌, ◌-◌, ◌/◌, ◌%◌, List, [], ◌∷◌, ◌++◌, length, map, codes, Option, Some, None, slice_get, ◌==◌, ◌&&◌, ◌||◌, Bool, false, not, if◌then◌else◌}
 use Rattle.std.specs.List.{list_any, flat_map, filter, range_with_len}
 use Rattle.std.specs.Option.{option_map, option_and_then}
-use Rattle.il_base.specs.declared.table.TheConstants.{METHOD_DEF}
+use Rattle.il_base.specs.declared.table.TheConstants.{TYPE_DEF, METHOD_DEF, EVENT, PROPERTY}
 use Rattle.il_base.specs.declared.ids.TypeId.{TypeId}
 use Rattle.il_base.specs.declared.ids.Item.{Item}
 use Rattle.il_base.specs.declared.ids.Item.TheVariants as item
+use Rattle.il_base.specs.declared.field_flags.TheConstants as field_flags
 use Rattle.world_model.specs.declared.expr.TypeExpr.{TypeExpr}
 use Rattle.world_model.specs.declared.expr.MethodUse.{MethodUse}
 use Rattle.world_model.specs.declared.types.TypeDefRow.{TypeDefRow}
@@ -102,10 +103,10 @@ field_test recs test at = list_any (λ (rec : AsmRec). list_any test (listed (sl
 
 -- public, of a field's flags (II.23.1.5)
 abbrev pub is_public_field : List ℕ → FieldRow → Bool
-is_public_field name f = same_name f.name name && f.flags % 8 == 6
+is_public_field name f = same_name f.name name && f.flags % 8 == field_flags.PUBLIC
 
 abbrev pub is_public_instance_field : List ℕ → FieldRow → Bool
-is_public_instance_field name f = is_public_field name f && f.flags / 0x10 % 2 == 0
+is_public_instance_field name f = is_public_field name f && f.flags / field_flags.STATIC % 2 == 0
 
 abbrev pub hides_nothing : RowAt → RowAt → Bool
 hides_nothing x y = false
@@ -142,7 +143,7 @@ declares recs slot d = list_any (λ at. same_slot slot (slot_of recs at)) (liste
 
 abbrev pub is_impl : List AsmRec → TypeExpr → RowAt → Option RowAt → RowAt → AsmRec → MethodImplRow → Bool
 is_impl recs e body slot at rec row =
-    row.class == token_of 0x02 (suc at.row)
+    row.class == token_of TYPE_DEF (suc at.row)
     && list_any (λ (b : MethodUse). list_any (same_row body) (listed (option_and_then (body_at recs e) (method_home recs b.method)))) (listed (good_use (generic_method recs at.asm rec row.body)))
     && list_any (declares recs slot) (listed (good_use (generic_method recs at.asm rec row.declaration)))
 
@@ -189,13 +190,13 @@ abbrev pub property_run : AsmRec → ℕ → PropertyMapRow → List ℕ
 property_run rec token row = if row.parent == token then places row.property_list_first row.property_list_end rec.property else []
 
 abbrev pub property_places : AsmRec → TypeDefRow → ℕ → List ℕ
-property_places rec t k = flat_map (property_run rec (token_of 0x02 (suc k))) rec.property_map
+property_places rec t k = flat_map (property_run rec (token_of TYPE_DEF (suc k))) rec.property_map
 
 abbrev pub event_run : AsmRec → ℕ → EventMapRow → List ℕ
 event_run rec token row = if row.parent == token then places row.event_list_first row.event_list_end rec.event else []
 
 abbrev pub event_places : AsmRec → TypeDefRow → ℕ → List ℕ
-event_places rec t k = flat_map (event_run rec (token_of 0x02 (suc k))) rec.event_map
+event_places rec t k = flat_map (event_run rec (token_of TYPE_DEF (suc k))) rec.event_map
 
 abbrev pub is_property_named : List AsmRec → List ℕ → RowAt → Bool
 is_property_named recs name at =
@@ -207,15 +208,15 @@ is_event_named recs name at =
 
 unfoldable pub properties_named : List AsmRec → List ℕ → List TypeExpr → List RowAt
 properties_named recs name es =
-    collected (accessors_override recs es 0x17) (rows_of recs property_places)
-    (λ at. is_property_named recs name at && accessor_test recs 0x17 is_public_accessor at)
-    (λ at. is_property_named recs name at && accessor_test recs 0x17 is_public_accessor at && accessor_test recs 0x17 is_instance_accessor at) es
+    collected (accessors_override recs es PROPERTY) (rows_of recs property_places)
+    (λ at. is_property_named recs name at && accessor_test recs PROPERTY is_public_accessor at)
+    (λ at. is_property_named recs name at && accessor_test recs PROPERTY is_public_accessor at && accessor_test recs PROPERTY is_instance_accessor at) es
 
 unfoldable pub events_named : List AsmRec → List ℕ → List TypeExpr → List RowAt
 events_named recs name es =
-    collected (accessors_override recs es 0x14) (rows_of recs event_places)
-    (λ at. is_event_named recs name at && accessor_test recs 0x14 is_public_accessor at)
-    (λ at. is_event_named recs name at && accessor_test recs 0x14 is_public_accessor at && accessor_test recs 0x14 is_instance_accessor at) es
+    collected (accessors_override recs es EVENT) (rows_of recs event_places)
+    (λ at. is_event_named recs name at && accessor_test recs EVENT is_public_accessor at)
+    (λ at. is_event_named recs name at && accessor_test recs EVENT is_public_accessor at && accessor_test recs EVENT is_instance_accessor at) es
 
 -- ---- all kinds
 

@@ -4,6 +4,8 @@ use Rattle.std.specs.Prelude.{ℕ, zero, suc, ◌/◌, ◌%◌, List, [], ◌∷
 use Rattle.std.specs.List.{position_from}
 use Rattle.std.specs.Option.{option_map, option_and_then}
 use Rattle.il_base.specs.declared.ids.MethodId.{MethodId}
+use Rattle.il_base.specs.declared.method_flags.TheConstants.{PUBLIC, STATIC, VIRTUAL, NEW_SLOT}
+use Rattle.il_base.specs.Flags.{has_flag}
 use Rattle.world_model.specs.declared.known.Known.{Known}
 use Rattle.world_model.specs.declared.known.Known.TheVariants.{Good, Bad}
 use Rattle.world_model.specs.declared.expr.TypeExpr.{TypeExpr}
@@ -23,16 +25,16 @@ use Rattle.link_rules.specs.Cycles.{same_row}
 -- ---- flags (II.23.1.10)
 
 abbrev pub is_static : MethodDefRow → Bool
-is_static m = m.flags / 0x10 % 2 == 1
+is_static m = has_flag m.flags STATIC
 
 abbrev pub is_virtual : MethodDefRow → Bool
-is_virtual m = m.flags / 0x40 % 2 == 1
+is_virtual m = has_flag m.flags VIRTUAL
 
 abbrev pub is_new_slot : MethodDefRow → Bool
-is_new_slot m = m.flags / 0x100 % 2 == 1
+is_new_slot m = has_flag m.flags NEW_SLOT
 
 abbrev pub is_public : MethodDefRow → Bool
-is_public m = m.flags % 8 == 6
+is_public m = m.flags % 8 == PUBLIC
 
 -- ---- methods by their rows
 

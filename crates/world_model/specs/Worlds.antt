@@ -2,9 +2,10 @@
 use Rattle.std.specs.Prelude.{ℕ, zero, suc, ◌+◌, ◌-◌, List, [], ◌∷◌, length, codes, Option, Some, None, slice_get, position, find, nat_lt, ◌==◌, Bool, if◌then◌else◌}
 use Rattle.std.specs.Option.{option_map, option_and_then}
 use Rattle.il_base.specs.declared.ids.TypeId.{TypeId}
-use Rattle.il_base.specs.declared.table.TheConstants.{TYPE_REF}
+use Rattle.il_base.specs.declared.table.TheConstants.{TYPE_REF, TYPE_DEF, FIELD, METHOD_DEF, MEMBER_REF, TYPE_SPEC, METHOD_SPEC}
 use Rattle.il_base.specs.declared.sig.Sig.{Sig, fold-Sig}
 use Rattle.il_base.specs.declared.sig.Sig.TheOpen.{Sig-F}
+use Rattle.il_base.specs.declared.element.TheConstants as element
 use Rattle.world_model.specs.declared.known.Known.{Known}
 use Rattle.world_model.specs.declared.known.Known.TheVariants.{Good, Bad}
 use Rattle.world_model.specs.declared.known.BadKind.TheVariants.{Unresolved}
@@ -72,9 +73,9 @@ type_rows rec = length rec.type_ref + (length rec.type_def + length rec.type_spe
 
 unfoldable pub type_row : AsmRec → ℕ → Option ℕ
 type_row rec token =
-    if table_of token == 0x01 then row_below (length rec.type_ref) (index_in 0x01 token)
-    else if table_of token == 0x02 then behind (length rec.type_ref) (row_below (length rec.type_def) (index_in 0x02 token))
-    else behind (length rec.type_ref + length rec.type_def) (row_below (length rec.type_spec) (index_in 0x1b token))
+    if table_of token == TYPE_REF then row_below (length rec.type_ref) (index_in TYPE_REF token)
+    else if table_of token == TYPE_DEF then behind (length rec.type_ref) (row_below (length rec.type_def) (index_in TYPE_DEF token))
+    else behind (length rec.type_ref + length rec.type_def) (row_below (length rec.type_spec) (index_in TYPE_SPEC token))
 
 -- MethodDef, MemberRef and MethodSpec rows, in this order
 abbrev pub method_rows : AsmRec → ℕ
@@ -82,9 +83,9 @@ method_rows rec = length rec.method_def + (length rec.member_ref + length rec.me
 
 unfoldable pub method_row : AsmRec → ℕ → Option ℕ
 method_row rec token =
-    if table_of token == 0x06 then row_below (length rec.method_def) (index_in 0x06 token)
-    else if table_of token == 0x0a then behind (length rec.method_def) (row_below (length rec.member_ref) (index_in 0x0a token))
-    else behind (length rec.method_def + length rec.member_ref) (row_below (length rec.method_spec) (index_in 0x2b token))
+    if table_of token == METHOD_DEF then row_below (length rec.method_def) (index_in METHOD_DEF token)
+    else if table_of token == MEMBER_REF then behind (length rec.method_def) (row_below (length rec.member_ref) (index_in MEMBER_REF token))
+    else behind (length rec.method_def + length rec.member_ref) (row_below (length rec.method_spec) (index_in METHOD_SPEC token))
 
 -- Field and MemberRef rows, in this order
 abbrev pub field_rows : AsmRec → ℕ
@@ -92,8 +93,8 @@ field_rows rec = length rec.field + length rec.member_ref
 
 unfoldable pub field_row : AsmRec → ℕ → Option ℕ
 field_row rec token =
-    if table_of token == 0x04 then row_below (length rec.field) (index_in 0x04 token)
-    else behind (length rec.field) (row_below (length rec.member_ref) (index_in 0x0a token))
+    if table_of token == FIELD then row_below (length rec.field) (index_in FIELD token)
+    else behind (length rec.field) (row_below (length rec.member_ref) (index_in MEMBER_REF token))
 
 -- the place of a token's link among all links of its kind
 unfoldable pub link_place : (AsmRec → ℕ) → (AsmRec → ℕ → Option ℕ) → List AsmRec → ℕ → ℕ → Option ℕ
@@ -127,9 +128,9 @@ field_at w a token = option_map (λ (l : FieldLink). l.to) (option_and_then (sli
 -- the element types that the core library's types of these names have (II.23.1.16)
 unfoldable pub prims : List (ℕ × List ℕ)
 prims =
-    (0x01, codes "Void") ∷ (0x02, codes "Boolean") ∷ (0x03, codes "Char") ∷ (0x04, codes "SByte") ∷ (0x05, codes "Byte")
-    ∷ (0x06, codes "Int16") ∷ (0x07, codes "UInt16") ∷ (0x08, codes "Int32") ∷ (0x09, codes "UInt32") ∷ (0x0a, codes "Int64")
-    ∷ (0x0b, codes "UInt64") ∷ (0x0e, codes "String") ∷ (0x18, codes "IntPtr") ∷ (0x19, codes "UIntPtr") ∷ (0x1c, codes "Object") ∷ []
+    (element.VOID, codes "Void") ∷ (element.BOOLEAN, codes "Boolean") ∷ (element.CHAR, codes "Char") ∷ (element.I1, codes "SByte") ∷ (element.U1, codes "Byte")
+    ∷ (element.I2, codes "Int16") ∷ (element.U2, codes "UInt16") ∷ (element.I4, codes "Int32") ∷ (element.U4, codes "UInt32") ∷ (element.I8, codes "Int64")
+    ∷ (element.U8, codes "UInt64") ∷ (element.STRING, codes "String") ∷ (element.I, codes "IntPtr") ∷ (element.U, codes "UIntPtr") ∷ (element.OBJECT, codes "Object") ∷ []
 
 abbrev pub is_prim_name : List ℕ → ℕ × List ℕ → Bool
 is_prim_name name p = same_name name p.1
@@ -157,7 +158,7 @@ prim_type recs n = option_map (λ k. type_id recs (length recs - 1) k) (position
 -- The type that a TypeDef or TypeRef token names, which is a definition or a primitive. A TypeSpec token in a signature
 -- names nothing.
 unfoldable pub named_in : (ℕ → Option (Known TypeExpr)) → ℕ → Known TypeExpr
-named_in types token = if table_of token == 0x1b then Bad Unresolved else known_or (types token)
+named_in types token = if table_of token == TYPE_SPEC then Bad Unresolved else known_or (types token)
 
 abbrev pub known_type : Option TypeId → Known TypeId
 known_type None = Bad Unresolved
