@@ -9,7 +9,10 @@ use Rattle.std.proofs.lemmas.Bool.Decides.{same_from_decides, Decides-ltb}
 use Rattle.std.proofs.lemmas.Option.{slice_get-map}
 use Rattle.world_model.specs.declared.expr.TypeExpr.{TypeExpr}
 use Rattle.cil_values.specs.declared.value.Value.{Value}
-use Rattle.step_rules.specs.Queries.{Queries, Cell, of_field, message, inner, Layout}
+use Rattle.cil_values.specs.declared.layout.Cell.{Cell}
+use Rattle.cil_values.specs.declared.layout.Layout.{Layout}
+use Rattle.cil_values.specs.declared.layout.Cell.TheVariants.{Field as of_field, Message as message, Inner as inner}
+use Rattle.step_rules.specs.Queries.{Queries}
 use Rattle.step_rules.specs.Stores.{zeros_of}
 use Rattle.step_rules.specs.Places.{same_cell, cell_place, cell_of, set_if, with_cell}
 use Rattle.change_rules.specs.Keeping.{keep, rank}

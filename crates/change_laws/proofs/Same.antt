@@ -13,7 +13,7 @@ use Rattle.world_model.proofs.SameExpr.{same_decides}
 use Rattle.cil_values.specs.declared.path.Path.{Path}
 use Rattle.cil_values.specs.declared.path.Root.{Root}
 use Rattle.cil_values.specs.declared.path.Root.TheVariants as root
-use Rattle.step_rules.specs.State.{Global}
+use Rattle.cil_values.specs.declared.state.Global.{Global}
 use Rattle.step_rules.specs.Comparisons.{same_root, same_place}
 use Rattle.step_rules.specs.Places.{is_global}
 use Rattle.change_rules.specs.Change.{Rho, Undone}

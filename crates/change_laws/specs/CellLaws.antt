@@ -3,7 +3,8 @@ use Rattle.std.specs.Prelude.{◌≡◌, List, IsTrue}
 use Rattle.std.specs.Option.{option_map}
 use Rattle.world_model.specs.declared.expr.TypeExpr.{TypeExpr}
 use Rattle.cil_values.specs.declared.value.Value.{Value}
-use Rattle.step_rules.specs.Queries.{Queries, Cell}
+use Rattle.cil_values.specs.declared.layout.Cell.{Cell}
+use Rattle.step_rules.specs.Queries.{Queries}
 use Rattle.step_rules.specs.Stores.{zeros_of}
 use Rattle.step_rules.specs.Places.{cell_of, with_cell}
 use Rattle.change_rules.specs.Change.{Change}

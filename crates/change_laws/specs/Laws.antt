@@ -6,7 +6,8 @@ use Rattle.world_model.specs.declared.expr.MethodUse.{MethodUse}
 use Rattle.world_model.specs.declared.expr.FieldUse.{FieldUse}
 use Rattle.world_model.specs.Exprs.{subst, same_expr}
 use Rattle.cil_values.specs.declared.path.Path.{Path}
-use Rattle.step_rules.specs.State.{Global, Started}
+use Rattle.cil_values.specs.declared.state.Global.{Global}
+use Rattle.cil_values.specs.declared.state.Started.{Started}
 use Rattle.step_rules.specs.Comparisons.{same_place}
 use Rattle.step_rules.specs.Places.{is_global}
 use Rattle.change_rules.specs.Change.{Rho, Undone, Keep}

@@ -7,7 +7,9 @@ use Rattle.world_model.specs.declared.expr.TypeExpr.{TypeExpr}
 use Rattle.world_model.specs.declared.expr.MethodUse.{MethodUse}
 use Rattle.core_table.specs.declared.names.CoreName.{CoreName}
 use Rattle.core_table.specs.declared.names.CoreName.TheVariants as name
-use Rattle.step_rules.specs.Queries.{Queries, Method, FieldDef}
+use Rattle.cil_values.specs.declared.definition.Method.{Method}
+use Rattle.cil_values.specs.declared.definition.FieldDef.{FieldDef}
+use Rattle.step_rules.specs.Queries.{Queries}
 use Rattle.step_rules.specs.Stores.{is_value}
 use Rattle.change_rules.specs.Keeping.{keep}
 use Rattle.change_rules.specs.Change.{Keep, Change}

@@ -2,7 +2,19 @@
 use Rattle.std.specs.Prelude.{map}
 use Rattle.std.specs.Option.{option_map}
 use Rattle.world_model.specs.Worlds.{known_map}
-use Rattle.step_rules.specs.Queries.{Use, typ, method, field, Instruction, Clause, Code, Signature, Method, FieldDef, Cell, of_field, Layout, Shape, structure}
+use Rattle.cil_values.specs.declared.resolved.Use.{Use}
+use Rattle.cil_values.specs.declared.resolved.Instruction.{Instruction}
+use Rattle.cil_values.specs.declared.resolved.Clause.{Clause}
+use Rattle.cil_values.specs.declared.resolved.Code.{Code}
+use Rattle.cil_values.specs.declared.definition.Signature.{Signature}
+use Rattle.cil_values.specs.declared.definition.Method.{Method}
+use Rattle.cil_values.specs.declared.definition.FieldDef.{FieldDef}
+use Rattle.cil_values.specs.declared.layout.Cell.{Cell}
+use Rattle.cil_values.specs.declared.layout.Layout.{Layout}
+use Rattle.cil_values.specs.declared.layout.Shape.{Shape}
+use Rattle.cil_values.specs.declared.resolved.Use.TheVariants.{Typ as typ, Method as method, Field as field}
+use Rattle.cil_values.specs.declared.layout.Cell.TheVariants.{Field as of_field}
+use Rattle.cil_values.specs.declared.layout.Shape.TheVariants.{Structure as structure}
 use Rattle.step_rules.specs.Words.{Here}
 use Rattle.step_rules.specs.Closing.{Callee, Accessed}
 use Rattle.step_rules.specs.Stores.{Parts, Access, by_type}

@@ -6,7 +6,15 @@ use Rattle.il_base.specs.declared.ids.Item.TheVariants as item
 use Rattle.cil_values.specs.declared.object.Obj.{Obj}
 use Rattle.cil_values.specs.declared.object.Obj.TheVariants as object
 use Rattle.step_rules.specs.Queries.{Queries}
-use Rattle.step_rules.specs.State.{State, Frame, Prefix, constrained, Waits, starts, opens, core, Global, Started, Next, went, over}
+use Rattle.cil_values.specs.declared.state.State.{State}
+use Rattle.cil_values.specs.declared.frame.Frame.{Frame}
+use Rattle.cil_values.specs.declared.frame.Prefix.{Prefix}
+use Rattle.cil_values.specs.declared.frame.Waits.{Waits}
+use Rattle.cil_values.specs.declared.state.Global.{Global}
+use Rattle.cil_values.specs.declared.state.Started.{Started}
+use Rattle.cil_values.specs.declared.frame.Prefix.TheVariants.{Constrained as constrained}
+use Rattle.cil_values.specs.declared.frame.Waits.TheVariants.{Starts as starts, Opens as opens, Core as core}
+use Rattle.step_rules.specs.Next.{Next, went, over}
 use Rattle.change_rules.specs.Keeping.{keep}
 use Rattle.change_rules.specs.Change.{Keep}
 use Rattle.change_rules.specs.States.{mask}

@@ -16,7 +16,18 @@ use Rattle.cil_values.specs.declared.value.Value.TheOpen.{Value-F}
 use Rattle.cil_values.specs.declared.path.Path.{Path}
 use Rattle.cil_values.specs.declared.path.Root.{Root}
 use Rattle.cil_values.specs.declared.path.Root.TheVariants as root
-use Rattle.step_rules.specs.Queries.{Queries, Use, typ, method, field, Instruction, Clause, Code, Signature, Method, FieldDef, Layout, Shape, structure}
+use Rattle.cil_values.specs.declared.resolved.Use.{Use}
+use Rattle.cil_values.specs.declared.resolved.Instruction.{Instruction}
+use Rattle.cil_values.specs.declared.resolved.Clause.{Clause}
+use Rattle.cil_values.specs.declared.resolved.Code.{Code}
+use Rattle.cil_values.specs.declared.definition.Signature.{Signature}
+use Rattle.cil_values.specs.declared.definition.Method.{Method}
+use Rattle.cil_values.specs.declared.definition.FieldDef.{FieldDef}
+use Rattle.cil_values.specs.declared.layout.Layout.{Layout}
+use Rattle.cil_values.specs.declared.layout.Shape.{Shape}
+use Rattle.cil_values.specs.declared.resolved.Use.TheVariants.{Typ as typ, Method as method, Field as field}
+use Rattle.cil_values.specs.declared.layout.Shape.TheVariants.{Structure as structure}
+use Rattle.step_rules.specs.Queries.{Queries}
 use Rattle.change_rules.specs.Change.{Keep}
 use Rattle.change_rules.specs.States.{keeps_cell}
 

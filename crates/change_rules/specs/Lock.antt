@@ -3,8 +3,10 @@ use Rattle.std.specs.Prelude.{◌≡◌, ℕ, List, Bool, true, Option, Some, No
 use Rattle.std.specs.List.{list_all}
 use Rattle.std.specs.Option.{option_map}
 use Rattle.cil_values.specs.declared.value.Value.{Value}
-use Rattle.step_rules.specs.Queries.{Queries, Instruction}
-use Rattle.step_rules.specs.State.{State, Next}
+use Rattle.cil_values.specs.declared.resolved.Instruction.{Instruction}
+use Rattle.step_rules.specs.Queries.{Queries}
+use Rattle.cil_values.specs.declared.state.State.{State}
+use Rattle.step_rules.specs.Next.{Next}
 use Rattle.step_rules.specs.Words.{Form, Here, here_of, instruction_at}
 use Rattle.step_rules.specs.CoreWords.{Gives, CoreForm}
 use Rattle.change_rules.specs.Change.{Keep, Change}

@@ -7,8 +7,19 @@ use Rattle.cil_values.specs.declared.object.Obj.{Obj}
 use Rattle.cil_values.specs.declared.object.Obj.TheVariants as object
 use Rattle.cil_values.specs.declared.end.End.{End}
 use Rattle.cil_values.specs.declared.end.End.TheVariants.{Stopped, Stuck}
-use Rattle.step_rules.specs.Queries.{Queries, Cell, of_field, Layout}
-use Rattle.step_rules.specs.State.{State, Frame, Prefix, constrained, Waits, starts, opens, core, Global, Started, Next, went, over}
+use Rattle.cil_values.specs.declared.layout.Cell.{Cell}
+use Rattle.cil_values.specs.declared.layout.Layout.{Layout}
+use Rattle.cil_values.specs.declared.layout.Cell.TheVariants.{Field as of_field}
+use Rattle.step_rules.specs.Queries.{Queries}
+use Rattle.cil_values.specs.declared.state.State.{State}
+use Rattle.cil_values.specs.declared.frame.Frame.{Frame}
+use Rattle.cil_values.specs.declared.frame.Prefix.{Prefix}
+use Rattle.cil_values.specs.declared.frame.Waits.{Waits}
+use Rattle.cil_values.specs.declared.state.Global.{Global}
+use Rattle.cil_values.specs.declared.state.Started.{Started}
+use Rattle.cil_values.specs.declared.frame.Prefix.TheVariants.{Constrained as constrained}
+use Rattle.cil_values.specs.declared.frame.Waits.TheVariants.{Starts as starts, Opens as opens, Core as core}
+use Rattle.step_rules.specs.Next.{Next, went, over}
 use Rattle.change_rules.specs.Keeping.{keep}
 use Rattle.change_rules.specs.Change.{Rho, Keep, Change}
 use Rattle.change_rules.specs.Moves.{move_item, move_method_id, move_expr, move_use, move_value, move_values}

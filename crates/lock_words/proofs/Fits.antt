@@ -5,7 +5,9 @@ use Rattle.std.specs.Option.{option_map}
 use Rattle.world_model.specs.declared.expr.TypeExpr.{TypeExpr}
 use Rattle.cil_values.specs.declared.value.Value.{Value, out-Value, roll-Value}
 use Rattle.cil_values.specs.declared.value.Value.TheVariants as value
-use Rattle.step_rules.specs.Queries.{Queries, Shape, reference, pointer, integer, type_handle, field_handle, structure, no_value}
+use Rattle.cil_values.specs.declared.layout.Shape.{Shape}
+use Rattle.cil_values.specs.declared.layout.Shape.TheVariants.{Reference as reference, Pointer as pointer, Integer as integer, TypeHandle as type_handle, FieldHandle as field_handle, Structure as structure, NoValue as no_value}
+use Rattle.step_rules.specs.Queries.{Queries}
 use Rattle.step_rules.specs.Integers.{is_native, is_long, cut, number, worth, narrowed}
 use Rattle.step_rules.specs.Stores.{Parts, parts_of, is_struct_of, fits_reference, fits_pointer, fits_struct, fits_handle, fits_field_handle, fits_shape, fits, is_value_shape, is_value}
 use Rattle.change_rules.specs.Change.{Rho, Keep, Change, Undone}

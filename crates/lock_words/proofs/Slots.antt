@@ -15,8 +15,13 @@ use Rattle.cil_values.specs.declared.value.Value.{Value}
 use Rattle.cil_values.specs.declared.value.Value.TheVariants as value
 use Rattle.cil_values.specs.declared.path.Root.{Root}
 use Rattle.cil_values.specs.declared.path.Root.TheVariants as root
-use Rattle.step_rules.specs.Queries.{Queries, Instruction, Signature, Use, slot, number}
-use Rattle.step_rules.specs.State.{State, Frame}
+use Rattle.cil_values.specs.declared.resolved.Instruction.{Instruction}
+use Rattle.cil_values.specs.declared.definition.Signature.{Signature}
+use Rattle.cil_values.specs.declared.resolved.Use.{Use}
+use Rattle.cil_values.specs.declared.resolved.Use.TheVariants.{Slot as slot, Number as number}
+use Rattle.step_rules.specs.Queries.{Queries}
+use Rattle.cil_values.specs.declared.state.State.{State}
+use Rattle.cil_values.specs.declared.frame.Frame.{Frame}
 use Rattle.step_rules.specs.Words.{Here, stuck, required, goes, good}
 use Rattle.step_rules.specs.Integers.{fits_signed}
 use Rattle.step_rules.specs.Stores.{fits, is_value}

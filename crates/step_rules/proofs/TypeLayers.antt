@@ -6,7 +6,7 @@ use Rattle.world_model.specs.declared.expr.TypeExpr.TheOpen.{TypeExpr-F}
 use Rattle.world_model.specs.declared.expr.TypeExpr.TheVariants as expr
 use Rattle.world_model.specs.Exprs.{same_expr, same_in, same_layer}
 use Rattle.world_model.proofs.ExprLayers.{subst_prim, subst_def}
-use Rattle.step_rules.specs.Queries.{Head}
+use Rattle.cil_values.specs.declared.definition.Head.{Head}
 use Rattle.step_rules.specs.Closing.{plain, plain_layer, Standing, standing, standing_layer}
 
 abbrev both : TypeExpr → TypeExpr × TypeExpr

@@ -12,8 +12,13 @@ use Rattle.cil_values.specs.declared.object.Obj.{Obj}
 use Rattle.cil_values.specs.declared.object.Obj.TheVariants as object
 use Rattle.cil_values.specs.declared.path.Path.{Path}
 use Rattle.cil_values.specs.declared.path.Root.TheVariants as root
-use Rattle.step_rules.specs.Queries.{Queries, Instruction, typ}
-use Rattle.step_rules.specs.State.{State, Next, Prefix, readonly}
+use Rattle.cil_values.specs.declared.resolved.Instruction.{Instruction}
+use Rattle.cil_values.specs.declared.resolved.Use.TheVariants.{Typ as typ}
+use Rattle.step_rules.specs.Queries.{Queries}
+use Rattle.cil_values.specs.declared.state.State.{State}
+use Rattle.cil_values.specs.declared.frame.Prefix.{Prefix}
+use Rattle.cil_values.specs.declared.frame.Prefix.TheVariants.{Readonly as readonly}
+use Rattle.step_rules.specs.Next.{Next}
 use Rattle.step_rules.specs.Words.{Form, Here, stuck, given, had, required, within, popped, goes, made, object_at}
 use Rattle.step_rules.specs.Closing.{closed_element, plain}
 use Rattle.step_rules.specs.Stores.{Access, by_code, by_reference, element_access, allows, loaded, stored, zero_of}

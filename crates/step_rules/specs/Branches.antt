@@ -5,8 +5,10 @@ use Rattle.std.specs.Ordering.{int_eq}
 use Rattle.il_base.specs.declared.opcode.TheConstants.{BRFALSE, BRFALSE_S, BRTRUE, BRTRUE_S, BEQ, BEQ_S, BGE, BGE_S, BGT, BGT_S, BLE, BLE_S, BLT, BLT_S, BNE_UN, BNE_UN_S, BGE_UN, BGE_UN_S, BGT_UN, BGT_UN_S, BLE_UN, BLE_UN_S, BLT_UN, BLT_UN_S}
 use Rattle.cil_values.specs.declared.value.Value.{Value}
 use Rattle.cil_values.specs.declared.value.Value.TheVariants as value
-use Rattle.step_rules.specs.Queries.{Instruction, target, targets}
-use Rattle.step_rules.specs.State.{State, Next}
+use Rattle.cil_values.specs.declared.resolved.Instruction.{Instruction}
+use Rattle.cil_values.specs.declared.resolved.Use.TheVariants.{Target as target, Targets as targets}
+use Rattle.cil_values.specs.declared.state.State.{State}
+use Rattle.step_rules.specs.Next.{Next}
 use Rattle.step_rules.specs.Words.{Form, Here, stuck, given, popped, goes, branches}
 use Rattle.step_rules.specs.Comparisons.{Test, equal, unequal, less, less_unsigned, greater, greater_unsigned_numbers, at_least, at_least_unsigned, at_most, at_most_unsigned, test}
 

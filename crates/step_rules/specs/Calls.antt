@@ -11,10 +11,19 @@ use Rattle.cil_values.specs.declared.value.Value.TheVariants as value
 use Rattle.cil_values.specs.declared.object.Obj.{Obj}
 use Rattle.cil_values.specs.declared.object.Obj.TheVariants as object
 use Rattle.cil_values.specs.declared.path.Path.{Path}
-use Rattle.step_rules.specs.Queries.{Queries, Instruction, Signature, typ, method}
-use Rattle.step_rules.specs.State.{State, Frame, Next, went, over, Prefix, Waits, Init}
-use Rattle.step_rules.specs.State as state
-use Rattle.step_rules.specs.Members.{CoreCall}
+use Rattle.cil_values.specs.declared.resolved.Instruction.{Instruction}
+use Rattle.cil_values.specs.declared.definition.Signature.{Signature}
+use Rattle.cil_values.specs.declared.resolved.Use.TheVariants.{Typ as typ, Method as method}
+use Rattle.step_rules.specs.Queries.{Queries}
+use Rattle.cil_values.specs.declared.state.State.{State}
+use Rattle.cil_values.specs.declared.frame.Frame.{Frame}
+use Rattle.cil_values.specs.declared.frame.Prefix.{Prefix}
+use Rattle.cil_values.specs.declared.frame.Waits.{Waits}
+use Rattle.cil_values.specs.declared.state.Init.{Init}
+use Rattle.step_rules.specs.Next.{Next, went, over}
+use Rattle.cil_values.specs.declared.frame.Prefix.TheVariants as prefixed
+use Rattle.cil_values.specs.declared.frame.Waits.TheVariants as waits
+use Rattle.cil_values.specs.declared.core_call.CoreCall.{CoreCall}
 use Rattle.step_rules.specs.Words.{Form, Here, stuck, given, had, required, taken, moved, may_go, goes_with, made, object_at}
 use Rattle.step_rules.specs.Closing.{Callee, closed, closed_use}
 use Rattle.step_rules.specs.Stores.{all_fit, is_value, zero_of, zeros_of}
@@ -54,7 +63,7 @@ abbrev pub gives_result : Here → Instruction → Gives
 gives_result here i s v bytes = goes_with here i (pushed v s.top.stack) s bytes
 
 abbrev pub runs : Queries → Here → Instruction → Callee → List Value → State → Next
-runs q here i c vs s = invoke q c vs state.nothing s (gives_result here i)
+runs q here i c vs s = invoke q c vs waits.Nothing s (gives_result here i)
 
 -- ---- the receiver
 
@@ -110,7 +119,7 @@ constrained_on q here i c vs s e (value.Pointer p) = alive p s (required (same_e
 constrained_on q here i c vs s e _ = stuck s
 
 abbrev pub by_prefix : Queries → Here → Instruction → Callee → List Value → State → Prefix → Value → Next
-by_prefix q here i c vs s (state.constrained e) v = constrained_on q here i c vs s e v
+by_prefix q here i c vs s (prefixed.Constrained e) v = constrained_on q here i c vs s e v
 by_prefix q here i c vs s _ v = call_virtual q here i c vs s v
 
 -- with the prefix as it was at the instruction
@@ -164,12 +173,12 @@ abbrev pub gives_made : Here → Instruction → Value → Gives
 gives_made here i v s result bytes = goes_with here i (v ∷ s.top.stack) s bytes
 
 abbrev pub constructs : Queries → Here → Instruction → Callee → List Value → ℕ → State → Next
-constructs q here i c vs a s = invoke q c (value.Object a ∷ vs) (state.makes a) s (gives_made here i (value.Object a))
+constructs q here i c vs a s = invoke q c (value.Object a ∷ vs) (waits.Makes a) s (gives_made here i (value.Object a))
 
 -- a value type's constructor takes a pointer into a box, whose value is pushed at the end
 abbrev pub constructs_value : Queries → Here → Instruction → Callee → List Value → ℕ → State → Next
 constructs_value q here i c vs a s =
-    invoke q c (value.Pointer (path_into_box a c.called.owner) ∷ vs) (state.makes_value a) s
+    invoke q c (value.Pointer (path_into_box a c.called.owner) ∷ vs) (waits.MakesValue a) s
     (λ t result bytes. given (option_and_then boxed_in (object_at t a)) t (λ v. gives_made here i v t result bytes))
 
 abbrev pub new_instance : Queries → TypeExpr → Obj
@@ -202,10 +211,10 @@ goes_under here i s p = required (may_go here.code i.at i.next) s (went (with_pr
 
 -- `volatile.` (III.2.6) says nothing here
 abbrev pub other_prefix : Here → Instruction → State → Next
-other_prefix here i s = if i.opcode == READONLY then goes_under here i s state.readonly else goes_under here i s state.none
+other_prefix here i s = if i.opcode == READONLY then goes_under here i s prefixed.Readonly else goes_under here i s prefixed.None
 
 unfoldable pub prefix : Form
 prefix q here i s =
     if i.opcode == CONSTRAINED
-    then (elim i.operand [ typ e ↦ closed q here e s (λ c. goes_under here i s (state.constrained c)) | _ ↦ stuck s ])
+    then (elim i.operand [ typ e ↦ closed q here e s (λ c. goes_under here i s (prefixed.Constrained c)) | _ ↦ stuck s ])
     else other_prefix here i s

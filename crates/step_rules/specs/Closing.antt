@@ -11,8 +11,13 @@ use Rattle.world_model.specs.declared.expr.TypeExpr as expr
 use Rattle.world_model.specs.declared.expr.MethodUse.{MethodUse}
 use Rattle.world_model.specs.declared.expr.FieldUse.{FieldUse}
 use Rattle.world_model.specs.Exprs.{subst}
-use Rattle.step_rules.specs.Queries.{Queries, Method, Signature, FieldDef, Head}
-use Rattle.step_rules.specs.State.{State, Next}
+use Rattle.cil_values.specs.declared.definition.Method.{Method}
+use Rattle.cil_values.specs.declared.definition.Signature.{Signature}
+use Rattle.cil_values.specs.declared.definition.FieldDef.{FieldDef}
+use Rattle.cil_values.specs.declared.definition.Head.{Head}
+use Rattle.step_rules.specs.Queries.{Queries}
+use Rattle.cil_values.specs.declared.state.State.{State}
+use Rattle.step_rules.specs.Next.{Next}
 use Rattle.step_rules.specs.Words.{Here, known, had, good, args_of}
 
 -- ---- modifiers (II.7.1)

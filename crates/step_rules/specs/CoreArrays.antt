@@ -8,8 +8,13 @@ use Rattle.cil_values.specs.declared.value.Value.{Value}
 use Rattle.cil_values.specs.declared.value.Value.TheVariants as value
 use Rattle.cil_values.specs.declared.object.Obj.{Obj}
 use Rattle.cil_values.specs.declared.object.Obj.TheVariants as object
-use Rattle.step_rules.specs.Queries.{Queries, First, bytes, Shape, integer}
-use Rattle.step_rules.specs.State.{State, Next}
+use Rattle.cil_values.specs.declared.definition.First.{First}
+use Rattle.cil_values.specs.declared.layout.Shape.{Shape}
+use Rattle.cil_values.specs.declared.definition.First.TheVariants.{Bytes as bytes}
+use Rattle.cil_values.specs.declared.layout.Shape.TheVariants.{Integer as integer}
+use Rattle.step_rules.specs.Queries.{Queries}
+use Rattle.cil_values.specs.declared.state.State.{State}
+use Rattle.step_rules.specs.Next.{Next}
 use Rattle.step_rules.specs.Words.{stuck, stopped, given, had, object_at}
 use Rattle.step_rules.specs.Integers.{width_of, number}
 use Rattle.step_rules.specs.Places.{with_object}

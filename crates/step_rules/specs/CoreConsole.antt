@@ -5,8 +5,10 @@ use Rattle.std.specs.Int.{w32, cast_unsigned}
 use Rattle.std.specs.Option.{option_map}
 use Rattle.cil_values.specs.declared.value.Value.{Value}
 use Rattle.cil_values.specs.declared.value.Value.TheVariants as value
-use Rattle.step_rules.specs.State.{State, Next}
-use Rattle.step_rules.specs.Members.{Printed, of_string, of_number, of_bool, of_char, of_object}
+use Rattle.cil_values.specs.declared.state.State.{State}
+use Rattle.step_rules.specs.Next.{Next}
+use Rattle.cil_values.specs.declared.core_call.Printed.{Printed}
+use Rattle.cil_values.specs.declared.core_call.Printed.TheVariants.{OfString as of_string, OfNumber as of_number, OfBool as of_bool, OfChar as of_char, OfObject as of_object}
 use Rattle.step_rules.specs.Words.{stuck, given}
 use Rattle.step_rules.specs.Integers.{held_number}
 use Rattle.step_rules.specs.Objects.{units_of, bytes_of_units, made_text}

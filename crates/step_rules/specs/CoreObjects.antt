@@ -12,8 +12,11 @@ use Rattle.cil_values.specs.declared.value.Value.{Value}
 use Rattle.cil_values.specs.declared.value.Value.TheVariants as value
 use Rattle.cil_values.specs.declared.object.Obj.{Obj}
 use Rattle.cil_values.specs.declared.object.Obj.TheVariants as object
-use Rattle.step_rules.specs.Queries.{Queries, Cell, message, inner}
-use Rattle.step_rules.specs.State.{State, Next}
+use Rattle.cil_values.specs.declared.layout.Cell.{Cell}
+use Rattle.cil_values.specs.declared.layout.Cell.TheVariants.{Message as message, Inner as inner}
+use Rattle.step_rules.specs.Queries.{Queries}
+use Rattle.cil_values.specs.declared.state.State.{State}
+use Rattle.step_rules.specs.Next.{Next}
 use Rattle.step_rules.specs.Words.{stuck, stopped, given, object_at}
 use Rattle.step_rules.specs.Integers.{held_number}
 use Rattle.step_rules.specs.Places.{cell_in, put_cell_in, with_object}

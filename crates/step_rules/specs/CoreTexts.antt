@@ -8,7 +8,8 @@ use Rattle.core_table.specs.declared.names.CoreName.TheVariants.{ArgumentNullExc
 use Rattle.cil_values.specs.declared.value.Value.{Value}
 use Rattle.cil_values.specs.declared.value.Value.TheVariants as value
 use Rattle.step_rules.specs.Queries.{Queries}
-use Rattle.step_rules.specs.State.{State, Next}
+use Rattle.cil_values.specs.declared.state.State.{State}
+use Rattle.step_rules.specs.Next.{Next}
 use Rattle.step_rules.specs.Words.{stuck, given}
 use Rattle.step_rules.specs.Integers.{fits_signed}
 use Rattle.step_rules.specs.Objects.{units_of}

@@ -8,7 +8,8 @@ use Rattle.core_table.specs.declared.names.CoreName.TheVariants.{NullReferenceEx
 use Rattle.cil_values.specs.declared.value.Value.{Value}
 use Rattle.cil_values.specs.declared.value.Value.TheVariants as value
 use Rattle.step_rules.specs.Queries.{Queries}
-use Rattle.step_rules.specs.State.{State, Next}
+use Rattle.cil_values.specs.declared.state.State.{State}
+use Rattle.step_rules.specs.Next.{Next}
 use Rattle.step_rules.specs.Words.{stuck, given, required, object_at, truth_value}
 use Rattle.step_rules.specs.Closing.{Callee, front}
 use Rattle.step_rules.specs.Stores.{fits, is_value}

@@ -12,8 +12,11 @@ use Rattle.cil_values.specs.declared.object.Obj.{Obj}
 use Rattle.cil_values.specs.declared.object.Obj.TheVariants as object
 use Rattle.cil_values.specs.declared.path.Path.{Path}
 use Rattle.cil_values.specs.declared.path.Root.TheVariants as root
-use Rattle.step_rules.specs.Queries.{Queries, Method, Signature}
-use Rattle.step_rules.specs.State.{State, Next}
+use Rattle.cil_values.specs.declared.definition.Method.{Method}
+use Rattle.cil_values.specs.declared.definition.Signature.{Signature}
+use Rattle.step_rules.specs.Queries.{Queries}
+use Rattle.cil_values.specs.declared.state.State.{State}
+use Rattle.step_rules.specs.Next.{Next}
 use Rattle.step_rules.specs.Words.{given, had, known, required, object_at}
 use Rattle.step_rules.specs.Closing.{Callee, callee_of, is_void}
 use Rattle.step_rules.specs.Stores.{is_value}

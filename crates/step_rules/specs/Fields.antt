@@ -15,9 +15,19 @@ use Rattle.cil_values.specs.declared.object.Obj.{Obj}
 use Rattle.cil_values.specs.declared.object.Obj.TheVariants as object
 use Rattle.cil_values.specs.declared.path.Path.{Path}
 use Rattle.cil_values.specs.declared.path.Root.TheVariants as root
-use Rattle.step_rules.specs.Queries.{Queries, Instruction, Use, First, blank, bytes, empty_text, Cell, of_field, Layout, Shape, integer, structure}
-use Rattle.step_rules.specs.Queries as queries
-use Rattle.step_rules.specs.State.{State, Next}
+use Rattle.cil_values.specs.declared.resolved.Instruction.{Instruction}
+use Rattle.cil_values.specs.declared.resolved.Use.{Use}
+use Rattle.cil_values.specs.declared.definition.First.{First}
+use Rattle.cil_values.specs.declared.layout.Cell.{Cell}
+use Rattle.cil_values.specs.declared.layout.Layout.{Layout}
+use Rattle.cil_values.specs.declared.layout.Shape.{Shape}
+use Rattle.cil_values.specs.declared.definition.First.TheVariants.{Blank as blank, Bytes as bytes, EmptyText as empty_text}
+use Rattle.cil_values.specs.declared.layout.Cell.TheVariants.{Field as of_field}
+use Rattle.cil_values.specs.declared.layout.Shape.TheVariants.{Integer as integer, Structure as structure}
+use Rattle.step_rules.specs.Queries.{Queries}
+use Rattle.cil_values.specs.declared.resolved.Use.TheVariants as used
+use Rattle.cil_values.specs.declared.state.State.{State}
+use Rattle.step_rules.specs.Next.{Next}
 use Rattle.step_rules.specs.Words.{Form, Here, stuck, stopped, given, had, required, popped, args_of, good, goes, object_at}
 use Rattle.step_rules.specs.Closing.{Accessed, closed_field, closed_cell}
 use Rattle.step_rules.specs.Integers.{number, width_of}
@@ -192,4 +202,4 @@ abbrev pub accesses : Queries → Here → Instruction → State → Accessed �
 accesses q here i s a = required (may_access i a) s (begun_for q a s (access q here i a))
 
 unfoldable pub field_form : Form
-field_form q here i s = elim i.operand [ queries.field f ↦ closed_field q here f s (accesses q here i s) | _ ↦ stuck s ]
+field_form q here i s = elim i.operand [ used.Field f ↦ closed_field q here f s (accesses q here i s) | _ ↦ stuck s ]

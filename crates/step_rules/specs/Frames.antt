@@ -8,8 +8,17 @@ use Rattle.world_model.specs.declared.expr.TypeExpr.TheOpen.{TypeExpr-F}
 use Rattle.world_model.specs.declared.expr.MethodUse.{MethodUse}
 use Rattle.world_model.specs.Exprs.{same_expr}
 use Rattle.cil_values.specs.declared.value.Value.{Value}
-use Rattle.step_rules.specs.Queries.{Queries, Code, Head}
-use Rattle.step_rules.specs.State.{State, Frame, Next, went, none, Waits, starts, Init, begun, ended, failed}
+use Rattle.cil_values.specs.declared.resolved.Code.{Code}
+use Rattle.cil_values.specs.declared.definition.Head.{Head}
+use Rattle.step_rules.specs.Queries.{Queries}
+use Rattle.cil_values.specs.declared.state.State.{State}
+use Rattle.cil_values.specs.declared.frame.Frame.{Frame}
+use Rattle.cil_values.specs.declared.frame.Waits.{Waits}
+use Rattle.cil_values.specs.declared.state.Init.{Init}
+use Rattle.cil_values.specs.declared.frame.Prefix.TheVariants.{None as none}
+use Rattle.cil_values.specs.declared.frame.Waits.TheVariants.{Starts as starts}
+use Rattle.cil_values.specs.declared.state.Init.TheVariants.{Begun as begun, Ended as ended, Failed as failed}
+use Rattle.step_rules.specs.Next.{Next, went}
 use Rattle.step_rules.specs.Words.{given, had, known, within, good, args_of}
 use Rattle.step_rules.specs.Closing.{Callee, callee_of, closed_slot, all_of}
 use Rattle.step_rules.specs.Stores.{zero_of}

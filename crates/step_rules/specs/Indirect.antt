@@ -7,8 +7,11 @@ use Rattle.core_table.specs.declared.names.CoreName.TheVariants.{NullReferenceEx
 use Rattle.cil_values.specs.declared.value.Value.{Value}
 use Rattle.cil_values.specs.declared.value.Value.TheVariants as value
 use Rattle.cil_values.specs.declared.path.Path.{Path}
-use Rattle.step_rules.specs.Queries.{Queries, Instruction, typ}
-use Rattle.step_rules.specs.State.{State, Next}
+use Rattle.cil_values.specs.declared.resolved.Instruction.{Instruction}
+use Rattle.cil_values.specs.declared.resolved.Use.TheVariants.{Typ as typ}
+use Rattle.step_rules.specs.Queries.{Queries}
+use Rattle.cil_values.specs.declared.state.State.{State}
+use Rattle.step_rules.specs.Next.{Next}
 use Rattle.step_rules.specs.Words.{Form, Here, stuck, given, had, required, popped, goes}
 use Rattle.step_rules.specs.Closing.{closed}
 use Rattle.step_rules.specs.Stores.{Access, by_code, by_reference, access_of, allows, loaded, stored, zero_of}

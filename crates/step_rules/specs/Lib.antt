@@ -1,6 +1,5 @@
-pub mod Members
 pub mod Queries
-pub mod State
+pub mod Next
 pub mod Words
 pub mod Closing
 pub mod Integers

@@ -9,8 +9,10 @@ use Rattle.core_table.specs.declared.names.CoreName.{CoreName}
 use Rattle.core_table.specs.declared.names.CoreName.TheVariants.{DivideByZeroException, OverflowException}
 use Rattle.cil_values.specs.declared.value.Value.{Value}
 use Rattle.cil_values.specs.declared.value.Value.TheVariants as value
-use Rattle.step_rules.specs.Queries.{Queries, Instruction}
-use Rattle.step_rules.specs.State.{State, Next}
+use Rattle.cil_values.specs.declared.resolved.Instruction.{Instruction}
+use Rattle.step_rules.specs.Queries.{Queries}
+use Rattle.cil_values.specs.declared.state.State.{State}
+use Rattle.step_rules.specs.Next.{Next}
 use Rattle.step_rules.specs.Words.{Form, Here, given, popped, goes, truth_value}
 use Rattle.step_rules.specs.Integers.{bits, fits_signed, fits_unsigned, width_of, number}
 use Rattle.step_rules.specs.Comparisons.{Test, equal, less, less_unsigned, greater, greater_unsigned, Numbers, numbers, test}

@@ -18,8 +18,10 @@ use Rattle.cil_values.specs.declared.value.Value.TheVariants as value
 use Rattle.cil_values.specs.declared.object.Obj.{Obj}
 use Rattle.cil_values.specs.declared.object.Obj.TheVariants as object
 use Rattle.cil_values.specs.declared.end.End.TheVariants.{Threw}
-use Rattle.step_rules.specs.Queries.{Queries, message, inner}
-use Rattle.step_rules.specs.State.{State, Next, over}
+use Rattle.cil_values.specs.declared.layout.Cell.TheVariants.{Message as message, Inner as inner}
+use Rattle.step_rules.specs.Queries.{Queries}
+use Rattle.cil_values.specs.declared.state.State.{State}
+use Rattle.step_rules.specs.Next.{Next, over}
 use Rattle.step_rules.specs.Words.{within, made, object_at}
 use Rattle.step_rules.specs.Stores.{zeros_of}
 use Rattle.step_rules.specs.Places.{cell_in, with_cell}

@@ -11,8 +11,14 @@ use Rattle.cil_values.specs.declared.object.Obj.TheVariants as object
 use Rattle.cil_values.specs.declared.path.Path.{Path}
 use Rattle.cil_values.specs.declared.path.Root.{Root}
 use Rattle.cil_values.specs.declared.path.Root.TheVariants as root
-use Rattle.step_rules.specs.Queries.{Queries, Cell, of_field, message, inner, Layout}
-use Rattle.step_rules.specs.State.{State, Frame, Global, Next}
+use Rattle.cil_values.specs.declared.layout.Cell.{Cell}
+use Rattle.cil_values.specs.declared.layout.Layout.{Layout}
+use Rattle.cil_values.specs.declared.layout.Cell.TheVariants.{Field as of_field, Message as message, Inner as inner}
+use Rattle.step_rules.specs.Queries.{Queries}
+use Rattle.cil_values.specs.declared.state.State.{State}
+use Rattle.cil_values.specs.declared.frame.Frame.{Frame}
+use Rattle.cil_values.specs.declared.state.Global.{Global}
+use Rattle.step_rules.specs.Next.{Next}
 use Rattle.step_rules.specs.Words.{had, within, object_at}
 use Rattle.step_rules.specs.Stores.{Parts, parts_of}
 

@@ -10,8 +10,23 @@ use Rattle.core_table.specs.declared.names.CoreName.{CoreName}
 use Rattle.core_table.specs.declared.names.CoreName.TheVariants as name
 use Rattle.cil_values.specs.declared.value.Value.{Value}
 use Rattle.cil_values.specs.declared.value.Value.TheVariants as value
-use Rattle.step_rules.specs.Queries.{Queries, Code, Clause, catches, finally, fault}
-use Rattle.step_rules.specs.State.{State, Frame, Next, went, none, Reason, caught, unwinding, Unwinding, Running, Waits, starts, opens, Init, failed, Started}
+use Rattle.cil_values.specs.declared.resolved.Code.{Code}
+use Rattle.cil_values.specs.declared.resolved.Clause.{Clause}
+use Rattle.cil_values.specs.declared.resolved.ClauseKind.TheVariants.{Catch as catches, Finally as finally, Fault as fault}
+use Rattle.step_rules.specs.Queries.{Queries}
+use Rattle.cil_values.specs.declared.state.State.{State}
+use Rattle.cil_values.specs.declared.frame.Frame.{Frame}
+use Rattle.cil_values.specs.declared.frame.Reason.{Reason}
+use Rattle.cil_values.specs.declared.frame.Unwinding.{Unwinding}
+use Rattle.cil_values.specs.declared.frame.Running.{Running}
+use Rattle.cil_values.specs.declared.frame.Waits.{Waits}
+use Rattle.cil_values.specs.declared.state.Init.{Init}
+use Rattle.cil_values.specs.declared.state.Started.{Started}
+use Rattle.cil_values.specs.declared.frame.Prefix.TheVariants.{None as none}
+use Rattle.cil_values.specs.declared.frame.Reason.TheVariants.{Caught as caught, Unwinding as unwinding}
+use Rattle.cil_values.specs.declared.frame.Waits.TheVariants.{Starts as starts, Opens as opens}
+use Rattle.cil_values.specs.declared.state.Init.TheVariants.{Failed as failed}
+use Rattle.step_rules.specs.Next.{Next, went}
 use Rattle.step_rules.specs.Words.{Here, here_of, given, stopped, stuck, good, in_try, in_handler, made, object_at}
 use Rattle.step_rules.specs.Closing.{closed_slot}
 use Rattle.step_rules.specs.Objects.{is_a, threw, new_exception, wrapping}

@@ -10,9 +10,15 @@ use Rattle.cil_values.specs.declared.value.Value.TheVariants as value
 use Rattle.cil_values.specs.declared.object.Obj.{Obj}
 use Rattle.cil_values.specs.declared.object.Obj.TheVariants as object
 use Rattle.cil_values.specs.declared.end.End.TheVariants.{Ended}
-use Rattle.step_rules.specs.Queries.{Queries, Clause, Signature}
-use Rattle.step_rules.specs.State.{State, Frame, Next, went, over, Waits}
-use Rattle.step_rules.specs.State as state
+use Rattle.cil_values.specs.declared.resolved.Clause.{Clause}
+use Rattle.cil_values.specs.declared.definition.Signature.{Signature}
+use Rattle.step_rules.specs.Queries.{Queries}
+use Rattle.cil_values.specs.declared.state.State.{State}
+use Rattle.cil_values.specs.declared.frame.Frame.{Frame}
+use Rattle.cil_values.specs.declared.frame.Waits.{Waits}
+use Rattle.step_rules.specs.Next.{Next, went, over}
+use Rattle.cil_values.specs.declared.frame.Waits.TheVariants as waits
+use Rattle.cil_values.specs.declared.state.Init.TheVariants as init
 use Rattle.step_rules.specs.Words.{Form, Here, here_of, instruction_at, stuck, given, had, required, moved, may_go, good, in_try, in_handler, object_at}
 use Rattle.step_rules.specs.Closing.{Callee, callee_of, closed_return, is_void}
 use Rattle.step_rules.specs.Stores.{fits}
@@ -58,12 +64,12 @@ goes_back q s t stack bytes =
 
 -- what the frame that ends had to do for the caller
 abbrev pub back_by : Queries → State → State → Option Value → Waits → Next
-back_by q s t v state.nothing = goes_back q s t (pushed v t.top.stack) []
-back_by q s t v (state.makes a) = goes_back q s t (value.Object a ∷ t.top.stack) []
-back_by q s t v (state.makes_value a) = given (option_and_then boxed_in (object_at s a)) s (λ w. goes_back q s t (w ∷ t.top.stack) [])
-back_by q s t v (state.starts e) = went (record t { inits = set_init e state.ended t.inits }) []
-back_by q s t v (state.opens e m) = stuck s
-back_by q s t v (state.core k args) = with_option k q args s (λ r result bytes. goes_back q s (back_in r t.top t.below) (pushed result t.top.stack) bytes) v
+back_by q s t v waits.Nothing = goes_back q s t (pushed v t.top.stack) []
+back_by q s t v (waits.Makes a) = goes_back q s t (value.Object a ∷ t.top.stack) []
+back_by q s t v (waits.MakesValue a) = given (option_and_then boxed_in (object_at s a)) s (λ w. goes_back q s t (w ∷ t.top.stack) [])
+back_by q s t v (waits.Starts e) = went (record t { inits = set_init e init.Ended t.inits }) []
+back_by q s t v (waits.Opens e m) = stuck s
+back_by q s t v (waits.Core k args) = with_option k q args s (λ r result bytes. goes_back q s (back_in r t.top t.below) (pushed result t.top.stack) bytes) v
 
 -- ---- the entry method begins
 
@@ -72,7 +78,7 @@ empty_array e = object.Array e []
 
 abbrev pub entry_frame : Callee → List Value → List Value → State → State
 entry_frame c args locals s =
-    record s { top = frame_of s.entered c.called args locals state.nothing; below = []; entered = s.entered + 1 }
+    record s { top = frame_of s.entered c.called args locals waits.Nothing; below = []; entered = s.entered + 1 }
 
 -- Main's array of strings is made as it begins (II.15.4.1.2)
 abbrev pub entry_with : Callee → List Value → State → List TypeExpr → State
@@ -90,7 +96,7 @@ opened q s c = given c.method.body s (λ body. had (option_and_then (zero_locals
 
 -- the last frame ends the run, but for the initializer of the entry's type, after which the entry begins
 abbrev pub ends_by : Queries → State → Option Value → Waits → Next
-ends_by q s v (state.opens e m) = had (callee_of q m) s (opened q (record s { inits = set_init e state.ended s.inits }))
+ends_by q s v (waits.Opens e m) = had (callee_of q m) s (opened q (record s { inits = set_init e init.Ended s.inits }))
 ends_by q s v _ = over (Ended (exit_code v))
 
 abbrev pub back : Queries → State → List Frame → Option Value → Next

@@ -12,8 +12,14 @@ use Rattle.world_model.specs.Exprs.{same_expr}
 use Rattle.cil_values.specs.declared.end.End.{End}
 use Rattle.cil_values.specs.declared.end.End.TheVariants.{Stopped, Stuck}
 use Rattle.cil_values.specs.declared.value.Value.{Value}
-use Rattle.step_rules.specs.Queries.{Queries, Method, Signature, Code}
-use Rattle.step_rules.specs.State.{State, Next, went, over, nothing, opens, begun}
+use Rattle.cil_values.specs.declared.definition.Method.{Method}
+use Rattle.cil_values.specs.declared.definition.Signature.{Signature}
+use Rattle.cil_values.specs.declared.resolved.Code.{Code}
+use Rattle.step_rules.specs.Queries.{Queries}
+use Rattle.cil_values.specs.declared.state.State.{State}
+use Rattle.cil_values.specs.declared.frame.Waits.TheVariants.{Nothing as nothing, Opens as opens}
+use Rattle.cil_values.specs.declared.state.Init.TheVariants.{Begun as begun}
+use Rattle.step_rules.specs.Next.{Next, went, over}
 use Rattle.step_rules.specs.Closing.{Callee, callee_of, takes, is_void}
 use Rattle.step_rules.specs.Frames.{frame_of, zero_locals, initializer, with_init}
 use Rattle.step_rules.specs.Input.{decoded}

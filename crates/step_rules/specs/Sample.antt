@@ -17,13 +17,34 @@ use Rattle.core_table.specs.declared.names.CoreName.{CoreName}
 use Rattle.core_table.specs.declared.names.CoreName.TheVariants as name
 use Rattle.cil_values.specs.declared.value.Value.TheVariants as value
 use Rattle.cil_values.specs.declared.end.End.{End}
-use Rattle.step_rules.specs.Queries as queries
-use Rattle.step_rules.specs.Queries.{Queries, Instruction, Use, Clause, Kind, catches, finally, Code, Method, Signature, FieldDef, Head, Layout, Shape, reference, integer, structure, no_value, of_field, message, inner, blank}
-use Rattle.step_rules.specs.Members.{CoreCall, idle, prints, of_string}
+use Rattle.cil_values.specs.declared.resolved.Use.TheVariants as used
+use Rattle.cil_values.specs.declared.resolved.Instruction.{Instruction}
+use Rattle.cil_values.specs.declared.resolved.Use.{Use}
+use Rattle.cil_values.specs.declared.resolved.Clause.{Clause}
+use Rattle.cil_values.specs.declared.resolved.ClauseKind.{ClauseKind as Kind}
+use Rattle.cil_values.specs.declared.resolved.Code.{Code}
+use Rattle.cil_values.specs.declared.definition.Method.{Method}
+use Rattle.cil_values.specs.declared.definition.Signature.{Signature}
+use Rattle.cil_values.specs.declared.definition.FieldDef.{FieldDef}
+use Rattle.cil_values.specs.declared.definition.Head.{Head}
+use Rattle.cil_values.specs.declared.layout.Layout.{Layout}
+use Rattle.cil_values.specs.declared.layout.Shape.{Shape}
+use Rattle.cil_values.specs.declared.resolved.ClauseKind.TheVariants.{Catch as catches, Finally as finally}
+use Rattle.cil_values.specs.declared.layout.Shape.TheVariants.{Reference as reference, Integer as integer, Structure as structure, NoValue as no_value}
+use Rattle.cil_values.specs.declared.layout.Cell.TheVariants.{Field as of_field, Message as message, Inner as inner}
+use Rattle.cil_values.specs.declared.definition.First.TheVariants.{Blank as blank}
+use Rattle.step_rules.specs.Queries.{Queries}
+use Rattle.cil_values.specs.declared.core_call.CoreCall.{CoreCall}
+use Rattle.cil_values.specs.declared.core_call.CoreCall.TheVariants.{Idle as idle, Prints as prints}
+use Rattle.cil_values.specs.declared.core_call.Printed.TheVariants.{OfString as of_string}
 use Rattle.cil_values.specs.declared.value.Value.{Value}
 use Rattle.cil_values.specs.declared.object.Obj.{Obj}
-use Rattle.step_rules.specs.State.{State, Next, Frame, Running, none}
-use Rattle.step_rules.specs.State as state
+use Rattle.cil_values.specs.declared.state.State.{State}
+use Rattle.cil_values.specs.declared.frame.Frame.{Frame}
+use Rattle.cil_values.specs.declared.frame.Running.{Running}
+use Rattle.cil_values.specs.declared.frame.Prefix.TheVariants.{None as none}
+use Rattle.step_rules.specs.Next.{Next}
+use Rattle.cil_values.specs.declared.frame.Waits.TheVariants as waits
 use Rattle.step_rules.specs.Step.{step}
 use Rattle.step_rules.specs.Run.{run_from}
 
@@ -87,7 +108,7 @@ abbrev pub ins : ℕ → Form → ℕ → Use → Instruction
 ins at f code use_of = record { at = at; next = at + 1; form = f; opcode = code; operand = use_of }
 
 abbrev pub adds : Code
-adds = record { locals = Good []; code = ins 0 form.LdArg opcode.LDARG_0 (queries.slot 0) ∷ ins 1 form.LdArg opcode.LDARG_1 (queries.slot 1) ∷ ins 2 form.Binary opcode.ADD queries.nothing ∷ ins 3 form.Ret opcode.RET queries.nothing ∷ []; clauses = [] }
+adds = record { locals = Good []; code = ins 0 form.LdArg opcode.LDARG_0 (used.Slot 0) ∷ ins 1 form.LdArg opcode.LDARG_1 (used.Slot 1) ∷ ins 2 form.Binary opcode.ADD used.Nothing ∷ ins 3 form.Ret opcode.RET used.Nothing ∷ []; clauses = [] }
 
 abbrev pub constructor_of_c : Method
 constructor_of_c = record { flags = 0; owner = 2; constructor = true; signature = Good (record { this = true; own = 0; params = []; ret = expr.Prim element.VOID }); body = None }
@@ -122,22 +143,22 @@ abbrev pub plain_code : List Instruction → Code
 plain_code is = record { locals = Good (int32 ∷ []); code = is; clauses = [] }
 
 abbrev pub int : ℕ → ℤ → Instruction
-int at n = ins at form.LdI4 opcode.LDC_I4 (queries.number n)
+int at n = ins at form.LdI4 opcode.LDC_I4 (used.Number n)
 
 abbrev pub binary : ℕ → ℕ → Instruction
-binary at code = ins at form.Binary code queries.nothing
+binary at code = ins at form.Binary code used.Nothing
 
 abbrev pub ret : ℕ → Instruction
-ret at = ins at form.Ret opcode.RET queries.nothing
+ret at = ins at form.Ret opcode.RET used.Nothing
 
 abbrev pub at_first : ℕ → MethodUse
 at_first m = record { method = record { 0 = m }; owner = def 0; args = [] }
 
 abbrev pub make_c : ℕ → Instruction
-make_c at = ins at form.NewObj opcode.NEWOBJ (queries.method (Good (record { method = record { 0 = 2 }; owner = def 2; args = [] })))
+make_c at = ins at form.NewObj opcode.NEWOBJ (used.Method (Good (record { method = record { 0 = 2 }; owner = def 2; args = [] })))
 
 abbrev pub field_of_c : Use
-field_of_c = queries.field (Good (record { field = record { 0 = 1 }; owner = def 2 }))
+field_of_c = used.Field (Good (record { field = record { 0 = 1 }; owner = def 2 }))
 
 -- 30 steps of an example come to this
 abbrev pub Runs : Code → List ℕ → End → Type 0
@@ -147,7 +168,7 @@ Runs code output end = run_from (world code) 0 [] 30 ≡ record { output = outpu
 
 abbrev pub frame_at : ℕ → List Value → List Value → List Running → Frame
 frame_at at locals stack running =
-    record { number = 0; method = at_first 0; args = []; locals = locals; stack = stack; at = at; prefix = none; running = running; waits = state.nothing }
+    record { number = 0; method = at_first 0; args = []; locals = locals; stack = stack; at = at; prefix = none; running = running; waits = waits.Nothing }
 
 abbrev pub state_at : List Obj → Frame → State
 state_at heap f = record { heap = heap; statics = []; inits = []; texts = []; types = []; top = f; below = []; entered = 1; input = [] }

@@ -1,7 +1,8 @@
 -- A step of the machine: the instruction at the top frame's offset (III.1.3). An offset where none begins is stuck.
 use Rattle.il_base.specs.declared.body.Form.TheVariants as form
 use Rattle.step_rules.specs.Queries.{Queries}
-use Rattle.step_rules.specs.State.{State, Next}
+use Rattle.cil_values.specs.declared.state.State.{State}
+use Rattle.step_rules.specs.Next.{Next}
 use Rattle.step_rules.specs.Words.{Form, given, here_of, instruction_at}
 use Rattle.il_base.specs.declared.body as body
 use Rattle.step_rules.specs.Slots.{nop, load_arg, address_arg, store_arg, load_local, address_local, store_local, load_null, load_int32, load_int64, duplicate, pop}

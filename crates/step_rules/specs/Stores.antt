@@ -5,7 +5,10 @@ use Rattle.world_model.specs.Exprs.{same_expr}
 use Rattle.cil_values.specs.declared.value.Value.{Value, out-Value}
 use Rattle.cil_values.specs.declared.value.Value.TheOpen.{Value-F}
 use Rattle.cil_values.specs.declared.value.Value.TheVariants as value
-use Rattle.step_rules.specs.Queries.{Queries, Layout, Shape, reference, pointer, integer, type_handle, field_handle, structure, no_value}
+use Rattle.cil_values.specs.declared.layout.Layout.{Layout}
+use Rattle.cil_values.specs.declared.layout.Shape.{Shape}
+use Rattle.cil_values.specs.declared.layout.Shape.TheVariants.{Reference as reference, Pointer as pointer, Integer as integer, TypeHandle as type_handle, FieldHandle as field_handle, Structure as structure, NoValue as no_value}
+use Rattle.step_rules.specs.Queries.{Queries}
 use Rattle.step_rules.specs.Closing.{front}
 use Rattle.step_rules.specs.Integers.{number, narrowed, shown, same_width}
 

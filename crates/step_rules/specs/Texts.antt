@@ -1,7 +1,7 @@
 -- `ldstr` (III.4.16): one object for each text.
 use Rattle.std.specs.Prelude.{◌∷◌}
 use Rattle.cil_values.specs.declared.value.Value.TheVariants as value
-use Rattle.step_rules.specs.Queries.{text}
+use Rattle.cil_values.specs.declared.resolved.Use.TheVariants.{Text as text}
 use Rattle.step_rules.specs.Words.{Form, stuck, known, goes}
 use Rattle.step_rules.specs.Objects.{interned}
 

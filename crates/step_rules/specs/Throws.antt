@@ -6,8 +6,17 @@ use Rattle.il_base.specs.declared.opcode.TheConstants.{THROW}
 use Rattle.core_table.specs.declared.names.CoreName.TheVariants.{Exception, NullReferenceException}
 use Rattle.cil_values.specs.declared.value.Value.{Value}
 use Rattle.cil_values.specs.declared.value.Value.TheVariants as value
-use Rattle.step_rules.specs.Queries.{Queries, Code, Clause, target}
-use Rattle.step_rules.specs.State.{State, Frame, Next, went, none, Reason, caught, leaving, unwinding, Running}
+use Rattle.cil_values.specs.declared.resolved.Code.{Code}
+use Rattle.cil_values.specs.declared.resolved.Clause.{Clause}
+use Rattle.cil_values.specs.declared.resolved.Use.TheVariants.{Target as target}
+use Rattle.step_rules.specs.Queries.{Queries}
+use Rattle.cil_values.specs.declared.state.State.{State}
+use Rattle.cil_values.specs.declared.frame.Frame.{Frame}
+use Rattle.cil_values.specs.declared.frame.Reason.{Reason}
+use Rattle.cil_values.specs.declared.frame.Running.{Running}
+use Rattle.cil_values.specs.declared.frame.Prefix.TheVariants.{None as none}
+use Rattle.cil_values.specs.declared.frame.Reason.TheVariants.{Caught as caught, Leaving as leaving, Unwinding as unwinding}
+use Rattle.step_rules.specs.Next.{Next, went}
 use Rattle.step_rules.specs.Words.{Form, Here, stuck, given, required, popped, in_try, in_handler, implies, enters_no_handler, object_at}
 use Rattle.step_rules.specs.Objects.{core_type, is_a}
 use Rattle.step_rules.specs.Raising.{is_catch, is_finally, places_of, still_running, handler_begins, unwind, throw, raise}

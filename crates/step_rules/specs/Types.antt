@@ -9,9 +9,13 @@ use Rattle.cil_values.specs.declared.value.Value.{Value}
 use Rattle.cil_values.specs.declared.value.Value.TheVariants as value
 use Rattle.cil_values.specs.declared.object.Obj.{Obj}
 use Rattle.cil_values.specs.declared.object.Obj.TheVariants as object
-use Rattle.step_rules.specs.Queries.{Queries, Instruction, Use, typ, method}
-use Rattle.step_rules.specs.Queries as queries
-use Rattle.step_rules.specs.State.{State, Next}
+use Rattle.cil_values.specs.declared.resolved.Instruction.{Instruction}
+use Rattle.cil_values.specs.declared.resolved.Use.{Use}
+use Rattle.cil_values.specs.declared.resolved.Use.TheVariants.{Typ as typ, Method as method}
+use Rattle.step_rules.specs.Queries.{Queries}
+use Rattle.cil_values.specs.declared.resolved.Use.TheVariants as used
+use Rattle.cil_values.specs.declared.state.State.{State}
+use Rattle.step_rules.specs.Next.{Next}
 use Rattle.step_rules.specs.Words.{Form, Here, stuck, stopped, given, had, known, required, popped, goes, made, object_at}
 use Rattle.step_rules.specs.Closing.{closed, closed_field, plain, standing, is_sound, if_so}
 use Rattle.step_rules.specs.Stores.{fits, fits_reference, is_reference, is_value}
@@ -110,7 +114,7 @@ unfoldable pub load_token : Form
 load_token q here i s =
     elim i.operand [
       | typ e ↦ known e s (load_handle q here i s)
-      | queries.field f ↦ closed_field q here f s (λ a. goes here i (value.FieldHandle (record { 0 = a.id }) ∷ s.top.stack) s)
+      | used.Field f ↦ closed_field q here f s (λ a. goes here i (value.FieldHandle (record { 0 = a.id }) ∷ s.top.stack) s)
       | method m ↦ stopped s
       | _ ↦ stuck s
     ]

@@ -11,8 +11,15 @@ use Rattle.cil_values.specs.declared.value.Value.{Value}
 use Rattle.cil_values.specs.declared.value.Value.TheVariants.{I4}
 use Rattle.cil_values.specs.declared.object.Obj.{Obj}
 use Rattle.cil_values.specs.declared.end.End.TheVariants.{Stopped, Stuck}
-use Rattle.step_rules.specs.Queries.{Queries, Method, Code, Clause, Instruction}
-use Rattle.step_rules.specs.State.{State, Frame, Next, went, over, none}
+use Rattle.cil_values.specs.declared.definition.Method.{Method}
+use Rattle.cil_values.specs.declared.resolved.Code.{Code}
+use Rattle.cil_values.specs.declared.resolved.Clause.{Clause}
+use Rattle.cil_values.specs.declared.resolved.Instruction.{Instruction}
+use Rattle.step_rules.specs.Queries.{Queries}
+use Rattle.cil_values.specs.declared.state.State.{State}
+use Rattle.cil_values.specs.declared.frame.Frame.{Frame}
+use Rattle.cil_values.specs.declared.frame.Prefix.TheVariants.{None as none}
+use Rattle.step_rules.specs.Next.{Next, went, over}
 
 -- ---- ends
 

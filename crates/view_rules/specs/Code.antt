@@ -23,9 +23,13 @@ use Rattle.link_rules.specs.Signatures.{names_at, token_type}
 use Rattle.link_rules.specs.Members.{arguments_of}
 use Rattle.mark_rules.specs.Naming.{method_named, field_named}
 use Rattle.mark_rules.specs.Bodies.{is_field_token, is_method_token}
-use Rattle.step_rules.specs.Queries.{Use, Instruction, Kind, Clause, Code}
-use Rattle.step_rules.specs.Queries.{Use as use_of}
-use Rattle.step_rules.specs.Queries.Kind.{catches, finally, fault}
+use Rattle.cil_values.specs.declared.resolved.Use.{Use}
+use Rattle.cil_values.specs.declared.resolved.Instruction.{Instruction}
+use Rattle.cil_values.specs.declared.resolved.ClauseKind.{ClauseKind as Kind}
+use Rattle.cil_values.specs.declared.resolved.Clause.{Clause}
+use Rattle.cil_values.specs.declared.resolved.Code.{Code}
+use Rattle.cil_values.specs.declared.resolved.Use.TheVariants as use_of
+use Rattle.cil_values.specs.declared.resolved.ClauseKind.TheVariants.{Catch as catches, Finally as finally, Fault as fault}
 
 -- ---- operands
 
@@ -42,25 +46,25 @@ text_named rec token = text_by (find (is_token token) rec.user)
 
 abbrev pub handle_use : List AsmRec → ℕ → AsmRec → ℕ → Use
 handle_use recs a rec token =
-    if is_field_token rec token then use_of.field (field_named recs a rec token)
-    else if is_method_token token then use_of.method (method_named recs a rec token)
-    else use_of.typ (token_type recs a rec token)
+    if is_field_token rec token then use_of.Field (field_named recs a rec token)
+    else if is_method_token token then use_of.Method (method_named recs a rec token)
+    else use_of.Typ (token_type recs a rec token)
 
 abbrev pub token_use : List AsmRec → ℕ → AsmRec → Form → ℕ → Use
-token_use recs a rec form.Call token = use_of.method (method_named recs a rec token)
-token_use recs a rec form.NewObj token = use_of.method (method_named recs a rec token)
-token_use recs a rec form.Field token = use_of.field (field_named recs a rec token)
-token_use recs a rec form.LdStr token = use_of.text (text_named rec token)
+token_use recs a rec form.Call token = use_of.Method (method_named recs a rec token)
+token_use recs a rec form.NewObj token = use_of.Method (method_named recs a rec token)
+token_use recs a rec form.Field token = use_of.Field (field_named recs a rec token)
+token_use recs a rec form.LdStr token = use_of.Text (text_named rec token)
 token_use recs a rec form.LdToken token = handle_use recs a rec token
-token_use recs a rec _ token = use_of.typ (token_type recs a rec token)
+token_use recs a rec _ token = use_of.Typ (token_type recs a rec token)
 
 abbrev pub use_by : List AsmRec → ℕ → AsmRec → Form → Operand → Use
-use_by recs a rec f operand.None = use_of.nothing
-use_by recs a rec f (operand.Number n) = use_of.number n
-use_by recs a rec f (operand.Slot n) = use_of.slot n
+use_by recs a rec f operand.None = use_of.Nothing
+use_by recs a rec f (operand.Number n) = use_of.Number n
+use_by recs a rec f (operand.Slot n) = use_of.Slot n
 use_by recs a rec f (operand.Token token) = token_use recs a rec f token
-use_by recs a rec f (operand.Target at) = use_of.target at
-use_by recs a rec f (operand.Targets ts) = use_of.targets ts
+use_by recs a rec f (operand.Target at) = use_of.Target at
+use_by recs a rec f (operand.Targets ts) = use_of.Targets ts
 
 unfoldable pub instruction_of : List AsmRec → ℕ → AsmRec → Instr → Instruction
 instruction_of recs a rec i = record { at = i.at; next = i.at + length (instr_bytes i); form = i.form; opcode = i.opcode; operand = use_by recs a rec i.form i.operand }

@@ -6,8 +6,10 @@ use Rattle.world_model.specs.declared.known.Known.TheVariants.{Good}
 use Rattle.world_model.specs.declared.expr.TypeExpr.{TypeExpr}
 use Rattle.world_model.specs.declared.expr.TypeExpr as expr
 use Rattle.cil_values.specs.declared.value.Value.TheVariants as value
-use Rattle.step_rules.specs.Queries.{First}
-use Rattle.step_rules.specs.Queries as queries
+use Rattle.cil_values.specs.declared.definition.First.{First}
+use Rattle.cil_values.specs.declared.definition.First.TheVariants as first
+use Rattle.cil_values.specs.declared.layout.Cell.TheVariants as cell
+use Rattle.cil_values.specs.declared.layout.Shape.TheVariants as shape
 use Rattle.view_rules.specs.Methods.{field_query}
 use Rattle.view_rules.specs.Layouts.{shape_query, shape_within}
 use Rattle.view_rules.specs.Sample.{recs}
@@ -20,27 +22,27 @@ def t = expr.Def (record { 0 = t })
 
 -- a field of a struct type has its bytes
 abbrev pub HasBytes : Type 0
-HasBytes = Begins 0 (queries.bytes (Good (1 ∷ 2 ∷ 3 ∷ [])))
+HasBytes = Begins 0 (first.Bytes (Good (1 ∷ 2 ∷ 3 ∷ [])))
 
 abbrev pub HasNone : Type 0
-HasNone = Begins 1 queries.blank
+HasNone = Begins 1 first.Blank
 
 abbrev pub ClassIsReference : Type 0
-ClassIsReference = shape_query recs (def 1) ≡ queries.reference
+ClassIsReference = shape_query recs (def 1) ≡ shape.Reference
 
 abbrev pub StructHasCells : Type 0
-StructHasCells = shape_query recs (def 0) ≡ queries.structure []
+StructHasCells = shape_query recs (def 0) ≡ shape.Structure []
 
 -- an enum over int32 is an int32, and one over an enum a struct
 abbrev pub EnumIsNumber : Type 0
-EnumIsNumber = shape_query recs (def 2) ≡ queries.integer element.I4
+EnumIsNumber = shape_query recs (def 2) ≡ shape.Integer element.I4
 
 abbrev pub EnumOfEnum : Type 0
-EnumOfEnum = shape_within recs 1 (def 3) ≡ queries.structure (record { cell = queries.of_field 3; typ = def 2; zero = value.I4 (pos 0) } ∷ [])
+EnumOfEnum = shape_within recs 1 (def 3) ≡ shape.Structure (record { cell = cell.Field 3; typ = def 2; zero = value.I4 (pos 0) } ∷ [])
 
 -- as deep as there may be structs: a struct more isn't there, and a number is
 abbrev pub TooDeep : Type 0
-TooDeep = shape_within recs 0 (def 0) ≡ queries.no_value
+TooDeep = shape_within recs 0 (def 0) ≡ shape.NoValue
 
 abbrev pub NumberIsThere : Type 0
-NumberIsThere = shape_within recs 0 (def 2) ≡ queries.integer element.I4
+NumberIsThere = shape_within recs 0 (def 2) ≡ shape.Integer element.I4

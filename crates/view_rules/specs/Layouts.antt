@@ -19,9 +19,10 @@ use Rattle.link_rules.specs.Cycles.{listed, home_of, is_value_type}
 use Rattle.type_rules.specs.Rows.{rec_at, fields_of_type, is_instance_field, is_enum}
 use Rattle.cil_values.specs.declared.value.Value.{Value}
 use Rattle.cil_values.specs.declared.value.Value as value
-use Rattle.step_rules.specs.Queries.{Layout, Shape}
-use Rattle.step_rules.specs.Queries.Cell.{of_field, message, inner}
-use Rattle.step_rules.specs.Queries.Shape.{reference, pointer, integer, type_handle, field_handle, structure, no_value}
+use Rattle.cil_values.specs.declared.layout.Layout.{Layout}
+use Rattle.cil_values.specs.declared.layout.Shape.{Shape}
+use Rattle.cil_values.specs.declared.layout.Cell.TheVariants.{Field as of_field, Message as message, Inner as inner}
+use Rattle.cil_values.specs.declared.layout.Shape.TheVariants.{Reference as reference, Pointer as pointer, Integer as integer, TypeHandle as type_handle, FieldHandle as field_handle, Structure as structure, NoValue as no_value}
 use Rattle.view_rules.specs.Members.{core_type_row}
 use Rattle.step_rules.specs.Closing.{plain, closed_cell_by}
 use Rattle.step_rules.specs.Stores.{zero_shape}

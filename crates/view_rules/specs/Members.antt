@@ -18,8 +18,11 @@ use Rattle.core_table.specs.declared.types.TheConstants.{TYPES}
 use Rattle.core_table.specs.Names.{text_of}
 use Rattle.core_table.specs.Members.{methods_of}
 use Rattle.core_table.specs.Kinds.{core_row, member_in}
-use Rattle.step_rules.specs.Members.{CoreCall, Printed}
-use Rattle.step_rules.specs.Members.{CoreCall as call, Printed as printed}
+use Rattle.cil_values.specs.declared.core_call.CoreCall.{CoreCall}
+use Rattle.cil_values.specs.declared.core_call.Printed.{Printed}
+use Rattle.cil_values.specs.declared.core_call.CoreCall.TheVariants as call
+use Rattle.cil_values.specs.declared.core_call.Printed.TheVariants as printed
+use Rattle.cil_values.specs.declared.core_call.CoreCall.{CoreCall}
 
 -- ---- by parameters
 
@@ -34,83 +37,83 @@ equals_by _ any own = any
 
 abbrev pub printed_by : CoreSig → Option Printed
 printed_by (Prim code) =
-    if code == element.STRING then Some printed.of_string
-    else if code == element.I4 then Some printed.of_number
-    else if code == element.I8 then Some printed.of_number
-    else if code == element.BOOLEAN then Some printed.of_bool
-    else if code == element.CHAR then Some printed.of_char
-    else if code == element.OBJECT then Some printed.of_object
+    if code == element.STRING then Some printed.OfString
+    else if code == element.I4 then Some printed.OfNumber
+    else if code == element.I8 then Some printed.OfNumber
+    else if code == element.BOOLEAN then Some printed.OfBool
+    else if code == element.CHAR then Some printed.OfChar
+    else if code == element.OBJECT then Some printed.OfObject
     else None
 printed_by _ = None
 
 abbrev pub prints_by : Bool → CoreParams → Option CoreCall
-prints_by ends Zero = if ends then Some call.prints_line_end else None
-prints_by ends (One s) = option_map (call.prints ends) (printed_by s)
+prints_by ends Zero = if ends then Some call.PrintsLineEnd else None
+prints_by ends (One s) = option_map (call.Prints ends) (printed_by s)
 prints_by ends _ = None
 
 -- ---- by type and name
 
 abbrev pub object_call : CoreName → CoreParams → Option CoreCall
-object_call core.Constructor ps = Some call.idle
-object_call core.ToString ps = Some call.type_name
-object_call core.Equals (One s) = Some call.is_object
-object_call core.Equals ps = Some call.are_equal
-object_call core.GetHashCode ps = Some call.halts
-object_call core.Finalize ps = Some call.idle
-object_call core.ReferenceEquals ps = Some call.same_reference
+object_call core.Constructor ps = Some call.Idle
+object_call core.ToString ps = Some call.TypeName
+object_call core.Equals (One s) = Some call.IsObject
+object_call core.Equals ps = Some call.AreEqual
+object_call core.GetHashCode ps = Some call.Halts
+object_call core.Finalize ps = Some call.Idle
+object_call core.ReferenceEquals ps = Some call.SameReference
 object_call _ ps = None
 
 -- of Boolean, Char and the integers, by element type
 abbrev pub primitive_call : ℕ → CoreName → CoreParams → Option CoreCall
-primitive_call code core.ToString ps = Some (call.number_text code)
-primitive_call code core.Equals (One s) = Some (equals_by s (call.number_is code) call.int_equals)
-primitive_call code core.GetHashCode ps = Some call.halts
-primitive_call code core.CompareTo ps = Some call.int_compare
-primitive_call code core.Parse ps = Some call.int_parse
+primitive_call code core.ToString ps = Some (call.NumberText code)
+primitive_call code core.Equals (One s) = Some (equals_by s (call.NumberIs code) call.IntEquals)
+primitive_call code core.GetHashCode ps = Some call.Halts
+primitive_call code core.CompareTo ps = Some call.IntCompare
+primitive_call code core.Parse ps = Some call.IntParse
 primitive_call code _ ps = None
 
 abbrev pub string_call : CoreName → CoreParams → Option CoreCall
-string_call core.GetLength ps = Some call.string_length
-string_call core.GetChars ps = Some call.string_unit
-string_call core.Concat ps = Some call.string_concat
-string_call core.OpEquality ps = Some call.string_same
-string_call core.OpInequality ps = Some call.string_other
-string_call core.Equals (One s) = Some (equals_by s call.string_is call.string_same)
-string_call core.ToString ps = Some call.string_itself
-string_call core.GetHashCode ps = Some call.halts
-string_call core.Substring (One s) = Some call.string_from
-string_call core.Substring ps = Some call.string_part
-string_call core.IndexOf ps = Some call.string_index
-string_call core.IsNullOrEmpty ps = Some call.string_is_empty
-string_call core.CompareOrdinal ps = Some call.string_compare
+string_call core.GetLength ps = Some call.StringLength
+string_call core.GetChars ps = Some call.StringUnit
+string_call core.Concat ps = Some call.StringConcat
+string_call core.OpEquality ps = Some call.StringSame
+string_call core.OpInequality ps = Some call.StringOther
+string_call core.Equals (One s) = Some (equals_by s call.StringIs call.StringSame)
+string_call core.ToString ps = Some call.StringItself
+string_call core.GetHashCode ps = Some call.Halts
+string_call core.Substring (One s) = Some call.StringFrom
+string_call core.Substring ps = Some call.StringPart
+string_call core.IndexOf ps = Some call.StringIndex
+string_call core.IsNullOrEmpty ps = Some call.StringIsEmpty
+string_call core.CompareOrdinal ps = Some call.StringCompare
 string_call _ ps = None
 
 abbrev pub console_call : CoreName → CoreParams → Option CoreCall
 console_call core.WriteLine ps = prints_by true ps
 console_call core.Write ps = prints_by false ps
-console_call core.ReadLine ps = Some call.read_line
-console_call core.Read ps = Some call.read_unit
+console_call core.ReadLine ps = Some call.ReadLine
+console_call core.Read ps = Some call.ReadUnit
 console_call _ ps = None
 
 -- a constructor with one text: the message, or of two types the name of a parameter
 abbrev pub text_call : CoreName → CoreCall
-text_call core.ArgumentNullException = call.exception_parameter core.ArgumentNullException
-text_call core.ArgumentOutOfRangeException = call.exception_parameter core.ArgumentOutOfRangeException
-text_call _ = call.exception_text
+text_call core.ArgumentNullException = call.ExceptionParameter core.ArgumentNullException
+text_call core.ArgumentOutOfRangeException = call.ExceptionParameter core.ArgumentOutOfRangeException
+text_call _ = call.ExceptionText
 
 abbrev pub exception_call : CoreName → CoreName → CoreParams → Option CoreCall
-exception_call owner core.Constructor Zero = Some call.exception_plain
+exception_call owner core.Constructor Zero = Some call.ExceptionPlain
 exception_call owner core.Constructor (One s) = Some (text_call owner)
-exception_call owner core.Constructor (Two s t) = Some call.exception_inner
-exception_call owner core.GetMessage ps = Some call.get_message
-exception_call owner core.GetInnerException ps = Some call.get_inner
-exception_call owner core.ToString ps = Some call.halts
+exception_call owner core.Constructor (Two s t) = Some call.ExceptionInner
+exception_call owner core.GetMessage ps = Some call.GetMessage
+exception_call owner core.GetInnerException ps = Some call.GetInner
+exception_call owner core.ToString ps = Some call.Halts
 exception_call owner _ ps = None
 
 abbrev pub call_by : CoreName → CoreName → CoreParams → Option CoreCall
 call_by core.Object name ps = object_call name ps
-call_by core.ValueType name ps = Some call.halts
-call_by core.Enum name ps = Some call.halts
+call_by core.ValueType name ps = Some call.Halts
+call_by core.Enum name ps = Some call.Halts
 call_by core.Boolean name ps = primitive_call element.BOOLEAN name ps
 call_by core.Char name ps = primitive_call element.CHAR name ps
 call_by core.SByte name ps = primitive_call element.I1 name ps
@@ -122,10 +125,10 @@ call_by core.UInt32 name ps = primitive_call element.U4 name ps
 call_by core.Int64 name ps = primitive_call element.I8 name ps
 call_by core.UInt64 name ps = primitive_call element.U8 name ps
 call_by core.String name ps = string_call name ps
-call_by core.Array name ps = Some call.array_length
+call_by core.Array name ps = Some call.ArrayLength
 call_by core.Console name ps = console_call name ps
-call_by core.RuntimeHelpers name ps = Some call.fill_array
-call_by core.Attribute name ps = Some call.idle
+call_by core.RuntimeHelpers name ps = Some call.FillArray
+call_by core.Attribute name ps = Some call.Idle
 call_by core.IDisposable name ps = None
 call_by owner name ps = exception_call owner name ps
 

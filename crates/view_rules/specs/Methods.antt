@@ -27,8 +27,13 @@ use Rattle.link_rules.specs.Cycles.{listed, is_static_field}
 use Rattle.type_rules.specs.Slots.{type_of_method}
 use Rattle.type_rules.specs.Rows.{rec_at, type_row_at, owner_of_field}
 use Rattle.mark_rules.specs.BadItems.{is_global, is_platform, is_interface_body}
-use Rattle.step_rules.specs.Queries.{Signature, Method, FieldDef, Head, First, Code}
-use Rattle.step_rules.specs.Queries.First.{blank, bytes, empty_text}
+use Rattle.cil_values.specs.declared.definition.Signature.{Signature}
+use Rattle.cil_values.specs.declared.definition.Method.{Method}
+use Rattle.cil_values.specs.declared.definition.FieldDef.{FieldDef}
+use Rattle.cil_values.specs.declared.definition.Head.{Head}
+use Rattle.cil_values.specs.declared.definition.First.{First}
+use Rattle.cil_values.specs.declared.resolved.Code.{Code}
+use Rattle.cil_values.specs.declared.definition.First.TheVariants.{Blank as blank, Bytes as bytes, EmptyText as empty_text}
 use Rattle.view_rules.specs.Code.{code_of}
 
 -- ---- methods
