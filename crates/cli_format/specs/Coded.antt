@@ -1,25 +1,26 @@
 -- The tables that a coded index can name (II.24.2.6).
 use Rattle.std.specs.Prelude.{ℕ, List, [], ◌∷◌}
+use Rattle.il_base.specs.declared.table.TheConstants.{MODULE, TYPE_REF, TYPE_DEF, FIELD, METHOD_DEF, PARAM, INTERFACE_IMPL, MEMBER_REF, DECL_SECURITY, STAND_ALONE_SIG, EVENT, PROPERTY, MODULE_REF, TYPE_SPEC, ASSEMBLY, ASSEMBLY_REF, FILE, EXPORTED_TYPE, MANIFEST_RESOURCE, GENERIC_PARAM, METHOD_SPEC, GENERIC_PARAM_CONSTRAINT}
 use Rattle.cli_format.specs.declared.column.CodedIndex.{CodedIndex}
 use Rattle.cli_format.specs.declared.column.CodedIndex.TheVariants.{TypeDefOrRef, HasConstant, HasCustomAttribute, HasFieldMarshal, HasDeclSecurity, MemberRefParent, HasSemantics, MethodDefOrRef, MemberForwarded, Implementation, CustomAttributeType, ResolutionScope, TypeOrMethodDef}
 
 -- the tables that its tags name, in order of the tags, from the first one that names a table on
 abbrev pub targets_of : CodedIndex → List ℕ
-targets_of TypeDefOrRef = 0x02 ∷ 0x01 ∷ 0x1b ∷ []
-targets_of HasConstant = 0x04 ∷ 0x08 ∷ 0x17 ∷ []
+targets_of TypeDefOrRef = TYPE_DEF ∷ TYPE_REF ∷ TYPE_SPEC ∷ []
+targets_of HasConstant = FIELD ∷ PARAM ∷ PROPERTY ∷ []
 targets_of HasCustomAttribute =
-    0x06 ∷ 0x04 ∷ 0x01 ∷ 0x02 ∷ 0x08 ∷ 0x09 ∷ 0x0a ∷ 0x00 ∷ 0x0e ∷ 0x17 ∷ 0x14
-    ∷ 0x11 ∷ 0x1a ∷ 0x1b ∷ 0x20 ∷ 0x23 ∷ 0x26 ∷ 0x27 ∷ 0x28 ∷ 0x2a ∷ 0x2c ∷ 0x2b ∷ []
-targets_of HasFieldMarshal = 0x04 ∷ 0x08 ∷ []
-targets_of HasDeclSecurity = 0x02 ∷ 0x06 ∷ 0x20 ∷ []
-targets_of MemberRefParent = 0x02 ∷ 0x01 ∷ 0x1a ∷ 0x06 ∷ 0x1b ∷ []
-targets_of HasSemantics = 0x14 ∷ 0x17 ∷ []
-targets_of MethodDefOrRef = 0x06 ∷ 0x0a ∷ []
-targets_of MemberForwarded = 0x04 ∷ 0x06 ∷ []
-targets_of Implementation = 0x26 ∷ 0x23 ∷ 0x27 ∷ []
-targets_of CustomAttributeType = 0x06 ∷ 0x0a ∷ []
-targets_of ResolutionScope = 0x00 ∷ 0x1a ∷ 0x23 ∷ 0x01 ∷ []
-targets_of TypeOrMethodDef = 0x02 ∷ 0x06 ∷ []
+    METHOD_DEF ∷ FIELD ∷ TYPE_REF ∷ TYPE_DEF ∷ PARAM ∷ INTERFACE_IMPL ∷ MEMBER_REF ∷ MODULE ∷ DECL_SECURITY ∷ PROPERTY ∷ EVENT
+    ∷ STAND_ALONE_SIG ∷ MODULE_REF ∷ TYPE_SPEC ∷ ASSEMBLY ∷ ASSEMBLY_REF ∷ FILE ∷ EXPORTED_TYPE ∷ MANIFEST_RESOURCE ∷ GENERIC_PARAM ∷ GENERIC_PARAM_CONSTRAINT ∷ METHOD_SPEC ∷ []
+targets_of HasFieldMarshal = FIELD ∷ PARAM ∷ []
+targets_of HasDeclSecurity = TYPE_DEF ∷ METHOD_DEF ∷ ASSEMBLY ∷ []
+targets_of MemberRefParent = TYPE_DEF ∷ TYPE_REF ∷ MODULE_REF ∷ METHOD_DEF ∷ TYPE_SPEC ∷ []
+targets_of HasSemantics = EVENT ∷ PROPERTY ∷ []
+targets_of MethodDefOrRef = METHOD_DEF ∷ MEMBER_REF ∷ []
+targets_of MemberForwarded = FIELD ∷ METHOD_DEF ∷ []
+targets_of Implementation = FILE ∷ ASSEMBLY_REF ∷ EXPORTED_TYPE ∷ []
+targets_of CustomAttributeType = METHOD_DEF ∷ MEMBER_REF ∷ []
+targets_of ResolutionScope = MODULE ∷ MODULE_REF ∷ ASSEMBLY_REF ∷ TYPE_REF ∷ []
+targets_of TypeOrMethodDef = TYPE_DEF ∷ METHOD_DEF ∷ []
 
 -- how many of its low bits are the tag
 abbrev pub tag_bits_of : CodedIndex → ℕ

@@ -9,6 +9,7 @@ use Rattle.cli_format.specs.declared.key.SortKey.{SortKey}
 use Rattle.cli_format.specs.declared.key.SortKey.TheVariants.{Unsorted, ByOne, Strictly, ByTwo}
 use Rattle.cli_format.specs.declared.stream.Stream.{Stream}
 use Rattle.cli_format.specs.declared.stream.StreamName.TheVariants.{Tables, Strings, UserStrings, Guids, Blobs, Uncompressed}
+use Rattle.il_base.specs.declared.table.TheConstants.{MODULE, TYPE_DEF, ASSEMBLY}
 use Rattle.il_base.specs.declared.reason.TheConstants.{BAD_ROOT, BAD_STREAM, BAD_HEAP, UNKNOWN_TABLE, ROW_OUT_OF_RANGE, LIST_ORDER, SORT_ORDER}
 use Rattle.cli_format.specs.Demand.{Demand, demand, each_below, first_fault, bad, number}
 use Rattle.cli_format.specs.Streams.{version_length, stream_count, header_place, header_size, name_length, padding_length, stream_at, streams_before, streams_of, stream_called, heap, heap_place, agrees, zeros, name_number}
@@ -101,7 +102,7 @@ limit_demands ts t = demand (nat_le (rows_of ts t) most_rows) (Rows (rows_of ts 
 -- one Module row, one Assembly row, and a TypeDef row
 unfoldable pub single_demands : List ℕ → ℕ → List (Demand TablesError)
 single_demands ts base =
-    demand ((rows_of ts 0x00 == 1) && (rows_of ts 0x20 == 1) && nat_le 1 (rows_of ts 0x02)) (bad_at (base + 8) ROW_OUT_OF_RANGE)
+    demand ((rows_of ts MODULE == 1) && (rows_of ts ASSEMBLY == 1) && nat_le 1 (rows_of ts TYPE_DEF)) (bad_at (base + 8) ROW_OUT_OF_RANGE)
 
 unfoldable pub rows_demands : List ℕ → ℕ → List (Demand TablesError)
 rows_demands ts base =

@@ -2,28 +2,60 @@ ghost use Rattle.std.specs.Prelude.{◌≡◌};
 ghost use Rattle.cli_format.specs.Coded.{tag_bits_of, first_tag_of, targets_of};
 
 use crate::column::CodedIndex;
+use il_base::table;
 
 /// The tables that the tags of a coded index name, in order of the tags (II.24.2.6).
 pub fn targets(index: CodedIndex) -> &'static [u8]
     ensures { result.now ≡ targets_of index }
 {
     match index {
-        CodedIndex::TypeDefOrRef => &[0x02, 0x01, 0x1b],
-        CodedIndex::HasConstant => &[0x04, 0x08, 0x17],
+        CodedIndex::TypeDefOrRef => &[table::TYPE_DEF, table::TYPE_REF, table::TYPE_SPEC],
+        CodedIndex::HasConstant => &[table::FIELD, table::PARAM, table::PROPERTY],
         CodedIndex::HasCustomAttribute => &[
-            0x06, 0x04, 0x01, 0x02, 0x08, 0x09, 0x0a, 0x00, 0x0e, 0x17, 0x14, 0x11, 0x1a, 0x1b,
-            0x20, 0x23, 0x26, 0x27, 0x28, 0x2a, 0x2c, 0x2b,
+            table::METHOD_DEF,
+            table::FIELD,
+            table::TYPE_REF,
+            table::TYPE_DEF,
+            table::PARAM,
+            table::INTERFACE_IMPL,
+            table::MEMBER_REF,
+            table::MODULE,
+            table::DECL_SECURITY,
+            table::PROPERTY,
+            table::EVENT,
+            table::STAND_ALONE_SIG,
+            table::MODULE_REF,
+            table::TYPE_SPEC,
+            table::ASSEMBLY,
+            table::ASSEMBLY_REF,
+            table::FILE,
+            table::EXPORTED_TYPE,
+            table::MANIFEST_RESOURCE,
+            table::GENERIC_PARAM,
+            table::GENERIC_PARAM_CONSTRAINT,
+            table::METHOD_SPEC,
         ],
-        CodedIndex::HasFieldMarshal => &[0x04, 0x08],
-        CodedIndex::HasDeclSecurity => &[0x02, 0x06, 0x20],
-        CodedIndex::MemberRefParent => &[0x02, 0x01, 0x1a, 0x06, 0x1b],
-        CodedIndex::HasSemantics => &[0x14, 0x17],
-        CodedIndex::MethodDefOrRef => &[0x06, 0x0a],
-        CodedIndex::MemberForwarded => &[0x04, 0x06],
-        CodedIndex::Implementation => &[0x26, 0x23, 0x27],
-        CodedIndex::CustomAttributeType => &[0x06, 0x0a],
-        CodedIndex::ResolutionScope => &[0x00, 0x1a, 0x23, 0x01],
-        CodedIndex::TypeOrMethodDef => &[0x02, 0x06],
+        CodedIndex::HasFieldMarshal => &[table::FIELD, table::PARAM],
+        CodedIndex::HasDeclSecurity => &[table::TYPE_DEF, table::METHOD_DEF, table::ASSEMBLY],
+        CodedIndex::MemberRefParent => &[
+            table::TYPE_DEF,
+            table::TYPE_REF,
+            table::MODULE_REF,
+            table::METHOD_DEF,
+            table::TYPE_SPEC,
+        ],
+        CodedIndex::HasSemantics => &[table::EVENT, table::PROPERTY],
+        CodedIndex::MethodDefOrRef => &[table::METHOD_DEF, table::MEMBER_REF],
+        CodedIndex::MemberForwarded => &[table::FIELD, table::METHOD_DEF],
+        CodedIndex::Implementation => &[table::FILE, table::ASSEMBLY_REF, table::EXPORTED_TYPE],
+        CodedIndex::CustomAttributeType => &[table::METHOD_DEF, table::MEMBER_REF],
+        CodedIndex::ResolutionScope => &[
+            table::MODULE,
+            table::MODULE_REF,
+            table::ASSEMBLY_REF,
+            table::TYPE_REF,
+        ],
+        CodedIndex::TypeOrMethodDef => &[table::TYPE_DEF, table::METHOD_DEF],
     }
 }
 

@@ -12,6 +12,7 @@ use crate::column::Column;
 use crate::column::Column::{
     Blob, Coded, CodedOrNone, Guid, Index, IndexOrNone, Run, Text, U8, U16, U32,
 };
+use il_base::table;
 
 /// Module (II.22.30): Generation, Name, Mvid, EncId, EncBaseId.
 pub const MODULE: [Column; 5] = [U16, Text, Guid, Guid, Guid];
@@ -25,21 +26,21 @@ pub const TYPE_DEF: [Column; 6] = [
     Text,
     Text,
     CodedOrNone(TypeDefOrRef),
-    Run(0x04),
-    Run(0x06),
+    Run(table::FIELD),
+    Run(table::METHOD_DEF),
 ];
 
 /// Field (II.22.15): Flags, Name, Signature.
 pub const FIELD: [Column; 3] = [U16, Text, Blob];
 
 /// MethodDef (II.22.26): RVA, ImplFlags, Flags, Name, Signature, ParamList.
-pub const METHOD_DEF: [Column; 6] = [U32, U16, U16, Text, Blob, Run(0x08)];
+pub const METHOD_DEF: [Column; 6] = [U32, U16, U16, Text, Blob, Run(table::PARAM)];
 
 /// Param (II.22.33): Flags, Sequence, Name.
 pub const PARAM: [Column; 3] = [U16, U16, Text];
 
 /// InterfaceImpl (II.22.23): Class, Interface.
-pub const INTERFACE_IMPL: [Column; 2] = [Index(0x02), Coded(TypeDefOrRef)];
+pub const INTERFACE_IMPL: [Column; 2] = [Index(table::TYPE_DEF), Coded(TypeDefOrRef)];
 
 /// MemberRef (II.22.25): Class, Name, Signature.
 pub const MEMBER_REF: [Column; 3] = [Coded(MemberRefParent), Text, Blob];
@@ -61,31 +62,35 @@ pub const FIELD_MARSHAL: [Column; 2] = [Coded(HasFieldMarshal), Blob];
 pub const DECL_SECURITY: [Column; 3] = [U16, Coded(HasDeclSecurity), Blob];
 
 /// ClassLayout (II.22.8): PackingSize, ClassSize, Parent.
-pub const CLASS_LAYOUT: [Column; 3] = [U16, U32, Index(0x02)];
+pub const CLASS_LAYOUT: [Column; 3] = [U16, U32, Index(table::TYPE_DEF)];
 
 /// FieldLayout (II.22.16): Offset, Field.
-pub const FIELD_LAYOUT: [Column; 2] = [U32, Index(0x04)];
+pub const FIELD_LAYOUT: [Column; 2] = [U32, Index(table::FIELD)];
 
 /// StandAloneSig (II.22.36): Signature.
 pub const STAND_ALONE_SIG: [Column; 1] = [Blob];
 
 /// EventMap (II.22.12): Parent, EventList.
-pub const EVENT_MAP: [Column; 2] = [Index(0x02), Run(0x14)];
+pub const EVENT_MAP: [Column; 2] = [Index(table::TYPE_DEF), Run(table::EVENT)];
 
 /// Event (II.22.13): EventFlags, Name, EventType.
 pub const EVENT: [Column; 3] = [U16, Text, Coded(TypeDefOrRef)];
 
 /// PropertyMap (II.22.35): Parent, PropertyList.
-pub const PROPERTY_MAP: [Column; 2] = [Index(0x02), Run(0x17)];
+pub const PROPERTY_MAP: [Column; 2] = [Index(table::TYPE_DEF), Run(table::PROPERTY)];
 
 /// Property (II.22.34): Flags, Name, Type.
 pub const PROPERTY: [Column; 3] = [U16, Text, Blob];
 
 /// MethodSemantics (II.22.28): Semantics, Method, Association.
-pub const METHOD_SEMANTICS: [Column; 3] = [U16, Index(0x06), Coded(HasSemantics)];
+pub const METHOD_SEMANTICS: [Column; 3] = [U16, Index(table::METHOD_DEF), Coded(HasSemantics)];
 
 /// MethodImpl (II.22.27): Class, MethodBody, MethodDeclaration.
-pub const METHOD_IMPL: [Column; 3] = [Index(0x02), Coded(MethodDefOrRef), Coded(MethodDefOrRef)];
+pub const METHOD_IMPL: [Column; 3] = [
+    Index(table::TYPE_DEF),
+    Coded(MethodDefOrRef),
+    Coded(MethodDefOrRef),
+];
 
 /// ModuleRef (II.22.31): Name.
 pub const MODULE_REF: [Column; 1] = [Text];
@@ -94,10 +99,15 @@ pub const MODULE_REF: [Column; 1] = [Text];
 pub const TYPE_SPEC: [Column; 1] = [Blob];
 
 /// ImplMap (II.22.22): MappingFlags, MemberForwarded, ImportName, ImportScope.
-pub const IMPL_MAP: [Column; 4] = [U16, Coded(MemberForwarded), Text, IndexOrNone(0x1a)];
+pub const IMPL_MAP: [Column; 4] = [
+    U16,
+    Coded(MemberForwarded),
+    Text,
+    IndexOrNone(table::MODULE_REF),
+];
 
 /// FieldRVA (II.22.18): RVA, Field.
-pub const FIELD_RVA: [Column; 2] = [U32, Index(0x04)];
+pub const FIELD_RVA: [Column; 2] = [U32, Index(table::FIELD)];
 
 /// Assembly (II.22.2): HashAlgId, four version numbers, Flags, PublicKey, Name, Culture.
 pub const ASSEMBLY: [Column; 9] = [U32, U16, U16, U16, U16, U32, Blob, Text, Text];
@@ -112,10 +122,10 @@ pub const ASSEMBLY_OS: [Column; 3] = [U32, U32, U32];
 pub const ASSEMBLY_REF: [Column; 9] = [U16, U16, U16, U16, U32, Blob, Text, Text, Blob];
 
 /// AssemblyRefProcessor (II.22.7): Processor, AssemblyRef.
-pub const ASSEMBLY_REF_PROCESSOR: [Column; 2] = [U32, Index(0x23)];
+pub const ASSEMBLY_REF_PROCESSOR: [Column; 2] = [U32, Index(table::ASSEMBLY_REF)];
 
 /// AssemblyRefOS (II.22.6): OSPlatformID, OSMajorVersion, OSMinorVersion, AssemblyRef.
-pub const ASSEMBLY_REF_OS: [Column; 4] = [U32, U32, U32, Index(0x23)];
+pub const ASSEMBLY_REF_OS: [Column; 4] = [U32, U32, U32, Index(table::ASSEMBLY_REF)];
 
 /// File (II.22.19): Flags, Name, HashValue.
 pub const FILE: [Column; 3] = [U32, Text, Blob];
@@ -127,7 +137,7 @@ pub const EXPORTED_TYPE: [Column; 5] = [U32, U32, Text, Text, CodedOrNone(Implem
 pub const MANIFEST_RESOURCE: [Column; 4] = [U32, U32, Text, CodedOrNone(Implementation)];
 
 /// NestedClass (II.22.32): NestedClass, EnclosingClass.
-pub const NESTED_CLASS: [Column; 2] = [Index(0x02), Index(0x02)];
+pub const NESTED_CLASS: [Column; 2] = [Index(table::TYPE_DEF), Index(table::TYPE_DEF)];
 
 /// GenericParam (II.22.20): Number, Flags, Owner, Name.
 pub const GENERIC_PARAM: [Column; 4] = [U16, U16, Coded(TypeOrMethodDef), Text];
@@ -136,7 +146,10 @@ pub const GENERIC_PARAM: [Column; 4] = [U16, U16, Coded(TypeOrMethodDef), Text];
 pub const METHOD_SPEC: [Column; 2] = [Coded(MethodDefOrRef), Blob];
 
 /// GenericParamConstraint (II.22.21): Owner, Constraint.
-pub const GENERIC_PARAM_CONSTRAINT: [Column; 2] = [Index(0x2a), Coded(TypeDefOrRef)];
+pub const GENERIC_PARAM_CONSTRAINT: [Column; 2] = [
+    Index(table::GENERIC_PARAM),
+    Coded(TypeDefOrRef),
+];
 
 /// The columns of a table, by its number (II.22). There are none where II.22 has no such table.
 #[tactic(auto, unfolding(crate::specs::Columns::columns_of))]
@@ -145,51 +158,51 @@ pub fn columns(table: u8) -> &'static [Column]
     ensures within { length result.now ≤ 9 }
 {
     match table {
-        0x00 => &MODULE,
-        0x01 => &TYPE_REF,
-        0x02 => &TYPE_DEF,
+        table::MODULE => &MODULE,
+        table::TYPE_REF => &TYPE_REF,
+        table::TYPE_DEF => &TYPE_DEF,
         0x03 => &[],
-        0x04 => &FIELD,
+        table::FIELD => &FIELD,
         0x05 => &[],
-        0x06 => &METHOD_DEF,
+        table::METHOD_DEF => &METHOD_DEF,
         0x07 => &[],
-        0x08 => &PARAM,
-        0x09 => &INTERFACE_IMPL,
-        0x0a => &MEMBER_REF,
-        0x0b => &CONSTANT,
-        0x0c => &CUSTOM_ATTRIBUTE,
-        0x0d => &FIELD_MARSHAL,
-        0x0e => &DECL_SECURITY,
-        0x0f => &CLASS_LAYOUT,
-        0x10 => &FIELD_LAYOUT,
-        0x11 => &STAND_ALONE_SIG,
-        0x12 => &EVENT_MAP,
+        table::PARAM => &PARAM,
+        table::INTERFACE_IMPL => &INTERFACE_IMPL,
+        table::MEMBER_REF => &MEMBER_REF,
+        table::CONSTANT => &CONSTANT,
+        table::CUSTOM_ATTRIBUTE => &CUSTOM_ATTRIBUTE,
+        table::FIELD_MARSHAL => &FIELD_MARSHAL,
+        table::DECL_SECURITY => &DECL_SECURITY,
+        table::CLASS_LAYOUT => &CLASS_LAYOUT,
+        table::FIELD_LAYOUT => &FIELD_LAYOUT,
+        table::STAND_ALONE_SIG => &STAND_ALONE_SIG,
+        table::EVENT_MAP => &EVENT_MAP,
         0x13 => &[],
-        0x14 => &EVENT,
-        0x15 => &PROPERTY_MAP,
+        table::EVENT => &EVENT,
+        table::PROPERTY_MAP => &PROPERTY_MAP,
         0x16 => &[],
-        0x17 => &PROPERTY,
-        0x18 => &METHOD_SEMANTICS,
-        0x19 => &METHOD_IMPL,
-        0x1a => &MODULE_REF,
-        0x1b => &TYPE_SPEC,
-        0x1c => &IMPL_MAP,
-        0x1d => &FIELD_RVA,
+        table::PROPERTY => &PROPERTY,
+        table::METHOD_SEMANTICS => &METHOD_SEMANTICS,
+        table::METHOD_IMPL => &METHOD_IMPL,
+        table::MODULE_REF => &MODULE_REF,
+        table::TYPE_SPEC => &TYPE_SPEC,
+        table::IMPL_MAP => &IMPL_MAP,
+        table::FIELD_RVA => &FIELD_RVA,
         0x1e => &[],
         0x1f => &[],
-        0x20 => &ASSEMBLY,
-        0x21 => &ASSEMBLY_PROCESSOR,
-        0x22 => &ASSEMBLY_OS,
-        0x23 => &ASSEMBLY_REF,
-        0x24 => &ASSEMBLY_REF_PROCESSOR,
-        0x25 => &ASSEMBLY_REF_OS,
-        0x26 => &FILE,
-        0x27 => &EXPORTED_TYPE,
-        0x28 => &MANIFEST_RESOURCE,
-        0x29 => &NESTED_CLASS,
-        0x2a => &GENERIC_PARAM,
-        0x2b => &METHOD_SPEC,
-        0x2c => &GENERIC_PARAM_CONSTRAINT,
+        table::ASSEMBLY => &ASSEMBLY,
+        table::ASSEMBLY_PROCESSOR => &ASSEMBLY_PROCESSOR,
+        table::ASSEMBLY_OS => &ASSEMBLY_OS,
+        table::ASSEMBLY_REF => &ASSEMBLY_REF,
+        table::ASSEMBLY_REF_PROCESSOR => &ASSEMBLY_REF_PROCESSOR,
+        table::ASSEMBLY_REF_OS => &ASSEMBLY_REF_OS,
+        table::FILE => &FILE,
+        table::EXPORTED_TYPE => &EXPORTED_TYPE,
+        table::MANIFEST_RESOURCE => &MANIFEST_RESOURCE,
+        table::NESTED_CLASS => &NESTED_CLASS,
+        table::GENERIC_PARAM => &GENERIC_PARAM,
+        table::METHOD_SPEC => &METHOD_SPEC,
+        table::GENERIC_PARAM_CONSTRAINT => &GENERIC_PARAM_CONSTRAINT,
         0x2d.. => &[],
     }
 }

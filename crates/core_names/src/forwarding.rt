@@ -4,9 +4,11 @@ ghost use Rattle.std.specs.Prelude.{◌≡◌, ◌<◌, suc, length, is_some, no
 ghost use Rattle.link_rules.specs.Types.{assembly_at, scope_assembly, encloser_in, type_in, forwarder_in, forwarded_to, ends_at};
 ghost use Rattle.link_rules.specs.CoreNames.{is_last, is_missing};
 
-use il_base::table::{ASSEMBLY_REF, MODULE};
+use il_base::table::{ASSEMBLY_REF, MODULE, TYPE_DEF};
 use type_links::assembly_named;
-use world_model::{AsmRec, ExportedTypeRow, NestedClassRow, TypeRefRow, index_in};
+use world_model::{
+    AsmRec, ExportedTypeRow, FIRST_TYPE_DEF, NestedClassRow, TypeRefRow, index_in, table_of,
+};
 
 /// The place of the assembly that an AssemblyRef row names.
 fn assembly_at(all: &[AsmRec], rec: &AsmRec, row: u32) -> Option<usize>
@@ -27,10 +29,10 @@ pub(crate) fn scope_assembly(
 ) -> Option<usize>
     ensures { result ≡ scope_assembly all.now a rec.now row.now }
 {
-    if row.resolution_scope / 0x100_0000 == MODULE {
+    if table_of(row.resolution_scope) == MODULE {
         return Some(a);
     }
-    match index_in(0x23, row.resolution_scope) {
+    match index_in(ASSEMBLY_REF, row.resolution_scope) {
         None => None,
         Some(at) => assembly_at(all, rec, at),
     }
@@ -42,7 +44,7 @@ fn encloser_in(token: u64, rows: &[NestedClassRow]) -> Option<u32>
 {
     for row in rows {
         if u64::from(row.nested_class) == token {
-            return index_in(0x02, row.enclosing_class);
+            return index_in(TYPE_DEF, row.enclosing_class);
         }
     }
     None
@@ -53,15 +55,15 @@ fn encloser_in(token: u64, rows: &[NestedClassRow]) -> Option<u32>
 fn has_type(rec: &AsmRec, namespace: &[u8], name: &[u8]) -> bool
     ensures { result ≡ is_some (type_in rec.now None namespace.now name.now) }
 {
-    let mut token = 0x0200_0000u64;
+    let mut token = u64::from(FIRST_TYPE_DEF);
     for row in rec.type_def.as_slice() {
-        token = token.saturating_add(1);
         if row.name.as_slice() == name
             && row.namespace.as_slice() == namespace
             && encloser_in(token, rec.nested_class.as_slice()).is_none()
         {
             return true;
         }
+        token = token.saturating_add(1);
     }
     false
 }
@@ -73,9 +75,9 @@ fn forwarder_in(namespace: &[u8], name: &[u8], rows: &[ExportedTypeRow]) -> Opti
     for row in rows {
         if row.name.as_slice() == name
             && row.namespace.as_slice() == namespace
-            && row.implementation / 0x100_0000 == ASSEMBLY_REF
+            && table_of(row.implementation) == ASSEMBLY_REF
         {
-            return index_in(0x23, row.implementation);
+            return index_in(ASSEMBLY_REF, row.implementation);
         }
     }
     None

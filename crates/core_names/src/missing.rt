@@ -9,7 +9,7 @@ ghost use Rattle.link_rules.specs.CoreNames.{same_core_name, missing_name, missi
 
 use crate::forwarding::{is_missing, scope_assembly};
 use crate::modifiers::modifiers_in;
-use il_base::{NoMemory, Seq};
+use il_base::{NoMemory, Seq, table};
 use link_rules::CoreTypeName;
 use std::alloc::Global;
 use world_model::{AsmRec, TypeRefRow, index_in};
@@ -79,7 +79,7 @@ fn add_at(
 ) -> Result<(), NoMemory>
     ensures { OnOk result (names.new ≡ add_all same_core_name names.old (missing_at all.now a rec.now token)) }
 {
-    let Some(at) = index_in(0x01, token) else {
+    let Some(at) = index_in(table::TYPE_REF, token) else {
         return Ok(());
     };
     match rec.type_ref.get(at as usize) {

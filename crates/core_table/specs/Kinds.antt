@@ -1,5 +1,6 @@
 -- The members of the core library by their MethodDef rows in the core record.
 use Rattle.std.specs.Prelude.{ℕ, ◌+◌, ◌-◌, ◌==◌, nat_lt, List, [], ◌∷◌, length, slice_get, Option, Some, None, if◌then◌else◌}
+use Rattle.il_base.specs.declared.table.TheConstants.{METHOD_DEF}
 use Rattle.il_base.specs.declared.ids.MethodId.{MethodId}
 use Rattle.world_model.specs.declared.record.AsmRec.{AsmRec}
 use Rattle.world_model.specs.declared.world.World.{World}
@@ -18,7 +19,7 @@ kind_at (Some at) = if nat_lt at METHOD_COUNT then Some (record { 0 = at + 1 }) 
 
 -- the method that a token names
 unfoldable pub kind_of : ℕ → Option CoreKind
-kind_of token = kind_at (index_in 0x06 token)
+kind_of token = kind_at (index_in METHOD_DEF token)
 
 -- the place of a method of a world among those of its last assembly, the core library
 unfoldable pub core_row : List AsmRec → ℕ → Option ℕ

@@ -1,7 +1,11 @@
 -- What holds of the core table, as tests on its types.
-use Rattle.std.specs.Prelude.{ℕ, zero, suc, ◌+◌, ◌-◌, ◌/◌, ◌%◌, ◌==◌, nat_eq, nat_lt, Bool, true, false, not, ◌&&◌, ◌||◌, List, [], ◌∷◌, codes, slice_get, Option, Some, None, if◌then◌else◌}
+use Rattle.std.specs.Prelude.{ℕ, zero, suc, ◌+◌, ◌-◌, ◌==◌, nat_eq, nat_le, nat_lt, Bool, true, false, not, ◌&&◌, ◌||◌, List, [], ◌∷◌, codes, slice_get, Option, Some, None, if◌then◌else◌}
 use Rattle.std.specs.List.{list_any, list_all, starts_with, ends_with}
 use Rattle.std.specs.Cmp.Lexicographic.{pointwise}
+use Rattle.il_base.specs.declared.type_flags.TheConstants as type_flags
+use Rattle.il_base.specs.declared.method_flags.TheConstants as method_flags
+use Rattle.il_base.specs.Flags.{has_flag}
+use Rattle.world_model.specs.declared.tokens.TheConstants.{FIRST_TYPE_DEF}
 use Rattle.world_model.specs.declared.types.TypeDefRow.{TypeDefRow}
 use Rattle.core_table.specs.declared.names.CoreName.{CoreName}
 use Rattle.core_table.specs.declared.shape.CoreMethod.{CoreMethod}
@@ -22,10 +26,6 @@ same_text a b = pointwise nat_eq a b
 
 abbrev pub is_called : List ℕ → CoreName → Bool
 is_called text n = same_text text (text_of n)
-
--- a flag by its value, a power of 2
-abbrev pub has : ℕ → ℕ → Bool
-has value flags = flags / value % 2 == 1
 
 abbrev pub agree : Bool → Bool → Bool
 agree a b = if a then b else not b
@@ -75,7 +75,7 @@ has_members_once t = are_methods_once (methods_of t.members)
 
 -- the type that a TypeDef token of the core record names
 abbrev pub type_at : ℕ → Option CoreType
-type_at token = if nat_lt 0x02000000 token then slice_get TYPES (token - 0x02000001) else None
+type_at token = if nat_le FIRST_TYPE_DEF token then slice_get TYPES (token - FIRST_TYPE_DEF) else None
 
 -- a type and its bases, to a depth
 abbrev pub chain : ℕ → Option CoreType → List CoreType
@@ -92,7 +92,7 @@ derives_from text t = list_any (λ b. is_called text b.name) (bases_of t)
 
 -- Object, `<Module>` and interfaces have no base (II.22.37)
 abbrev pub is_baseless : CoreType → Bool
-is_baseless t = is_called (codes "Object") t.name || is_called (codes "<Module>") t.name || has 0x20 t.flags
+is_baseless t = is_called (codes "Object") t.name || is_called (codes "<Module>") t.name || has_flag t.flags type_flags.INTERFACE
 
 abbrev pub ends_at_object : CoreType → Bool
 ends_at_object t = if is_baseless t then t.extends == 0 else derives_from (codes "Object") t
@@ -107,7 +107,7 @@ abbrev pub is_value : CoreType → Bool
 is_value t = derives_from (codes "ValueType") t && not (is_called (codes "Enum") t.name)
 
 abbrev pub is_value_right : CoreType → Bool
-is_value_right t = agree (is_value t || is_called (codes "String") t.name) (has 0x100 t.flags && not (has 0x80 t.flags))
+is_value_right t = agree (is_value t || is_called (codes "String") t.name) (has_flag t.flags type_flags.SEALED && not (has_flag t.flags type_flags.ABSTRACT))
 
 -- the tokens that bases and signatures name, and what their types are called
 abbrev pub named_tokens : List (ℕ × List ℕ)
@@ -142,21 +142,21 @@ begins m front = starts_with nat_eq (text_of m.name) front
 
 abbrev pub is_special : CoreMethod → Bool
 is_special m =
-    agree (begins m (codes "get_") || begins m (codes "op_") || begins m (codes ".")) (has 0x800 m.flags)
-    && agree (begins m (codes ".")) (has 0x1000 m.flags)
+    agree (begins m (codes "get_") || begins m (codes "op_") || begins m (codes ".")) (has_flag m.flags method_flags.SPECIAL_NAME)
+    && agree (begins m (codes ".")) (has_flag m.flags method_flags.RT_SPECIAL_NAME)
 
 abbrev pub is_special_right : CoreType → Bool
 is_special_right t = list_all is_special (methods_of t.members)
 
 abbrev pub is_slot : CoreMethod → CoreMethod → Bool
-is_slot m slot = has 0x40 slot.flags && same_method m slot
+is_slot m slot = has_flag slot.flags method_flags.VIRTUAL && same_method m slot
 
 -- whether a base of the type has a virtual method of this name and these parameters
 abbrev pub has_slot : CoreType → CoreMethod → Bool
 has_slot t m = list_any (λ b. list_any (is_slot m) (methods_of b.members)) (bases_of t)
 
 abbrev pub is_new : CoreType → CoreMethod → Bool
-is_new t m = agree (has 0x40 m.flags && not (has_slot t m)) (has 0x100 m.flags)
+is_new t m = agree (has_flag m.flags method_flags.VIRTUAL && not (has_slot t m)) (has_flag m.flags method_flags.NEW_SLOT)
 
 abbrev pub is_slot_right : CoreType → Bool
 is_slot_right t = list_all (is_new t) (methods_of t.members)

@@ -1,7 +1,9 @@
 -- The core library as a record (II.22): the rows of its types and members. Its methods have no bodies, and no other
 -- table than Module, TypeDef, Field, MethodDef and Assembly has rows.
-use Rattle.std.specs.Prelude.{ℕ, ◌+◌, ◌/◌, ◌%◌, List, [], ◌∷◌, ◌++◌, length, map, codes, Bool, true, false, ◌==◌, not, None}
+use Rattle.std.specs.Prelude.{ℕ, ◌+◌, List, [], ◌∷◌, ◌++◌, length, map, codes, Bool, true, false, not, None}
 use Rattle.il_base.specs.declared.sig.Sig.{Sig}
+use Rattle.il_base.specs.declared.method_flags.TheConstants.{STATIC}
+use Rattle.il_base.specs.Flags.{has_flag}
 use Rattle.il_base.specs.declared.sig.Sig.TheVariants.{Prim, Named}
 use Rattle.il_base.specs.declared.sig.MethodSig.{MethodSig}
 use Rattle.world_model.specs.declared.known.Known.TheVariants.{Good}
@@ -38,7 +40,7 @@ params_of (Four a b c d) = sig_of a ∷ sig_of b ∷ sig_of c ∷ sig_of d ∷ [
 
 -- static, of a method's flags (II.23.1.10)
 unfoldable pub is_static : ℕ → Bool
-is_static flags = flags / 0x10 % 2 == 1
+is_static flags = has_flag flags STATIC
 
 -- a method that isn't static has HASTHIS
 unfoldable pub signature_of : CoreMethod → MethodSig

@@ -2,20 +2,21 @@
 
 use crate::shape::CoreSig;
 use crate::tokens::{ARRAY, EXCEPTION, RUNTIME_FIELD_HANDLE};
+use il_base::element;
 
-pub const VOID: CoreSig = CoreSig::Prim(0x01);
+pub const VOID: CoreSig = CoreSig::Prim(element::VOID);
 
-pub const BOOL: CoreSig = CoreSig::Prim(0x02);
+pub const BOOL: CoreSig = CoreSig::Prim(element::BOOLEAN);
 
-pub const CHAR: CoreSig = CoreSig::Prim(0x03);
+pub const CHAR: CoreSig = CoreSig::Prim(element::CHAR);
 
-pub const INT: CoreSig = CoreSig::Prim(0x08);
+pub const INT: CoreSig = CoreSig::Prim(element::I4);
 
-pub const LONG: CoreSig = CoreSig::Prim(0x0a);
+pub const LONG: CoreSig = CoreSig::Prim(element::I8);
 
-pub const STR: CoreSig = CoreSig::Prim(0x0e);
+pub const STR: CoreSig = CoreSig::Prim(element::STRING);
 
-pub const OBJ: CoreSig = CoreSig::Prim(0x1c);
+pub const OBJ: CoreSig = CoreSig::Prim(element::OBJECT);
 
 pub const ARR: CoreSig = CoreSig::Class(ARRAY);
 

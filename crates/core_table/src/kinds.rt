@@ -6,7 +6,7 @@ ghost use Rattle.core_table.specs.Kinds.{kind_of, core_row, core_kind, owned, me
 use crate::names::CoreName;
 use crate::shape::{CoreMethod, CoreType};
 use crate::types::{METHOD_COUNT, TYPES};
-use il_base::MethodId;
+use il_base::{MethodId, table};
 use world_model::{AsmRec, World, index_in};
 
 /// A method of the core library, by its MethodDef row in the core record, from 1.
@@ -25,7 +25,7 @@ pub struct OwnedMethod {
 pub fn kind_of(token: u32) -> Option<CoreKind>
     ensures { result ≡ kind_of token }
 {
-    match index_in(0x06, token) {
+    match index_in(table::METHOD_DEF, token) {
         None => None,
         Some(at) => {
             if at < METHOD_COUNT {

@@ -4,7 +4,7 @@ ghost use Rattle.std.specs.Prelude.{◌≡◌, ◌++◌, IfOk, OnOk};
 ghost use Rattle.core_table.specs.Record.{sig_of, params_of, field_row, method_row, all_fields, all_methods, field_rows, method_rows};
 
 use crate::shape::{CoreField, CoreMethod, CoreParams, CoreSig, CoreType};
-use il_base::{MethodSig, NoMemory, Seq, Sig};
+use il_base::{MethodSig, NoMemory, Seq, Sig, has_flag, method_flags};
 use std::alloc::Global;
 use world_model::{FieldRow, Known, MethodDefRow};
 
@@ -56,7 +56,7 @@ fn method_row(alloc: Global, method: &CoreMethod) -> Result<MethodDefRow, NoMemo
     let name = Seq::from_slice(alloc, method.name.text())?;
     let params = params_of(alloc, method.params)?;
     let signature = MethodSig {
-        this: method.flags / 0x10 % 2 != 1,
+        this: !has_flag(method.flags, method_flags::STATIC),
         generic: 0,
         ret: sig_of(method.ret),
         params,

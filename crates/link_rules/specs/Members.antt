@@ -1,11 +1,12 @@
 -- What references to members name (II.22.25, II.22.29): a member is found by its name and signature in its parent and then
 -- in the bases, the nearest first.
-use Rattle.std.specs.Prelude.{ℕ, zero, suc, ◌+◌, ◌-◌, List, [], ◌∷◌, length, map, take, drop, Option, Some, None, slice_get, nat_lt, nat_le, ◌/◌, ◌%◌, ◌==◌, ◌&&◌, ◌||◌, not, Bool, true, false, if◌then◌else◌}
+use Rattle.std.specs.Prelude.{ℕ, zero, suc, ◌+◌, ◌-◌, List, [], ◌∷◌, length, map, take, drop, Option, Some, None, slice_get, nat_lt, nat_le, ◌==◌, ◌&&◌, ◌||◌, not, Bool, true, false, if◌then◌else◌}
 use Rattle.std.specs.List.{position_from, count_by, range_with_len}
 use Rattle.std.specs.Option.{option_map, option_and_then}
 use Rattle.il_base.specs.declared.type_flags.TheConstants.{INTERFACE}
 use Rattle.il_base.specs.declared.method_flags.TheConstants.{COMPILER_CONTROLLED}
 use Rattle.il_base.specs.declared.ids.TypeId.{TypeId}
+use Rattle.il_base.specs.Flags.{has_flag, access_of}
 use Rattle.il_base.specs.declared.sig.Sig.{Sig}
 use Rattle.il_base.specs.declared.table.TheConstants.{TYPE_DEF, METHOD_DEF, MEMBER_REF}
 use Rattle.world_model.specs.declared.known.Known.{Known}
@@ -89,7 +90,7 @@ only_named (Some e) = if is_named e then Some e else None
 
 -- an interface, of a type's flags (II.23.1.15)
 abbrev pub is_interface_row : TypeDefRow → Bool
-is_interface_row t = t.flags / INTERFACE % 2 == 1
+is_interface_row t = has_flag t.flags INTERFACE
 
 -- the base that the row of a class names (II.22.37); an interface has none, whatever its row names
 abbrev pub base_in : List AsmRec → ℕ → AsmRec → TypeDefRow → Option TypeExpr
@@ -128,7 +129,7 @@ find_in_run test first end rows = position_from test (first - 1) (run_of first e
 
 -- CompilerControlled, of a member's flags (II.23.1.5, II.23.1.10): no reference names such a member
 abbrev pub is_compiler_controlled : ℕ → Bool
-is_compiler_controlled flags = flags % 8 == COMPILER_CONTROLLED
+is_compiler_controlled flags = access_of flags == COMPILER_CONTROLLED
 
 abbrev pub is_method_type : List TypeExpr → MethodType → Known MethodType → Bool
 is_method_type targs wanted (Good m) = same_method_type (subst_method targs m) wanted

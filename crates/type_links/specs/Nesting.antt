@@ -2,13 +2,14 @@
 use Rattle.std.specs.Prelude.{◌≡◌, ℕ, suc, Option, nat_eq}
 use Rattle.std.specs.HashMap.{get}
 use Rattle.type_links.specs.Forwarding.{inner}
+use Rattle.il_base.specs.declared.table.TheConstants.{TYPE_DEF}
 use Rattle.world_model.specs.declared.record.AsmRec.{AsmRec}
 use Rattle.world_model.specs.Tokens.{token_of}
 use Rattle.link_rules.specs.Types.{encloser}
 use Rattle.type_links.specs.declared.enclosers.Enclosers.{Enclosers}
 
 abbrev pub encloser_by : Enclosers → ℕ → Option ℕ
-encloser_by e k = inner (get nat_eq e.rows (token_of 0x02 (suc k)))
+encloser_by e k = inner (get nat_eq e.rows (token_of TYPE_DEF (suc k)))
 
 abbrev pub AreEnclosers : AsmRec → Enclosers → Type 0
 AreEnclosers rec e = (k : ℕ) → encloser_by e k ≡ encloser rec k

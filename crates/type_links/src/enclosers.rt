@@ -3,10 +3,10 @@ ghost use Rattle.link_rules.specs.Types.{encloser};
 ghost use Rattle.type_links.specs.Nesting.{encloser_by, AreEnclosers};
 
 use crate::first::keep_first;
-use il_base::NoMemory;
+use il_base::{NoMemory, table};
 use std::alloc::Global;
 use std::collections::HashMap;
-use world_model::{AsmRec, index_in};
+use world_model::{AsmRec, index_in, wide_token};
 
 /// The enclosers of an assembly's nested types (II.22.32).
 #[derive(Drop)]
@@ -22,7 +22,7 @@ impl Enclosers {
     {
         let mut rows = HashMap::new(alloc);
         for row in rec.nested_class.as_slice() {
-            let outer = index_in(0x02, row.enclosing_class);
+            let outer = index_in(table::TYPE_DEF, row.enclosing_class);
             keep_first(&mut rows, u64::from(row.nested_class), outer)?;
         }
         Ok(Enclosers { rows })
@@ -32,7 +32,7 @@ impl Enclosers {
     pub(crate) fn get(&self, k: u32) -> Option<u32>
         ensures { result ≡ encloser_by self.now k }
     {
-        match self.rows.get(&(0x0200_0001 + u64::from(k))) {
+        match self.rows.get(&wide_token(table::TYPE_DEF, k)) {
             None => None,
             Some(row) => *row,
         }

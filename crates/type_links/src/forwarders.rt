@@ -3,10 +3,10 @@ ghost use Rattle.type_links.specs.Forwarding.{AreForwarders};
 
 use crate::first::keep_first;
 use crate::names::TypeName;
-use il_base::NoMemory;
+use il_base::{NoMemory, table};
 use std::alloc::Global;
 use std::collections::HashMap;
-use world_model::{AsmRec, index_in};
+use world_model::{AsmRec, index_in, table_of};
 
 /// The AssemblyRef row, from 0, of the assembly to which an assembly forwards the type of each name (II.22.14); None for a
 /// token of row 0.
@@ -22,8 +22,12 @@ pub(crate) fn forwarders<'a>(
             namespace: row.namespace.as_slice(),
             name: row.name.as_slice(),
         };
-        if row.implementation / 0x100_0000 == 0x23 {
-            keep_first(&mut rows, name, index_in(0x23, row.implementation))?;
+        if table_of(row.implementation) == table::ASSEMBLY_REF {
+            keep_first(
+                &mut rows,
+                name,
+                index_in(table::ASSEMBLY_REF, row.implementation),
+            )?;
         }
     }
     Ok(rows)

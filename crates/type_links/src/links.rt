@@ -9,10 +9,10 @@ ghost use Rattle.type_links.specs.Linking.{TellsSignatures, links_before};
 
 use crate::definitions::{added, definition_expr, known_expr, listed};
 use crate::index::TypeIndex;
-use il_base::{AsmId, NoMemory, TypeId};
+use il_base::{AsmId, NoMemory, TypeId, table};
 use link_rules::RowAt;
 use std::alloc::Global;
-use world_model::{AsmRec, Known, TypeExpr, TypeLink, TypeSpecRow, expr_by};
+use world_model::{AsmRec, Known, TypeExpr, TypeLink, TypeSpecRow, expr_by, token_of};
 
 /// The link of a row, counted from 0.
 fn type_link(
@@ -24,17 +24,13 @@ fn type_link(
 ) -> Result<TypeLink, NoMemory>
     ensures { IfOk result (λ l. l ≡ type_link a table k to added) }
 {
-    let place = (k as u64).saturating_add(1);
-    let token = (u64::from(table) * 0x100_0000).saturating_add(place);
-    match u32::try_from(token) {
-        Ok(token) => Ok(TypeLink {
-            asm: AsmId(a),
-            token,
-            to,
-            added,
-        }),
-        Err(_) => Err(NoMemory),
-    }
+    let token = token_of(table, k)?;
+    Ok(TypeLink {
+        asm: AsmId(a),
+        token,
+        to,
+        added,
+    })
 }
 
 /// A row's number in 32 bits.
@@ -63,7 +59,7 @@ fn ref_link(
     let at = index.ref_at(alloc, a, rec, row)?;
     let to = known_expr(index.all, listed(index.all, at))?;
     let added = added(index.all, at)?;
-    type_link(a, 0x01, k, to, added)
+    type_link(a, table::TYPE_REF, k, to, added)
 }
 
 fn def_link(all: &[AsmRec], a: u32, k: usize) -> Result<TypeLink, NoMemory>
@@ -71,7 +67,7 @@ fn def_link(all: &[AsmRec], a: u32, k: usize) -> Result<TypeLink, NoMemory>
 {
     let row = row_number(k)?;
     let ty = definition_expr(all, RowAt { asm: a, row })?;
-    type_link(a, 0x02, k, Known::Good(ty), None)
+    type_link(a, table::TYPE_DEF, k, Known::Good(ty), None)
 }
 
 /// The type that a TypeSpec row names, by links in which those of the assembly's TypeRef and TypeDef rows stand.
@@ -140,7 +136,7 @@ fn push_specs(
 {
     for (k, row) in rec.type_spec.as_slice().iter().enumerate() {
         let to = spec_type(alloc, all, links.as_slice(), a, rec, row)?;
-        let link = type_link(a, 0x1b, k, to, None)?;
+        let link = type_link(a, table::TYPE_SPEC, k, to, None)?;
         links.push(link)?;
     }
     Ok(())

@@ -1,5 +1,6 @@
 ghost use Rattle.std.specs.Prelude.{◌≡◌, length, map, slice_get, Some, IfOk};
 ghost use Rattle.std.specs.Option.{option_map};
+ghost use Rattle.il_base.specs.declared.table.TheConstants.{TYPE_DEF};
 ghost use Rattle.world_model.specs.Tokens.{index_in};
 ghost use Rattle.world_model.specs.Worlds.{row_below, types_in};
 ghost use Rattle.link_rules.specs.Types as types;
@@ -10,10 +11,10 @@ ghost use Rattle.type_links.specs.References.{LeadsTo, come_down, definition_at}
 use crate::definitions::listed;
 use crate::index::TypeIndex;
 use crate::names::TypeName;
-use il_base::NoMemory;
+use il_base::{NoMemory, table};
 use link_rules::RowAt;
 use std::alloc::Global;
-use world_model::{AsmRec, TypeRefRow, index_in};
+use world_model::{AsmRec, TypeRefRow, index_in, table_of};
 
 /// The name of the type that a reference names.
 fn name_of<'a>(row: &'a TypeRefRow) -> TypeName<'a>
@@ -44,7 +45,7 @@ fn way_from<'a>(alloc: Global, rec: &'a AsmRec, k: u32) -> Result<Way<'a>, NoMem
     for _ in 0..rec.type_ref.len() {
         match rec.type_ref.get(at as usize) {
             None => return Ok(Way { nested, top: None }),
-            Some(row) => match index_in(0x01, row.resolution_scope) {
+            Some(row) => match index_in(table::TYPE_REF, row.resolution_scope) {
                 None => {
                     return Ok(Way {
                         nested,
@@ -105,10 +106,10 @@ impl<'a> TypeIndex<'a> {
         requires stands { slice_get self.now.all.now a ≡ Some rec.now }
         ensures { result ≡ type_of_scope self.now.all.now a rec.now row.now }
     {
-        if row.resolution_scope / 0x100_0000 == 0 {
+        if table_of(row.resolution_scope) == table::MODULE {
             return self.top_type(a, name_of(row));
         }
-        match index_in(0x23, row.resolution_scope) {
+        match index_in(table::ASSEMBLY_REF, row.resolution_scope) {
             None => None,
             Some(scope) => match self.assembly(a, scope) {
                 None => None,
@@ -195,10 +196,10 @@ impl<'a> TypeIndex<'a> {
         requires stands { slice_get self.now.all.now a ≡ Some rec.now }
         ensures { IfOk result (λ at. at ≡ types.definition_at self.now.all.now a rec.now token) }
     {
-        if token / 0x100_0000 == 0x02 {
+        if table_of(token) == table::TYPE_DEF {
             return Ok(own_row(a, rec, token));
         }
-        match index_in(0x01, token) {
+        match index_in(table::TYPE_REF, token) {
             None => Ok(None),
             Some(k) => self.ref_definition(alloc, a, rec, k),
         }
@@ -207,9 +208,9 @@ impl<'a> TypeIndex<'a> {
 
 /// The row of TypeDef that a token names.
 fn own_row(a: u32, rec: &AsmRec, token: u32) -> Option<RowAt>
-    ensures { result ≡ option_map (at_row a) (row_below (types_in rec.now) (index_in 0x02 token)) }
+    ensures { result ≡ option_map (at_row a) (row_below (types_in rec.now) (index_in TYPE_DEF token)) }
 {
-    match index_in(0x02, token) {
+    match index_in(table::TYPE_DEF, token) {
         None => None,
         Some(row) => {
             if (row as usize) < rec.type_def.len() {

@@ -1,6 +1,8 @@
 -- The names under which the core library is referred to, and its members that a thin file can name.
 use Rattle.std.specs.Prelude.{ℕ, List, [], ◌∷◌, Bool, false, Option, Some, None, codes, slice_get, nat_eq, ◌&&◌, ◌||◌, ◌==◌, if◌then◌else◌}
 use Rattle.std.specs.Cmp.Lexicographic.{pointwise}
+use Rattle.il_base.specs.declared.element.TheConstants.{VOID, I4, STRING}
+use Rattle.il_base.specs.declared.table.TheConstants.{TYPE_REF, ASSEMBLY_REF}
 use Rattle.il_base.specs.declared.sig.Sig.{Sig, Prim}
 use Rattle.il_base.specs.declared.sig.MethodSig.{MethodSig}
 use Rattle.world_model.specs.declared.known.Known.{Known}
@@ -35,7 +37,7 @@ is_core_at rec None = false
 is_core_at rec (Some k) = is_core_row (slice_get rec.assembly_ref k)
 
 abbrev pub is_core_scope : AsmRec → ℕ → Bool
-is_core_scope rec token = is_core_at rec (index_in 0x23 token)
+is_core_scope rec token = is_core_at rec (index_in ASSEMBLY_REF token)
 
 -- whether a type reference names this type of the namespace System
 unfoldable pub is_system_type : AsmRec → List ℕ → TypeRefRow → Bool
@@ -52,7 +54,7 @@ names_type_at rec name (Some k) = names_type rec name (slice_get rec.type_ref k)
 
 -- whether a token is that of a type reference that names this type of the namespace System
 abbrev pub is_type_token : AsmRec → List ℕ → ℕ → Bool
-is_type_token rec name token = names_type_at rec name (index_in 0x01 token)
+is_type_token rec name token = names_type_at rec name (index_in TYPE_REF token)
 
 -- the element type of a primitive
 abbrev pub prim_code : Sig → Option ℕ
@@ -69,11 +71,11 @@ is_prim k s = is_code k (prim_code s)
 -- what `Console.WriteLine` takes in its overload with this parameter
 abbrev pub line_of_params : List Sig → Option CoreMember
 line_of_params [] = None
-line_of_params (p ∷ []) = if is_prim 14 p then Some WriteLineString else if is_prim 8 p then Some WriteLineInt else None
+line_of_params (p ∷ []) = if is_prim STRING p then Some WriteLineString else if is_prim I4 p then Some WriteLineInt else None
 line_of_params (p ∷ q ∷ ps) = None
 
 abbrev pub line_of_sig : MethodSig → Option CoreMember
-line_of_sig s = if s.this then None else if s.generic == 0 && is_prim 1 s.ret then line_of_params s.params else None
+line_of_sig s = if s.this then None else if s.generic == 0 && is_prim VOID s.ret then line_of_params s.params else None
 
 abbrev pub line_of : Known MemberSig → Option CoreMember
 line_of (Good (member.Method s)) = line_of_sig s

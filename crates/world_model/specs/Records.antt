@@ -1,6 +1,6 @@
 -- What the rows of a record keep (II.22): each token names a row that is there, runs follow one another, and sorted tables
 -- are sorted. Tables are named by their numbers; rows are counted from 1.
-use Rattle.std.specs.Prelude.{◌≡◌, ◌⊎◌, ℕ, suc, ◌+◌, ◌%◌, ◌<◌, ◌≤◌, Bool, true, nat_le, ◌==◌, ◌&&◌, ◌||◌, List, [], ◌∷◌, length, get_or, slice_get, Some, IsTrue}
+use Rattle.std.specs.Prelude.{◌≡◌, ◌⊎◌, ℕ, suc, ◌+◌, ◌<◌, ◌≤◌, Bool, true, nat_le, ◌==◌, ◌&&◌, ◌||◌, List, [], ◌∷◌, length, get_or, slice_get, Some, IsTrue}
 use Rattle.std.specs.List.{list_any}
 use Rattle.il_base.specs.declared.table.TheConstants.{TYPE_DEF, FIELD, METHOD_DEF, PARAM, EVENT, PROPERTY, MODULE_REF, ASSEMBLY_REF, GENERIC_PARAM}
 use Rattle.cli_format.specs.declared.column.Column.{Column}
@@ -8,7 +8,7 @@ use Rattle.cli_format.specs.declared.column.Column.TheVariants.{Index, IndexOrNo
 use Rattle.cli_format.specs.declared.column.CodedIndex.TheVariants.{TypeDefOrRef, HasConstant, HasCustomAttribute, HasFieldMarshal, HasDeclSecurity, MemberRefParent, HasSemantics, MethodDefOrRef, MemberForwarded, Implementation, CustomAttributeType, ResolutionScope, TypeOrMethodDef}
 use Rattle.cli_format.specs.Coded.{targets_of}
 use Rattle.cli_format.specs.Tokens.{coded_of}
-use Rattle.world_model.specs.Tokens.{table_of}
+use Rattle.world_model.specs.Tokens.{table_of, row_of}
 use Rattle.world_model.specs.declared.record.AsmRec.{AsmRec}
 
 -- how many rows each table has, by the tables' numbers from 0
@@ -32,7 +32,7 @@ rows_in rec t = get_or (table_sizes rec) t 0
 -- a token of one of these tables, whose row is there
 unfoldable pub names_row : AsmRec → List ℕ → ℕ → Bool
 names_row rec tables token =
-    list_any (λ t. t == table_of token) tables && nat_le 1 (token % 16777216) && nat_le (token % 16777216) (rows_in rec (table_of token))
+    list_any (λ t. t == table_of token) tables && nat_le 1 (row_of token) && nat_le (row_of token) (rows_in rec (table_of token))
 
 -- what a token in a column names is there (II.24.2.6); 0 names nothing, where it may be
 unfoldable pub names : AsmRec → Column → ℕ → Bool

@@ -7,13 +7,16 @@ token_of table row = table * 16777216 + row
 abbrev pub table_of : ℕ → ℕ
 table_of token = token / 16777216
 
+abbrev pub row_of : ℕ → ℕ
+row_of token = token % 16777216
+
 -- the row's place in its table's list, from 0; a row 0 names nothing
 abbrev pub index_from : ℕ → Option ℕ
 index_from zero = None
 index_from (suc k) = Some k
 
 abbrev pub row_index : ℕ → Option ℕ
-row_index token = index_from (token % 16777216)
+row_index token = index_from (row_of token)
 
 -- the place of the row that a token of this table names, None for a token of another table
 abbrev pub index_in : ℕ → ℕ → Option ℕ

@@ -1,26 +1,15 @@
 ghost use Rattle.std.specs.Prelude.{◌≡◌, Some, codes};
 ghost use Rattle.std.specs.Option.{option_copied};
 ghost use Rattle.world_model.specs.Core.{is_core_name, is_core_scope, is_system_type, is_type_token, prim_code, is_prim, line_of_params, line_of_sig, line_of, core_member};
-ghost use Rattle.world_model.specs.Tokens.{index_in, row_index};
 
 use crate::core_member::CoreMember;
 use crate::expr::MemberSig;
 use crate::known::Known;
 use crate::members::MemberRefRow;
 use crate::record::AsmRec;
+use crate::tokens::index_in;
 use crate::types::TypeRefRow;
-use il_base::{MethodSig, Sig};
-
-/// The place, from 0, of the row that a token of this table names; None for a token of another table or row 0.
-pub fn index_in(table: u8, token: u32) -> Option<u32>
-    ensures { result ≡ index_in table token }
-{
-    if token / 0x100_0000 != u32::from(table) {
-        return None;
-    }
-    let row = token % 0x100_0000;
-    if row == 0 { None } else { Some(row - 1) }
-}
+use il_base::{MethodSig, Sig, element, table};
 
 /// Whether this is one of the names under which the core library is referred to.
 #[tactic(auto, unfolding(crate::specs::Core::is_core_name))]
@@ -38,7 +27,7 @@ pub fn is_core_name(name: &[u8]) -> bool
 pub fn is_core_scope(rec: &AsmRec, token: u32) -> bool
     ensures { result ≡ is_core_scope rec.now token }
 {
-    let Some(at) = index_in(0x23, token) else {
+    let Some(at) = index_in(table::ASSEMBLY_REF, token) else {
         return false;
     };
     match rec.assembly_ref.get(at as usize) {
@@ -61,7 +50,7 @@ pub fn is_system_type(rec: &AsmRec, name: &[u8], row: &TypeRefRow) -> bool
 pub fn is_type_token(rec: &AsmRec, name: &[u8], token: u32) -> bool
     ensures { result ≡ is_type_token rec.now name.now token }
 {
-    let Some(at) = index_in(0x01, token) else {
+    let Some(at) = index_in(table::TYPE_REF, token) else {
         return false;
     };
     match rec.type_ref.get(at as usize) {
@@ -90,13 +79,13 @@ pub fn prim_code(ty: &Sig) -> Option<u8>
 fn line_of_sig(sig: &MethodSig) -> Option<CoreMember>
     ensures { result ≡ line_of_sig sig.now }
 {
-    if sig.this || sig.generic != 0 || prim_code(&sig.ret) != Some(1) {
+    if sig.this || sig.generic != 0 || prim_code(&sig.ret) != Some(element::VOID) {
         return None;
     }
     match sig.params.as_slice() {
         [only] => match prim_code(only) {
-            Some(14) => Some(CoreMember::WriteLineString),
-            Some(8) => Some(CoreMember::WriteLineInt),
+            Some(element::STRING) => Some(CoreMember::WriteLineString),
+            Some(element::I4) => Some(CoreMember::WriteLineInt),
             _ => None,
         },
         _ => None,

@@ -17,6 +17,7 @@ mod prims;
 mod record;
 mod sig_exprs;
 mod sig_names;
+mod tokens;
 mod type_exprs;
 mod type_tests;
 mod types;
@@ -28,8 +29,7 @@ pub use assemblies::{
 };
 pub use core_member::CoreMember;
 pub use core_refs::{
-    index_in, is_core_name, is_core_scope, is_system_type, is_type_token, prim_code,
-    resolve_core_member,
+    is_core_name, is_core_scope, is_system_type, is_type_token, prim_code, resolve_core_member,
 };
 pub use expr::{FieldUse, MemberSig, MethodUse, TypeExpr};
 pub use extras::{
@@ -47,6 +47,7 @@ pub use members::{
 pub use prims::{prim_of, prim_type, type_id};
 pub use record::{AsmRec, UserText};
 pub use sig_exprs::expr_by;
+pub use tokens::{FIRST_TYPE_DEF, index_in, row_of, table_of, token_of, wide_token};
 pub use types::{
     ClassLayoutRow, ExportedTypeRow, GenericParamConstraintRow, GenericParamRow, InterfaceImplRow,
     ModuleRow, NestedClassRow, TypeDefRow, TypeRefRow, TypeSpecRow,

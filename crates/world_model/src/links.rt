@@ -6,9 +6,9 @@ ghost use Rattle.std.specs.Option.{option_copied, option_and_then};
 ghost use Rattle.world_model.specs.Kinds.{rows_in, row_in, link_in};
 ghost use Rattle.world_model.specs.Worlds.{row_below, type_row, method_row, field_row};
 
-use crate::core_refs::index_in;
 use crate::record::AsmRec;
-use il_base::AsmId;
+use crate::tokens::{index_in, table_of};
+use il_base::{AsmId, table};
 
 /// The kinds of links.
 #[derive(Clone, Copy, Debug, PartialEq, Eq)]
@@ -86,16 +86,16 @@ fn behind_all<'a, T>(kind: LinkKind, recs: &[AsmRec], links: &'a [T]) -> &'a [T]
 fn type_among<'a, T>(rec: &AsmRec, own: &'a [T], token: u32) -> Option<&'a T>
     ensures { option_copied result ≡ option_and_then (slice_get own.now) (type_row rec.now token) }
 {
-    match token / 0x100_0000 {
-        0x01 => below(own, rec.type_ref.len(), index_in(0x01, token)),
-        0x02 => {
+    match table_of(token) {
+        table::TYPE_REF => below(own, rec.type_ref.len(), index_in(table::TYPE_REF, token)),
+        table::TYPE_DEF => {
             let own = behind(own, rec.type_ref.len());
-            below(own, rec.type_def.len(), index_in(0x02, token))
+            below(own, rec.type_def.len(), index_in(table::TYPE_DEF, token))
         }
         _ => {
             let own = behind(own, rec.type_ref.len());
             let own = behind(own, rec.type_def.len());
-            below(own, rec.type_spec.len(), index_in(0x1b, token))
+            below(own, rec.type_spec.len(), index_in(table::TYPE_SPEC, token))
         }
     }
 }
@@ -105,16 +105,28 @@ fn type_among<'a, T>(rec: &AsmRec, own: &'a [T], token: u32) -> Option<&'a T>
 fn method_among<'a, T>(rec: &AsmRec, own: &'a [T], token: u32) -> Option<&'a T>
     ensures { option_copied result ≡ option_and_then (slice_get own.now) (method_row rec.now token) }
 {
-    match token / 0x100_0000 {
-        0x06 => below(own, rec.method_def.len(), index_in(0x06, token)),
-        0x0a => {
+    match table_of(token) {
+        table::METHOD_DEF => below(
+            own,
+            rec.method_def.len(),
+            index_in(table::METHOD_DEF, token),
+        ),
+        table::MEMBER_REF => {
             let own = behind(own, rec.method_def.len());
-            below(own, rec.member_ref.len(), index_in(0x0a, token))
+            below(
+                own,
+                rec.member_ref.len(),
+                index_in(table::MEMBER_REF, token),
+            )
         }
         _ => {
             let own = behind(own, rec.method_def.len());
             let own = behind(own, rec.member_ref.len());
-            below(own, rec.method_spec.len(), index_in(0x2b, token))
+            below(
+                own,
+                rec.method_spec.len(),
+                index_in(table::METHOD_SPEC, token),
+            )
         }
     }
 }
@@ -124,11 +136,15 @@ fn method_among<'a, T>(rec: &AsmRec, own: &'a [T], token: u32) -> Option<&'a T>
 fn field_among<'a, T>(rec: &AsmRec, own: &'a [T], token: u32) -> Option<&'a T>
     ensures { option_copied result ≡ option_and_then (slice_get own.now) (field_row rec.now token) }
 {
-    if token / 0x100_0000 == 0x04 {
-        below(own, rec.field.len(), index_in(0x04, token))
+    if table_of(token) == table::FIELD {
+        below(own, rec.field.len(), index_in(table::FIELD, token))
     } else {
         let own = behind(own, rec.field.len());
-        below(own, rec.member_ref.len(), index_in(0x0a, token))
+        below(
+            own,
+            rec.member_ref.len(),
+            index_in(table::MEMBER_REF, token),
+        )
     }
 }
 

@@ -8,6 +8,7 @@ use crate::expr::{FieldUse, MethodUse, TypeExpr};
 use crate::known::Known;
 use crate::links::{LinkKind, link_at};
 use crate::record::AsmRec;
+use crate::tokens::table_of;
 use crate::world::{TypeLink, World};
 use il_base::{AsmId, TypeId, table};
 
@@ -34,7 +35,7 @@ pub fn type_link_at<'a>(
 pub fn added_link_at(recs: &[AsmRec], links: &[TypeLink], a: AsmId, token: u32) -> Option<TypeId>
     ensures { result ≡ added_link_at recs.now links.now a.0 token }
 {
-    if token / 0x100_0000 != table::TYPE_REF {
+    if table_of(token) != table::TYPE_REF {
         return None;
     }
     match link_at(LinkKind::Type, recs, links, a, token) {

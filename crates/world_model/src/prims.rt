@@ -6,7 +6,7 @@ ghost use Rattle.world_model.specs.Worlds.{types_in, type_id, prims, is_prim_nam
 
 use crate::record::AsmRec;
 use crate::types::TypeDefRow;
-use il_base::{NoMemory, TypeId};
+use il_base::{NoMemory, TypeId, element};
 
 /// The element type of the type of the namespace `System` with this name (II.23.1.16).
 #[tactic(auto, unfolding(crate::specs::Worlds::prims))]
@@ -14,35 +14,35 @@ fn prim_named(name: &[u8]) -> Option<u8>
     ensures { result ≡ option_map (λ p. p.0) (find (is_prim_name name.now) prims) }
 {
     if name == b"Void".as_slice() {
-        Some(0x01)
+        Some(element::VOID)
     } else if name == b"Boolean".as_slice() {
-        Some(0x02)
+        Some(element::BOOLEAN)
     } else if name == b"Char".as_slice() {
-        Some(0x03)
+        Some(element::CHAR)
     } else if name == b"SByte".as_slice() {
-        Some(0x04)
+        Some(element::I1)
     } else if name == b"Byte".as_slice() {
-        Some(0x05)
+        Some(element::U1)
     } else if name == b"Int16".as_slice() {
-        Some(0x06)
+        Some(element::I2)
     } else if name == b"UInt16".as_slice() {
-        Some(0x07)
+        Some(element::U2)
     } else if name == b"Int32".as_slice() {
-        Some(0x08)
+        Some(element::I4)
     } else if name == b"UInt32".as_slice() {
-        Some(0x09)
+        Some(element::U4)
     } else if name == b"Int64".as_slice() {
-        Some(0x0a)
+        Some(element::I8)
     } else if name == b"UInt64".as_slice() {
-        Some(0x0b)
+        Some(element::U8)
     } else if name == b"String".as_slice() {
-        Some(0x0e)
+        Some(element::STRING)
     } else if name == b"IntPtr".as_slice() {
-        Some(0x18)
+        Some(element::I)
     } else if name == b"UIntPtr".as_slice() {
-        Some(0x19)
+        Some(element::U)
     } else if name == b"Object".as_slice() {
-        Some(0x1c)
+        Some(element::OBJECT)
     } else {
         None
     }

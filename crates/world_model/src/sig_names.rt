@@ -8,8 +8,9 @@ use crate::known::{BadKind, Known};
 use crate::lookup::{added_link_at, type_link_at};
 use crate::prims::prim_type;
 use crate::record::AsmRec;
+use crate::tokens::table_of;
 use crate::world::TypeLink;
-use il_base::{AsmId, NoMemory, TypeId};
+use il_base::{AsmId, NoMemory, TypeId, table};
 
 /// The type that a TypeDef or TypeRef token names in a signature, or why it names none. A TypeSpec token names nothing.
 #[tactic(auto, unfolding(crate::specs::Worlds::named_in))]
@@ -21,7 +22,7 @@ pub(crate) fn type_named<'a>(
 ) -> Result<&'a TypeExpr, BadKind>
     ensures { MatchResult result (λ e. named_in (type_link_at recs.now links.now a.0) token ≡ Known.Good e.now) (λ why. named_in (type_link_at recs.now links.now a.0) token ≡ Known.Bad why) }
 {
-    if token / 0x100_0000 == 0x1b {
+    if table_of(token) == table::TYPE_SPEC {
         return Err(BadKind::Unresolved);
     }
     match type_link_at(recs, links, a, token) {

@@ -1,18 +1,18 @@
-use Rattle.std.proofs.Common.{arith, sym, eq-eqb}
+use Rattle.std.proofs.Common.{arith, sym, eq-eqb, ◌∙◌}
 use Rattle.std.proofs.lemmas.Bool.{ne_eqb}
 use Rattle.world_model.specs.Tokens.{table_of}
 use Rattle.type_links.proofs.Forwarded.{forwarder_step, forwarder_skip, forwarders_all}
 use Rattle.type_links.proofs.forwarders.forwarders.Goals as goal
-use Rattle.type_links.proofs.forwarders.forwarders.Goals.{then-row-eq35+in_ok-keep_first, else-row-eq35}
+use Rattle.type_links.proofs.forwarders.forwarders.Goals.{then-table_of-eq-ASSEMBLY_REF+in_ok-keep_first, else-table_of-eq-ASSEMBLY_REF}
 
 pub loop-row-preserved : goal.loop-row-preserved
-loop-row-preserved c = λ q. elim c.if-row-eq35.branch [
-  | then-row-eq35+in_ok-keep_first w ↦
+loop-row-preserved c = λ q. elim c.if-table_of-eq-ASSEMBLY_REF.branch [
+  | then-table_of-eq-ASSEMBLY_REF+in_ok-keep_first w ↦
       rw w.rows-is (forwarder_step c.as_slice-row-items.result.now c.loop-row.row-index c.row-item.result (omega arith) c.row-item.is
-      (record { namespace = c.as_slice.result; name = c.as_slice-in-loop-row.result }) c.as_slice.ensures c.as_slice-in-loop-row.ensures (eq-eqb (table_of c.row-item.result.implementation) 35 w.if-row-eq35.true) q _ _ _
+      (record { namespace = c.as_slice.result; name = c.as_slice-in-loop-row.result }) c.as_slice.ensures c.as_slice-in-loop-row.ensures (eq-eqb (table_of c.row-item.result.implementation) 35 (sym c.table_of.ensures ∙ w.if-table_of-eq-ASSEMBLY_REF.true)) q _ _ _
       (rw (sym w.index_in.ensures) (w.in_ok-keep_first.ensures q)) (c.loop-row.invariant q))
-  | else-row-eq35 w ↦
-      rw w.rows-is (forwarder_skip c.as_slice-row-items.result.now c.loop-row.row-index c.row-item.result (omega arith) c.row-item.is (ne_eqb (table_of c.row-item.result.implementation) 35 w.if-row-eq35.false) q _ _ (c.loop-row.invariant q))
+  | else-table_of-eq-ASSEMBLY_REF w ↦
+      rw w.rows-is (forwarder_skip c.as_slice-row-items.result.now c.loop-row.row-index c.row-item.result (omega arith) c.row-item.is (ne_eqb (table_of c.row-item.result.implementation) 35 (λ e. w.if-table_of-eq-ASSEMBLY_REF.false (c.table_of.ensures ∙ e))) q _ _ (c.loop-row.invariant q))
 ]
 
 pub returns : goal.returns
