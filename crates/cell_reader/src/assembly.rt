@@ -1,7 +1,8 @@
-ghost use Rattle.std.specs.Prelude.{◌≡◌, ◌<◌, ◌/◌, ◌%◌, ◌^◌, length, map, IfSome};
+ghost use Rattle.std.specs.Prelude.{◌≡◌, ◌<◌, ◌^◌, length, map, IfSome};
 ghost use Rattle.std.specs.Option.{option_map};
 ghost use Rattle.cli_format.specs.Image.{image_demands, metadata_of, image_at, image_tail};
 ghost use Rattle.cli_format.specs.Metadata.{Read};
+ghost use Rattle.world_model.specs.Tokens.{table_of, row_of};
 ghost use Rattle.record_format.specs.Record.{as_demand, record_demands, place_by};
 
 use cli_format::TablesError;
@@ -10,6 +11,7 @@ use meta_tables::Tables;
 use pe_image::{Image, ImageMap};
 use std::alloc::Global;
 use std::marker::Model;
+use world_model::{row_of, table_of};
 
 /// A file that meets the demands on an assembly (II.22 to II.25): the map of its image, and its tables. Contracts see the bytes
 /// of the file.
@@ -69,11 +71,10 @@ impl<'a> Assembly<'a> {
 
     /// The place in the file of the row that a token names (II.22). None where there is no such row.
     pub fn row_place(&self, token: u32) -> Option<u32>
-        ensures { result ≡ place_by self.now (metadata_of self.now) (token / 16777216) (token % 16777216) }
+        ensures { result ≡ place_by self.now (metadata_of self.now) (table_of token) (row_of token) }
     {
         let base = self.map.image().metadata_place();
-        self.tables
-            .row_offset(base, (token / 0x100_0000) as u8, token % 0x100_0000)
+        self.tables.row_offset(base, table_of(token), row_of(token))
     }
 }
 

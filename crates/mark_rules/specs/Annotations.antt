@@ -6,6 +6,7 @@ use Rattle.std.specs.Option.{option_and_then}
 use Rattle.il_base.specs.declared.ids.Item.{Item}
 use Rattle.il_base.specs.declared.ids.Item.TheVariants as item
 use Rattle.il_base.specs.declared.element.TheConstants.{STRING}
+use Rattle.il_base.specs.Flags.{has_flag}
 use Rattle.il_base.specs.declared.generic_flags.TheConstants.{DEFAULT_CONSTRUCTOR_CONSTRAINT}
 use Rattle.il_base.specs.declared.table.TheConstants.{TYPE_REF, TYPE_DEF, FIELD, METHOD_DEF, PARAM, MEMBER_REF, GENERIC_PARAM}
 use Rattle.world_model.specs.declared.known.Known.{Known}
@@ -159,7 +160,7 @@ field_kinds recs at = or_zero (map (λ (rec : AsmRec). kinds_at recs at.asm rec 
 -- a generic parameter with the `new()` constraint has the public constructor without parameters besides
 abbrev pub with_new : GenericParamRow → ℕ → ℕ
 with_new row kinds =
-    if row.flags / DEFAULT_CONSTRUCTOR_CONSTRAINT % 2 == 1 && kinds / kind.PUBLIC_PARAMETERLESS_CONSTRUCTOR % 2 == 0 then kinds + kind.PUBLIC_PARAMETERLESS_CONSTRUCTOR else kinds
+    if has_flag row.flags DEFAULT_CONSTRUCTOR_CONSTRAINT && kinds / kind.PUBLIC_PARAMETERLESS_CONSTRUCTOR % 2 == 0 then kinds + kind.PUBLIC_PARAMETERLESS_CONSTRUCTOR else kinds
 
 abbrev pub generic_kinds_by : List AsmRec → ℕ → AsmRec → ℕ → ℕ → ℕ → GenericParamRow → List ℕ
 generic_kinds_by recs a rec owner n k row =

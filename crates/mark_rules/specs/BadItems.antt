@@ -1,6 +1,6 @@
 -- What a marked item may not have: parts that name nothing or have no reading, and forms outside the profile. The first bad item is
 -- the one at the least place, by assembly, token, offset and kind.
-use Rattle.std.specs.Prelude.{ℕ, suc, List, [], ◌∷◌, ◌++◌, map, codes, Option, Some, None, slice_get, nat_lt, nat_eq, ◌/◌, ◌%◌, ◌==◌, ◌&&◌, ◌||◌, Bool, true, false, not, ◌≡◌, if◌then◌else◌}
+use Rattle.std.specs.Prelude.{ℕ, suc, List, [], ◌∷◌, ◌++◌, map, codes, Option, Some, None, slice_get, nat_lt, nat_eq, ◌==◌, ◌&&◌, ◌||◌, Bool, true, false, not, ◌≡◌, if◌then◌else◌}
 use Rattle.std.specs.List.{Contains, list_any, flat_map}
 use Rattle.il_base.specs.declared.ids.Item.{Item}
 use Rattle.il_base.specs.declared.ids.Item.TheVariants as item
@@ -8,7 +8,9 @@ use Rattle.il_base.specs.declared.table.TheConstants.{TYPE_DEF, FIELD, METHOD_DE
 use Rattle.il_base.specs.declared.outside.TheConstants as outside
 use Rattle.il_base.specs.declared.type_flags.TheConstants.{EXPLICIT_LAYOUT}
 use Rattle.il_base.specs.declared.method_flags.TheConstants as flag
-use Rattle.il_base.specs.declared.impl_flags.TheConstants.{UNMANAGED}
+use Rattle.il_base.specs.declared.impl_flags.TheConstants.{NATIVE, OPTIL, UNMANAGED}
+use Rattle.il_base.specs.declared.generic_flags.TheConstants.{COVARIANT, CONTRAVARIANT}
+use Rattle.il_base.specs.Flags.{has_flag}
 use Rattle.il_base.specs.declared.body.Body.{Body}
 use Rattle.world_model.specs.declared.known.Known.{Known}
 use Rattle.world_model.specs.declared.known.Known.TheVariants.{Good, Bad}
@@ -69,7 +71,7 @@ part_flaws recs i at = flat_map (part_flaw at) (parts_of_item recs i at)
 -- ---- generic parameters: variance (II.10.1.7)
 
 abbrev pub variant_flaw : RowAt → ℕ → ℕ → GenericParamRow → List Flaw
-variant_flaw at owner k row = flaw_if (row.owner == owner && not (row.flags % 4 == 0)) at (token_of GENERIC_PARAM (suc k)) outside.VARIANCE
+variant_flaw at owner k row = flaw_if (row.owner == owner && (has_flag row.flags COVARIANT || has_flag row.flags CONTRAVARIANT)) at (token_of GENERIC_PARAM (suc k)) outside.VARIANCE
 
 abbrev pub variance_flaws : RowAt → AsmRec → ℕ → List Flaw
 variance_flaws at rec owner = each_row (variant_flaw at owner) rec.generic_param
@@ -78,7 +80,7 @@ variance_flaws at rec owner = each_row (variant_flaw at owner) rec.generic_param
 
 -- explicit layout with an instance field of its own, marked or not (II.10.1.2)
 abbrev pub has_explicit_fields : List AsmRec → RowAt → TypeDefRow → Bool
-has_explicit_fields recs at t = t.flags / EXPLICIT_LAYOUT % 2 == 1 && list_any (is_instance_field recs) (fields_of_type recs at)
+has_explicit_fields recs at t = has_flag t.flags EXPLICIT_LAYOUT && list_any (is_instance_field recs) (fields_of_type recs at)
 
 -- an assembly whose `<Module>` has an initializer (II.10.5.3.3)
 abbrev pub has_module_initializer : List AsmRec → ℕ → Bool
@@ -100,9 +102,13 @@ is_global recs owner = list_any (λ (t : RowAt). list_any (is_module_type t.row)
 abbrev pub no_body : MethodDefRow → Bool
 no_body m = elim m.body [ Some b ↦ false | None ↦ true ]
 
+-- a code type other than IL: native or OPTIL, or runtime, which has both bits (II.23.1.11)
+abbrev pub has_other_code : ℕ → Bool
+has_other_code impl_flags = has_flag impl_flags NATIVE || has_flag impl_flags OPTIL
+
 -- a platform call, code that isn't managed IL, or no body where the method isn't abstract (II.15.4.3)
 abbrev pub is_platform : MethodDefRow → Bool
-is_platform m = m.flags / flag.PINVOKE_IMPL % 2 == 1 || not (m.impl_flags % 4 == 0) || m.impl_flags / UNMANAGED % 2 == 1 || (no_body m && not (is_abstract_method m))
+is_platform m = has_flag m.flags flag.PINVOKE_IMPL || has_other_code m.impl_flags || has_flag m.impl_flags UNMANAGED || (no_body m && not (is_abstract_method m))
 
 -- a method of an interface that is static or has a body
 abbrev pub is_interface_body : List AsmRec → RowAt → MethodDefRow → Bool

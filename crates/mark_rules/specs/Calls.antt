@@ -1,6 +1,6 @@
 -- What a marked method needs: its signature, its body, the types that it makes, what it overrides, the initializer of its type;
 -- and what a virtual call of it may run (II.10.3, II.12.2, II.15).
-use Rattle.std.specs.Prelude.{ℕ, suc, List, [], ◌++◌, map, Option, slice_get, ◌/◌, ◌%◌, ◌==◌, ◌&&◌, Bool, not, if◌then◌else◌}
+use Rattle.std.specs.Prelude.{ℕ, suc, List, [], ◌++◌, map, Option, slice_get, ◌==◌, ◌&&◌, Bool, not, if◌then◌else◌}
 use Rattle.std.specs.List.{list_any, flat_map}
 use Rattle.std.specs.Option.{option_and_then, option_map}
 use Rattle.il_base.specs.declared.body.Form.{Form}
@@ -8,7 +8,8 @@ use Rattle.il_base.specs.declared.body.Form.TheVariants as form
 use Rattle.il_base.specs.declared.body.Operand.{Operand}
 use Rattle.il_base.specs.declared.body.Operand.TheVariants as operand
 use Rattle.il_base.specs.declared.body.Instr.{Instr}
-use Rattle.il_base.specs.declared.table.TheConstants.{METHOD_DEF}
+use Rattle.il_base.specs.declared.table.TheConstants.{TYPE_DEF, METHOD_DEF}
+use Rattle.il_base.specs.Flags.{has_flag}
 use Rattle.il_base.specs.declared.method_flags.TheConstants as flag
 use Rattle.il_base.specs.declared.type_flags.TheConstants as type_flag
 use Rattle.world_model.specs.declared.expr.TypeExpr.{TypeExpr}
@@ -145,7 +146,7 @@ abbrev pub is_base_of : List AsmRec → RowAt → RowAt → Bool
 is_base_of recs c t = list_any (λ e. list_any (same_row c) (listed (home_of recs e))) (with_bases recs (open_type recs t))
 
 abbrev pub row_class : List AsmRec → RowAt → Option RowAt
-row_class recs r = option_and_then (λ row. option_map (at_row r.asm) (index_in 0x02 row.class)) (impl_row_at recs r)
+row_class recs r = option_and_then (λ row. option_map (at_row r.asm) (index_in TYPE_DEF row.class)) (impl_row_at recs r)
 
 abbrev pub searched : List AsmRec → RowAt → RowAt → RowAt → RowAt → List RowAt
 searched recs t b r c = if is_base_of recs c t then flat_map (found_for recs b (open_type recs c)) (only_interface recs (impl_type recs r)) else []
@@ -172,10 +173,10 @@ interface_runs recs t b r = map (marks_method recs) (first_found recs t b r ++ i
 -- ---- abstract slots
 
 abbrev pub is_concrete : TypeDefRow → Bool
-is_concrete t = t.flags / type_flag.ABSTRACT % 2 == 0 && not (is_interface_row t)
+is_concrete t = not (has_flag t.flags type_flag.ABSTRACT) && not (is_interface_row t)
 
 abbrev pub is_abstract_method : MethodDefRow → Bool
-is_abstract_method m = m.flags / flag.ABSTRACT % 2 == 1
+is_abstract_method m = has_flag m.flags flag.ABSTRACT
 
 abbrev pub answers_abstract : List AsmRec → RowAt → RowAt → Bool
 answers_abstract recs t b = list_any is_concrete (listed (type_row_at recs t)) && list_any is_abstract_method (listed (method_row_at recs b))

@@ -4,6 +4,7 @@ use Rattle.std.specs.Prelude.{ℕ, zero, suc, List, [], ◌∷◌, ◌++◌, len
 use Rattle.std.specs.List.{list_any, flat_map, filter}
 use Rattle.il_base.specs.declared.ids.Item.{Item}
 use Rattle.il_base.specs.declared.table.TheConstants.{TYPE_DEF}
+use Rattle.il_base.specs.Flags.{has_flag, access_of}
 use Rattle.il_base.specs.declared.type_flags.TheConstants as type_flag
 use Rattle.il_base.specs.declared.method_flags.TheConstants as access
 use Rattle.world_model.specs.declared.types.TypeDefRow.{TypeDefRow}
@@ -31,15 +32,15 @@ use Rattle.mark_rules.specs.Properties.{property_accessors, event_accessors}
 
 -- whether flags name a kind
 abbrev pub has_kind : ℕ → ℕ → Bool
-has_kind flags k = flags / k % 2 == 1
+has_kind kinds k = has_flag kinds k
 
 -- ---- accessibility (II.23.1.5, II.23.1.10)
 
 abbrev pub is_public_access : ℕ → Bool
-is_public_access flags = flags % 8 == access.PUBLIC
+is_public_access flags = access_of flags == access.PUBLIC
 
 abbrev pub is_private_access : ℕ → Bool
-is_private_access flags = flags % 8 == access.PRIVATE
+is_private_access flags = access_of flags == access.PRIVATE
 
 -- a public member, or another one: of a base one that isn't private
 abbrev pub counts : Bool → ℕ → ℕ → Bool
@@ -48,7 +49,7 @@ counts own flags access =
 
 -- of two kinds, the public one and the other, which of them flags name: as bits 1 and 2
 abbrev pub pair : ℕ → ℕ → ℕ → ℕ
-pair flags public other = flags / public % 2 + 2 * (flags / other % 2)
+pair kinds public other = kinds / public % 2 + 2 * (kinds / other % 2)
 
 -- ---- bases
 
@@ -136,7 +137,7 @@ nested_in recs t =
     flat_map (λ (rec : AsmRec). each_row (λ k (row : TypeDefRow). if same_place (encloser rec k) (Some t.row) then at_row t.asm k ∷ [] else []) rec.type_def) (listed (rec_at recs t))
 
 abbrev pub is_nested_public : List AsmRec → RowAt → Bool
-is_nested_public recs at = list_any (λ (t : TypeDefRow). t.flags % 8 == type_flag.NESTED_PUBLIC) (listed (type_row_at recs at))
+is_nested_public recs at = list_any (λ (t : TypeDefRow). access_of t.flags == type_flag.NESTED_PUBLIC) (listed (type_row_at recs at))
 
 abbrev pub nested_counts : List AsmRec → ℕ → RowAt → Bool
 nested_counts recs flags at = if is_nested_public recs at then has_kind flags kind.PUBLIC_NESTED_TYPES else has_kind flags kind.NON_PUBLIC_NESTED_TYPES
@@ -182,4 +183,4 @@ members_by recs flags t =
 
 -- whether kinds name a constructor
 abbrev pub names_constructors : ℕ → Bool
-names_constructors flags = not (flags % 8 == 0)
+names_constructors kinds = not (kinds % 8 == 0)

@@ -1,12 +1,13 @@
 -- New names of types. Kept top-level types of two assemblies can't both keep one full name: the later one is renamed `<ASM>NAME`, with the
 -- name of its assembly in angle brackets, and a number behind that where this name is taken too. A type that is public or shown
 -- can't be renamed, so the first such type is a collision with the earlier type.
-use Rattle.std.specs.Prelude.{ℕ, zero, suc, ◌+◌, List, [], ◌∷◌, ◌++◌, length, codes, Option, Some, None, find, ◌%◌, ◌==◌, ◌&&◌, ◌||◌, Bool, true, false, not, if◌then◌else◌}
+use Rattle.std.specs.Prelude.{ℕ, zero, suc, ◌+◌, List, [], ◌∷◌, ◌++◌, length, codes, Option, Some, None, find, ◌==◌, ◌&&◌, ◌||◌, Bool, true, false, not, if◌then◌else◌}
 use Rattle.std.specs.List.{list_any, filter}
 use Rattle.std.specs.Option.{option_map, option_and_then}
 use Rattle.std.specs.Fmt.{decimal}
 use Rattle.il_base.specs.declared.ids.TypeId.{TypeId}
 use Rattle.il_base.specs.declared.type_flags.TheConstants as flag
+use Rattle.il_base.specs.Flags.{access_of}
 use Rattle.world_model.specs.declared.types.TypeDefRow.{TypeDefRow}
 use Rattle.world_model.specs.declared.record.AsmRec.{AsmRec}
 use Rattle.world_model.specs.Core.{same_name}
@@ -97,7 +98,7 @@ new_names recs kept = names_from recs kept [] [] kept
 
 -- public, of a top-level type (II.23.1.15)
 abbrev pub is_public : List AsmRec → RowAt → Bool
-is_public recs at = list_any (λ (t : TypeDefRow). t.flags % 8 == flag.PUBLIC) (listed (type_row_at recs at))
+is_public recs at = list_any (λ (t : TypeDefRow). access_of t.flags == flag.PUBLIC) (listed (type_row_at recs at))
 
 -- two types of which the second can't be renamed
 pub record Collision : Type 0 where

@@ -10,6 +10,7 @@ use cli_format::{
     BAD_STREAM, CodedIndex, Column, ROW_OUT_OF_RANGE, TablesError, UNKNOWN_TABLE, columns,
     first_tag, tag_bits, targets, u8_in, u16_in,
 };
+use il_base::table;
 use std::marker::Model;
 
 /// The most rows that a table may have.
@@ -231,7 +232,11 @@ impl<'a> Layout<'a> {
         requires { base + 8 < 2 ^ 32 }
         ensures { Checked result (single_demands self.now base) tt }
     {
-        let enough = are_enough(self.rows(0x00), self.rows(0x20), self.rows(0x02));
+        let enough = are_enough(
+            self.rows(table::MODULE),
+            self.rows(table::ASSEMBLY),
+            self.rows(table::TYPE_DEF),
+        );
         need(enough, base as usize + 8, ROW_OUT_OF_RANGE)?;
         Ok(())
     }

@@ -98,8 +98,8 @@ module _ (recs : List AsmRec) (name : List ℕ) (es : List TypeExpr) where
   unfolding fields_named methods_named properties_named events_named named_field
   named_is Field =
       collected_is recs name es Field (field_test recs (is_public_field name)) (field_test recs (is_public_instance_field name))
-      (field_and recs (is_public_field name) named_field (passes_field false) (λ f. ap (λ (b : Bool). named_field f && b) (and_true (f.flags % 8 == 6))))
-      (field_and recs (is_public_instance_field name) named_field (passes_field true) (λ f. and_assoc (named_field f) (f.flags % 8 == 6) (f.flags / 0x10 % 2 == 0))) es
+      (field_and recs (is_public_field name) named_field (passes_field false) (λ f. ap (λ (b : Bool). named_field f && b) (and_true (access_of f.flags == PUBLIC))))
+      (field_and recs (is_public_instance_field name) named_field (passes_field true) (λ f. and_assoc (named_field f) (access_of f.flags == PUBLIC) (not (has_flag f.flags STATIC)))) es
   named_is Method =
       collected_is recs name es Method (method_test recs (is_public_method name)) (method_test recs (is_public_instance name))
       (method_and recs (is_public_method name) (λ (m : MethodDefRow). same_name m.name name) (passes_method false) (λ m. three (same_name m.name name) (is_public m) (not (is_constructor m))))

@@ -2,7 +2,7 @@
 use Rattle.std.specs.Prelude.{ℕ, List, [], ◌∷◌, map, slice_get}
 use Rattle.std.specs.List.{filter}
 use Rattle.std.specs.Option.{option_map_or}
-use Rattle.il_base.specs.declared.table.TheConstants.{METHOD_DEF}
+use Rattle.il_base.specs.declared.table.TheConstants.{METHOD_DEF, EVENT, PROPERTY}
 use Rattle.world_model.specs.declared.members.MethodSemanticsRow.{MethodSemanticsRow}
 use Rattle.world_model.specs.declared.record.AsmRec.{AsmRec}
 use Rattle.world_model.specs.Tokens.{index_in}
@@ -15,8 +15,8 @@ use Rattle.named_members.specs.declared.kinds.Mapped.TheVariants.{Property, Even
 
 -- the table of such rows (II.22)
 abbrev pub table_of : Mapped → ℕ
-table_of Property = 0x17
-table_of Event = 0x14
+table_of Property = PROPERTY
+table_of Event = EVENT
 
 -- a method where a type's run has it
 abbrev pub owned_at : AsmRec → ℕ → ℕ → List RowAt

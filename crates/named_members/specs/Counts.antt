@@ -1,5 +1,7 @@
 -- Which members count: public ones of a type itself, public ones of instances of its bases.
-use Rattle.std.specs.Prelude.{◌%◌, ◌/◌, List, ◌==◌, ◌&&◌, ◌||◌, Bool, not}
+use Rattle.std.specs.Prelude.{List, ◌==◌, ◌&&◌, ◌||◌, Bool, not}
+use Rattle.il_base.specs.declared.field_flags.TheConstants.{PUBLIC, STATIC}
+use Rattle.il_base.specs.Flags.{has_flag, access_of}
 use Rattle.world_model.specs.declared.members.FieldRow.{FieldRow}
 use Rattle.world_model.specs.declared.members.MethodDefRow.{MethodDefRow}
 use Rattle.world_model.specs.declared.record.AsmRec.{AsmRec}
@@ -13,7 +15,7 @@ use Rattle.named_members.specs.declared.kinds.Mapped.TheVariants as mapped
 use Rattle.named_members.specs.Accessors.{table_of}
 
 abbrev pub passes_field : Bool → FieldRow → Bool
-passes_field inherited f = f.flags % 8 == 6 && (not inherited || f.flags / 0x10 % 2 == 0)
+passes_field inherited f = access_of f.flags == PUBLIC && (not inherited || not (has_flag f.flags STATIC))
 
 abbrev pub passes_method : Bool → MethodDefRow → Bool
 passes_method inherited m = is_public m && not (is_constructor m) && (not inherited || not (is_static m))

@@ -1,6 +1,7 @@
 -- Which members hide others.
 use Rattle.std.specs.Prelude.{List, Bool, false}
 use Rattle.std.specs.List.{list_any}
+use Rattle.il_base.specs.declared.table.TheConstants.{EVENT, PROPERTY}
 use Rattle.world_model.specs.declared.expr.TypeExpr.{TypeExpr}
 use Rattle.world_model.specs.declared.record.AsmRec.{AsmRec}
 use Rattle.link_rules.specs.declared.row_at.RowAt.{RowAt}
@@ -15,5 +16,5 @@ any_overrides recs es others methods = list_any (λ m. list_any (overrides recs 
 abbrev pub hides : List AsmRec → List TypeExpr → Kind → RowAt → RowAt → Bool
 hides recs es Field x y = false
 hides recs es Method x y = overrides recs es x y
-hides recs es Property x y = accessors_override recs es 0x17 x y
-hides recs es Event x y = accessors_override recs es 0x14 x y
+hides recs es Property x y = accessors_override recs es PROPERTY x y
+hides recs es Event x y = accessors_override recs es EVENT x y

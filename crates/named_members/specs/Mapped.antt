@@ -2,6 +2,7 @@
 use Rattle.std.specs.Prelude.{ℕ, suc, ◌-◌, List, [], length, map, Option, slice_get, Bool}
 use Rattle.std.specs.List.{list_any, flat_map, filter, range_with_len}
 use Rattle.std.specs.Option.{option_map, option_map_or}
+use Rattle.il_base.specs.declared.table.TheConstants.{TYPE_DEF}
 use Rattle.world_model.specs.declared.members.PropertyRow.{PropertyRow}
 use Rattle.world_model.specs.declared.members.PropertyMapRow.{PropertyMapRow}
 use Rattle.world_model.specs.declared.members.EventRow.{EventRow}
@@ -62,8 +63,8 @@ named_under m rec asm name k = option_map_or (named_in_run m rec asm name) (run_
 
 -- those of a type, by its row from 0
 abbrev pub places_of : Mapped → AsmRec → ℕ → List ℕ
-places_of Property rec k = flat_map (searches.property_run rec (token_of 0x02 (suc k))) rec.property_map
-places_of Event rec k = flat_map (searches.event_run rec (token_of 0x02 (suc k))) rec.event_map
+places_of Property rec k = flat_map (searches.property_run rec (token_of TYPE_DEF (suc k))) rec.property_map
+places_of Event rec k = flat_map (searches.event_run rec (token_of TYPE_DEF (suc k))) rec.event_map
 
 -- those of a type that have a name
 abbrev pub named_places : Mapped → AsmRec → List ℕ → RowAt → List RowAt

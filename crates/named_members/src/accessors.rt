@@ -7,21 +7,20 @@ ghost use Rattle.type_tables.specs.Tables.{AreRowTables, IsTables};
 ghost use Rattle.named_members.specs.Accessors.{table_of, owned_at, method_under};
 
 use crate::kinds::Mapped;
-use il_base::NoMemory;
+use il_base::{NoMemory, access_of, has_flag, method_flags, table};
 use link_rules::RowAt;
-use member_search::params::token_of;
 use std::alloc::Global;
 use type_tables::methods::{has_owner, method_row_at};
 use type_tables::tables::{RowTables, Tables};
-use world_model::{AsmRec, index_in};
+use world_model::{AsmRec, index_in, token_of};
 
 /// The table of such rows (II.22).
 fn table_of(mapped: Mapped) -> u8
     ensures { result ≡ table_of mapped }
 {
     match mapped {
-        Mapped::Property => 0x17,
-        Mapped::Event => 0x14,
+        Mapped::Property => table::PROPERTY,
+        Mapped::Event => table::EVENT,
     }
 }
 
@@ -56,7 +55,7 @@ fn add_method(
     let Some(semantics) = rec.method_semantics.get(k as usize) else {
         return Ok(());
     };
-    let Some(row) = index_in(0x06, semantics.method) else {
+    let Some(row) = index_in(table::METHOD_DEF, semantics.method) else {
         return Ok(());
     };
     add_owned(rec, tables, asm, row, found)?;
@@ -104,7 +103,7 @@ fn is_public_at(all: &[AsmRec], at: RowAt) -> bool
     ensures { result ≡ method_test all.now is_public_accessor at }
 {
     match method_row_at(all, at) {
-        Some(row) => row.flags % 8 == 6,
+        Some(row) => access_of(row.flags) == method_flags::PUBLIC,
         None => false,
     }
 }
@@ -113,7 +112,7 @@ fn is_instance_at(all: &[AsmRec], at: RowAt) -> bool
     ensures { result ≡ method_test all.now is_instance_accessor at }
 {
     match method_row_at(all, at) {
-        Some(row) => row.flags / 0x10 % 2 != 1,
+        Some(row) => !has_flag(row.flags, method_flags::STATIC),
         None => false,
     }
 }

@@ -7,7 +7,7 @@ ghost use Rattle.named_members.specs.Counts.{passes_field, passes_method, mapped
 
 use crate::accessors::{accessors, any_instance, any_public};
 use crate::kinds::{Kind, Mapped};
-use il_base::NoMemory;
+use il_base::{NoMemory, access_of, field_flags, has_flag, method_flags};
 use link_rules::RowAt;
 use member_search::linked::assembly_at;
 use std::alloc::Global;
@@ -18,7 +18,8 @@ use world_model::{AsmRec, FieldRow, MethodDefRow};
 fn passes_field(row: &FieldRow, inherited: bool) -> bool
     ensures { result ≡ passes_field inherited row.now }
 {
-    row.flags % 8 == 6 && (!inherited || row.flags / 0x10 % 2 == 0)
+    access_of(row.flags) == field_flags::PUBLIC
+        && (!inherited || !has_flag(row.flags, field_flags::STATIC))
 }
 
 /// Whether a method is an instance or a type initializer (II.10.5.1, II.10.5.3).
@@ -31,7 +32,9 @@ fn is_constructor(row: &MethodDefRow) -> bool
 fn passes_method(row: &MethodDefRow, inherited: bool) -> bool
     ensures { result ≡ passes_method inherited row.now }
 {
-    row.flags % 8 == 6 && !is_constructor(row) && (!inherited || row.flags / 0x10 % 2 != 1)
+    access_of(row.flags) == method_flags::PUBLIC
+        && !is_constructor(row)
+        && (!inherited || !has_flag(row.flags, method_flags::STATIC))
 }
 
 fn field_counts(all: &[AsmRec], inherited: bool, at: RowAt) -> bool

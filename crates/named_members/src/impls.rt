@@ -8,16 +8,15 @@ ghost use Rattle.type_tables.specs.Tables.{IsTables};
 ghost use Rattle.virtual_calls.specs.Slots.{AreSlots};
 ghost use Rattle.named_members.specs.Impls.{names_body, says_so, says_so_at, has_impl_at};
 
-use il_base::NoMemory;
+use il_base::{NoMemory, table};
 use link_rules::RowAt;
 use member_search::bases::definition;
-use member_search::params::token_of;
 use std::alloc::Global;
 use type_tables::methods::{method_home, use_at};
 use type_tables::tables::Tables;
 use virtual_calls::impls::{body_at, same_row};
 use virtual_calls::slots::Slots;
-use world_model::{AsmRec, MethodImplRow, MethodUse, TypeExpr};
+use world_model::{AsmRec, MethodImplRow, MethodUse, TypeExpr, token_of};
 
 /// Whether two slots are there and the same.
 pub fn same_slot(x: Option<RowAt>, y: Option<RowAt>) -> bool
@@ -150,7 +149,7 @@ fn has_impl_at(
         return Ok(false);
     };
     let rec = of.scope.rec;
-    let token = token_of(0x02, at.row as usize)?;
+    let token = token_of(table::TYPE_DEF, at.row as usize)?;
     let rows = of.tables.impls.rows_with(token);
     let has = any_says_so(alloc, tables, slots, ty, body, slot, at.asm, rec, rows)?;
     Ok(has)

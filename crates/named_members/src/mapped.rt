@@ -6,13 +6,12 @@ ghost use Rattle.type_tables.specs.Tables.{AreRowTables};
 ghost use Rattle.named_members.specs.Mapped.{count_in, map_rows, run_at, has_name, named_from, run_length, named_in_run, named_under, named_places};
 
 use crate::kinds::Mapped;
-use il_base::NoMemory;
+use il_base::{NoMemory, table};
 use link_rules::RowAt;
 use member_search::owners::Run;
-use member_search::params::token_of;
 use std::alloc::Global;
 use type_tables::tables::RowTables;
-use world_model::AsmRec;
+use world_model::{AsmRec, token_of};
 
 /// How many such rows an assembly has.
 fn count_in(rec: &AsmRec, mapped: Mapped) -> usize
@@ -142,7 +141,7 @@ pub fn named_places(
     requires { AreRowTables rec.now tables.now }
     ensures { IfOk result (λ found. found.items ≡ named_places mapped rec.now name.now at) }
 {
-    let token = token_of(0x02, at.row as usize)?;
+    let token = token_of(table::TYPE_DEF, at.row as usize)?;
     let rows = map_rows(tables, mapped, token);
     let found = named_under(alloc, rec, mapped, at.asm, name, rows)?;
     Ok(found)

@@ -2,6 +2,8 @@
 -- fields (II.22.18). `bs` are the bytes of the file.
 use Rattle.std.specs.Prelude.{ℕ, ◌+◌, ◌-◌, List, [], ◌∷◌, Bool, false, nat_le, nat_lt, ◌&&◌, ◌||◌, ◌==◌, Option, Some, None, find, slice_get, Result, Ok, Err, if◌then◌else◌}
 use Rattle.std.specs.Option.{option_and_then}
+use Rattle.il_base.specs.declared.element.TheConstants as element
+use Rattle.il_base.specs.declared.table.TheConstants.{FIELD}
 use Rattle.il_base.specs.declared.sig.Sig.{Sig}
 use Rattle.il_base.specs.declared.sig.Sig.TheVariants.{Prim, Named}
 use Rattle.il_base.specs.declared.body.Body.{Body}
@@ -81,10 +83,10 @@ bad_offset bs rva = if rva == 0 then 0 else offset_in (image_tail bs rva)
 -- the size of a primitive in bytes (II.23.1.16); a native integer has none in a file
 unfoldable pub primitive_size : ℕ → Option ℕ
 primitive_size k =
-    if k == 2 || k == 4 || k == 5 then Some 1
-    else if k == 3 || k == 6 || k == 7 then Some 2
-    else if k == 8 || k == 9 then Some 4
-    else if k == 10 || k == 11 then Some 8
+    if k == element.BOOLEAN || k == element.I1 || k == element.U1 then Some 1
+    else if k == element.CHAR || k == element.I2 || k == element.U2 then Some 2
+    else if k == element.I4 || k == element.U4 then Some 4
+    else if k == element.I8 || k == element.U8 then Some 8
     else None
 
 abbrev pub class_size : Option ClassLayoutRow → Option ℕ
@@ -106,7 +108,7 @@ size_of_field layouts f = elim f.signature [ Good s ↦ size_of_type layouts s |
 -- the size of a field's bytes by the field's token
 abbrev pub size_by : List ClassLayoutRow → List FieldRow → ℕ → Option ℕ
 size_by layouts fields token =
-    option_and_then (size_of_field layouts) (option_and_then (slice_get fields) (index_in 0x04 token))
+    option_and_then (size_of_field layouts) (option_and_then (slice_get fields) (index_in FIELD token))
 
 -- field bytes without a size, or that aren't there
 abbrev pub field_data : ℕ

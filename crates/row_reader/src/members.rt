@@ -1,6 +1,7 @@
 //! Rows on members.
 #![tactic(auto, unfolding(cli_format::specs::Tables::column_of, cli_format::specs::Columns::columns_of, cli_format::specs::Columns::schema, record_format::specs::Members::field_row, record_format::specs::Members::method_def_row, record_format::specs::Members::param_row, record_format::specs::Members::member_ref_row, record_format::specs::Members::stand_alone_sig_row, record_format::specs::Members::event_map_row, record_format::specs::Members::event_row, record_format::specs::Members::property_map_row, record_format::specs::Members::property_row, record_format::specs::Members::method_semantics_row, record_format::specs::Members::method_impl_row, record_format::specs::Members::method_spec_row))]
 
+ghost use Rattle.il_base.specs.declared.table.TheConstants.{EVENT, EVENT_MAP, FIELD, MEMBER_REF, METHOD_DEF, METHOD_IMPL, METHOD_SEMANTICS, METHOD_SPEC, PARAM, PROPERTY, PROPERTY_MAP, STAND_ALONE_SIG};
 ghost use Rattle.cli_format.specs.Image.{metadata_of};
 ghost use Rattle.blob_grammar.specs.Reading.{field_of_blob, method_of_blob, property_of_blob, locals_of_blob, instance_of_blob};
 ghost use Rattle.record_format.specs.Parts.{known_of, member_of_blob};
@@ -12,7 +13,7 @@ use crate::parts::{known, member_signature};
 use crate::row::Row;
 use crate::signatures::{HasSignature, SignatureRow, signature_of};
 use cell_reader::Assembly;
-use il_base::{MethodSig, NoMemory, Seq, Sig};
+use il_base::{MethodSig, NoMemory, Seq, Sig, table};
 use sig_blobs::{read_field, read_instance, read_locals, read_method, read_property};
 use std::alloc::Global;
 use world_model::{
@@ -22,13 +23,13 @@ use world_model::{
 
 /// Field (II.22.15).
 impl HasSignature for FieldRow {
-    const TABLE: u8 = 0x04;
+    const TABLE: u8 = table::FIELD;
 
     const COLUMN: usize = 2;
 
     type Signature = Sig;
 
-    ghost TABLE = { 0x04 };
+    ghost TABLE = { FIELD };
 
     ghost COLUMN = { 2 };
 
@@ -43,8 +44,8 @@ impl SignatureRow for FieldRow {
     ghost row_of = { λ bs r. field_row (metadata_of bs) r };
 
     fn read(alloc: Global, file: &Assembly, met: &mut Met, row: u32) -> Result<FieldRow, NoMemory> {
-        let flags = file.half(0x04, 0, row);
-        let name = file.text(alloc, 0x04, 1, row)?;
+        let flags = file.half(table::FIELD, 0, row);
+        let name = file.text(alloc, table::FIELD, 1, row)?;
         let signature = signature_of::<FieldRow>(alloc, file, &mut met.signatures, row)?;
         Ok(FieldRow {
             flags,
@@ -56,13 +57,13 @@ impl SignatureRow for FieldRow {
 
 /// MethodDef (II.22.26).
 impl HasSignature for MethodDefRow {
-    const TABLE: u8 = 0x06;
+    const TABLE: u8 = table::METHOD_DEF;
 
     const COLUMN: usize = 4;
 
     type Signature = MethodSig;
 
-    ghost TABLE = { 0x06 };
+    ghost TABLE = { METHOD_DEF };
 
     ghost COLUMN = { 4 };
 
@@ -82,13 +83,13 @@ impl SignatureRow for MethodDefRow {
         met: &mut Met,
         row: u32,
     ) -> Result<MethodDefRow, NoMemory> {
-        let rva = file.word(0x06, 0, row);
-        let impl_flags = file.half(0x06, 1, row);
-        let flags = file.half(0x06, 2, row);
-        let name = file.text(alloc, 0x06, 3, row)?;
+        let rva = file.word(table::METHOD_DEF, 0, row);
+        let impl_flags = file.half(table::METHOD_DEF, 1, row);
+        let flags = file.half(table::METHOD_DEF, 2, row);
+        let name = file.text(alloc, table::METHOD_DEF, 3, row)?;
         let signature = signature_of::<MethodDefRow>(alloc, file, &mut met.signatures, row)?;
-        let param_list_first = file.word(0x06, 5, row);
-        let param_list_end = file.run_end(0x06, 5, 0x08, row);
+        let param_list_first = file.word(table::METHOD_DEF, 5, row);
+        let param_list_end = file.run_end(table::METHOD_DEF, 5, table::PARAM, row);
         let FoundBody { body, bad_at } = body_of(alloc, file, &mut met.bodies, rva)?;
         Ok(MethodDefRow {
             rva,
@@ -106,16 +107,16 @@ impl SignatureRow for MethodDefRow {
 
 /// Param (II.22.33).
 impl Row for ParamRow {
-    const TABLE: u8 = 0x08;
+    const TABLE: u8 = table::PARAM;
 
-    ghost TABLE = { 0x08 };
+    ghost TABLE = { PARAM };
 
     ghost row_of = { λ bs r. param_row (metadata_of bs) r };
 
     fn read(alloc: Global, file: &Assembly, row: u32) -> Result<ParamRow, NoMemory> {
-        let flags = file.half(0x08, 0, row);
-        let sequence = file.half(0x08, 1, row);
-        let name = file.text(alloc, 0x08, 2, row)?;
+        let flags = file.half(table::PARAM, 0, row);
+        let sequence = file.half(table::PARAM, 1, row);
+        let name = file.text(alloc, table::PARAM, 2, row)?;
         Ok(ParamRow {
             flags,
             sequence,
@@ -126,13 +127,13 @@ impl Row for ParamRow {
 
 /// MemberRef (II.22.25).
 impl HasSignature for MemberRefRow {
-    const TABLE: u8 = 0x0a;
+    const TABLE: u8 = table::MEMBER_REF;
 
     const COLUMN: usize = 2;
 
     type Signature = MemberSig;
 
-    ghost TABLE = { 0x0a };
+    ghost TABLE = { MEMBER_REF };
 
     ghost COLUMN = { 2 };
 
@@ -152,8 +153,8 @@ impl SignatureRow for MemberRefRow {
         met: &mut Met,
         row: u32,
     ) -> Result<MemberRefRow, NoMemory> {
-        let class = file.token(0x0a, 0, row);
-        let name = file.text(alloc, 0x0a, 1, row)?;
+        let class = file.token(table::MEMBER_REF, 0, row);
+        let name = file.text(alloc, table::MEMBER_REF, 1, row)?;
         let signature = signature_of::<MemberRefRow>(alloc, file, &mut met.signatures, row)?;
         Ok(MemberRefRow {
             class,
@@ -165,13 +166,13 @@ impl SignatureRow for MemberRefRow {
 
 /// StandAloneSig (II.22.36).
 impl HasSignature for StandAloneSigRow {
-    const TABLE: u8 = 0x11;
+    const TABLE: u8 = table::STAND_ALONE_SIG;
 
     const COLUMN: usize = 0;
 
     type Signature = Seq<Sig>;
 
-    ghost TABLE = { 0x11 };
+    ghost TABLE = { STAND_ALONE_SIG };
 
     ghost COLUMN = { 0 };
 
@@ -198,16 +199,16 @@ impl SignatureRow for StandAloneSigRow {
 
 /// EventMap (II.22.12).
 impl Row for EventMapRow {
-    const TABLE: u8 = 0x12;
+    const TABLE: u8 = table::EVENT_MAP;
 
-    ghost TABLE = { 0x12 };
+    ghost TABLE = { EVENT_MAP };
 
     ghost row_of = { λ bs r. event_map_row (metadata_of bs) r };
 
     fn read(_alloc: Global, file: &Assembly, row: u32) -> Result<EventMapRow, NoMemory> {
-        let parent = file.token(0x12, 0, row);
-        let event_list_first = file.word(0x12, 1, row);
-        let event_list_end = file.run_end(0x12, 1, 0x14, row);
+        let parent = file.token(table::EVENT_MAP, 0, row);
+        let event_list_first = file.word(table::EVENT_MAP, 1, row);
+        let event_list_end = file.run_end(table::EVENT_MAP, 1, table::EVENT, row);
         Ok(EventMapRow {
             parent,
             event_list_first,
@@ -218,16 +219,16 @@ impl Row for EventMapRow {
 
 /// Event (II.22.13).
 impl Row for EventRow {
-    const TABLE: u8 = 0x14;
+    const TABLE: u8 = table::EVENT;
 
-    ghost TABLE = { 0x14 };
+    ghost TABLE = { EVENT };
 
     ghost row_of = { λ bs r. event_row (metadata_of bs) r };
 
     fn read(alloc: Global, file: &Assembly, row: u32) -> Result<EventRow, NoMemory> {
-        let event_flags = file.half(0x14, 0, row);
-        let name = file.text(alloc, 0x14, 1, row)?;
-        let event_type = file.token(0x14, 2, row);
+        let event_flags = file.half(table::EVENT, 0, row);
+        let name = file.text(alloc, table::EVENT, 1, row)?;
+        let event_type = file.token(table::EVENT, 2, row);
         Ok(EventRow {
             event_flags,
             name,
@@ -238,16 +239,16 @@ impl Row for EventRow {
 
 /// PropertyMap (II.22.35).
 impl Row for PropertyMapRow {
-    const TABLE: u8 = 0x15;
+    const TABLE: u8 = table::PROPERTY_MAP;
 
-    ghost TABLE = { 0x15 };
+    ghost TABLE = { PROPERTY_MAP };
 
     ghost row_of = { λ bs r. property_map_row (metadata_of bs) r };
 
     fn read(_alloc: Global, file: &Assembly, row: u32) -> Result<PropertyMapRow, NoMemory> {
-        let parent = file.token(0x15, 0, row);
-        let property_list_first = file.word(0x15, 1, row);
-        let property_list_end = file.run_end(0x15, 1, 0x17, row);
+        let parent = file.token(table::PROPERTY_MAP, 0, row);
+        let property_list_first = file.word(table::PROPERTY_MAP, 1, row);
+        let property_list_end = file.run_end(table::PROPERTY_MAP, 1, table::PROPERTY, row);
         Ok(PropertyMapRow {
             parent,
             property_list_first,
@@ -258,13 +259,13 @@ impl Row for PropertyMapRow {
 
 /// Property (II.22.34).
 impl HasSignature for PropertyRow {
-    const TABLE: u8 = 0x17;
+    const TABLE: u8 = table::PROPERTY;
 
     const COLUMN: usize = 2;
 
     type Signature = MethodSig;
 
-    ghost TABLE = { 0x17 };
+    ghost TABLE = { PROPERTY };
 
     ghost COLUMN = { 2 };
 
@@ -284,8 +285,8 @@ impl SignatureRow for PropertyRow {
         met: &mut Met,
         row: u32,
     ) -> Result<PropertyRow, NoMemory> {
-        let flags = file.half(0x17, 0, row);
-        let name = file.text(alloc, 0x17, 1, row)?;
+        let flags = file.half(table::PROPERTY, 0, row);
+        let name = file.text(alloc, table::PROPERTY, 1, row)?;
         let signature = signature_of::<PropertyRow>(alloc, file, &mut met.signatures, row)?;
         Ok(PropertyRow {
             flags,
@@ -297,16 +298,16 @@ impl SignatureRow for PropertyRow {
 
 /// MethodSemantics (II.22.28).
 impl Row for MethodSemanticsRow {
-    const TABLE: u8 = 0x18;
+    const TABLE: u8 = table::METHOD_SEMANTICS;
 
-    ghost TABLE = { 0x18 };
+    ghost TABLE = { METHOD_SEMANTICS };
 
     ghost row_of = { λ bs r. method_semantics_row (metadata_of bs) r };
 
     fn read(_alloc: Global, file: &Assembly, row: u32) -> Result<MethodSemanticsRow, NoMemory> {
-        let semantics = file.half(0x18, 0, row);
-        let method = file.token(0x18, 1, row);
-        let association = file.token(0x18, 2, row);
+        let semantics = file.half(table::METHOD_SEMANTICS, 0, row);
+        let method = file.token(table::METHOD_SEMANTICS, 1, row);
+        let association = file.token(table::METHOD_SEMANTICS, 2, row);
         Ok(MethodSemanticsRow {
             semantics,
             method,
@@ -317,16 +318,16 @@ impl Row for MethodSemanticsRow {
 
 /// MethodImpl (II.22.27).
 impl Row for MethodImplRow {
-    const TABLE: u8 = 0x19;
+    const TABLE: u8 = table::METHOD_IMPL;
 
-    ghost TABLE = { 0x19 };
+    ghost TABLE = { METHOD_IMPL };
 
     ghost row_of = { λ bs r. method_impl_row (metadata_of bs) r };
 
     fn read(_alloc: Global, file: &Assembly, row: u32) -> Result<MethodImplRow, NoMemory> {
-        let class = file.token(0x19, 0, row);
-        let body = file.token(0x19, 1, row);
-        let declaration = file.token(0x19, 2, row);
+        let class = file.token(table::METHOD_IMPL, 0, row);
+        let body = file.token(table::METHOD_IMPL, 1, row);
+        let declaration = file.token(table::METHOD_IMPL, 2, row);
         Ok(MethodImplRow {
             class,
             body,
@@ -337,13 +338,13 @@ impl Row for MethodImplRow {
 
 /// MethodSpec (II.22.29).
 impl HasSignature for MethodSpecRow {
-    const TABLE: u8 = 0x2b;
+    const TABLE: u8 = table::METHOD_SPEC;
 
     const COLUMN: usize = 1;
 
     type Signature = Seq<Sig>;
 
-    ghost TABLE = { 0x2b };
+    ghost TABLE = { METHOD_SPEC };
 
     ghost COLUMN = { 1 };
 
@@ -363,7 +364,7 @@ impl SignatureRow for MethodSpecRow {
         met: &mut Met,
         row: u32,
     ) -> Result<MethodSpecRow, NoMemory> {
-        let method = file.token(0x2b, 0, row);
+        let method = file.token(table::METHOD_SPEC, 0, row);
         let instantiation = signature_of::<MethodSpecRow>(alloc, file, &mut met.signatures, row)?;
         Ok(MethodSpecRow {
             method,

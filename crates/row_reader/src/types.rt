@@ -1,6 +1,7 @@
 //! Rows on types.
 #![tactic(auto, unfolding(cli_format::specs::Tables::column_of, cli_format::specs::Columns::columns_of, cli_format::specs::Columns::schema, record_format::specs::Types::type_ref_row, record_format::specs::Types::type_def_row, record_format::specs::Types::interface_impl_row, record_format::specs::Types::class_layout_row, record_format::specs::Types::type_spec_row, record_format::specs::Types::nested_class_row, record_format::specs::Types::generic_param_row, record_format::specs::Types::generic_param_constraint_row))]
 
+ghost use Rattle.il_base.specs.declared.table.TheConstants.{CLASS_LAYOUT, GENERIC_PARAM, GENERIC_PARAM_CONSTRAINT, INTERFACE_IMPL, NESTED_CLASS, TYPE_DEF, TYPE_REF, TYPE_SPEC};
 ghost use Rattle.cli_format.specs.Image.{metadata_of};
 ghost use Rattle.blob_grammar.specs.Reading.{type_of_blob};
 ghost use Rattle.record_format.specs.Parts.{known_of};
@@ -11,7 +12,7 @@ use crate::parts::known;
 use crate::row::Row;
 use crate::signatures::{HasSignature, SignatureRow, signature_of};
 use cell_reader::Assembly;
-use il_base::{NoMemory, Sig};
+use il_base::{NoMemory, Sig, table};
 use sig_blobs::read_type;
 use std::alloc::Global;
 use world_model::{
@@ -21,16 +22,16 @@ use world_model::{
 
 /// TypeRef (II.22.38).
 impl Row for TypeRefRow {
-    const TABLE: u8 = 0x01;
+    const TABLE: u8 = table::TYPE_REF;
 
-    ghost TABLE = { 0x01 };
+    ghost TABLE = { TYPE_REF };
 
     ghost row_of = { λ bs r. type_ref_row (metadata_of bs) r };
 
     fn read(alloc: Global, file: &Assembly, row: u32) -> Result<TypeRefRow, NoMemory> {
-        let resolution_scope = file.token(0x01, 0, row);
-        let name = file.text(alloc, 0x01, 1, row)?;
-        let namespace = file.text(alloc, 0x01, 2, row)?;
+        let resolution_scope = file.token(table::TYPE_REF, 0, row);
+        let name = file.text(alloc, table::TYPE_REF, 1, row)?;
+        let namespace = file.text(alloc, table::TYPE_REF, 2, row)?;
         Ok(TypeRefRow {
             resolution_scope,
             name,
@@ -41,21 +42,21 @@ impl Row for TypeRefRow {
 
 /// TypeDef (II.22.37).
 impl Row for TypeDefRow {
-    const TABLE: u8 = 0x02;
+    const TABLE: u8 = table::TYPE_DEF;
 
-    ghost TABLE = { 0x02 };
+    ghost TABLE = { TYPE_DEF };
 
     ghost row_of = { λ bs r. type_def_row (metadata_of bs) r };
 
     fn read(alloc: Global, file: &Assembly, row: u32) -> Result<TypeDefRow, NoMemory> {
-        let flags = file.word(0x02, 0, row);
-        let name = file.text(alloc, 0x02, 1, row)?;
-        let namespace = file.text(alloc, 0x02, 2, row)?;
-        let extends = file.token(0x02, 3, row);
-        let field_list_first = file.word(0x02, 4, row);
-        let field_list_end = file.run_end(0x02, 4, 0x04, row);
-        let method_list_first = file.word(0x02, 5, row);
-        let method_list_end = file.run_end(0x02, 5, 0x06, row);
+        let flags = file.word(table::TYPE_DEF, 0, row);
+        let name = file.text(alloc, table::TYPE_DEF, 1, row)?;
+        let namespace = file.text(alloc, table::TYPE_DEF, 2, row)?;
+        let extends = file.token(table::TYPE_DEF, 3, row);
+        let field_list_first = file.word(table::TYPE_DEF, 4, row);
+        let field_list_end = file.run_end(table::TYPE_DEF, 4, table::FIELD, row);
+        let method_list_first = file.word(table::TYPE_DEF, 5, row);
+        let method_list_end = file.run_end(table::TYPE_DEF, 5, table::METHOD_DEF, row);
         Ok(TypeDefRow {
             flags,
             name,
@@ -71,31 +72,31 @@ impl Row for TypeDefRow {
 
 /// InterfaceImpl (II.22.23).
 impl Row for InterfaceImplRow {
-    const TABLE: u8 = 0x09;
+    const TABLE: u8 = table::INTERFACE_IMPL;
 
-    ghost TABLE = { 0x09 };
+    ghost TABLE = { INTERFACE_IMPL };
 
     ghost row_of = { λ bs r. interface_impl_row (metadata_of bs) r };
 
     fn read(_alloc: Global, file: &Assembly, row: u32) -> Result<InterfaceImplRow, NoMemory> {
-        let class = file.token(0x09, 0, row);
-        let interface = file.token(0x09, 1, row);
+        let class = file.token(table::INTERFACE_IMPL, 0, row);
+        let interface = file.token(table::INTERFACE_IMPL, 1, row);
         Ok(InterfaceImplRow { class, interface })
     }
 }
 
 /// ClassLayout (II.22.8).
 impl Row for ClassLayoutRow {
-    const TABLE: u8 = 0x0f;
+    const TABLE: u8 = table::CLASS_LAYOUT;
 
-    ghost TABLE = { 0x0f };
+    ghost TABLE = { CLASS_LAYOUT };
 
     ghost row_of = { λ bs r. class_layout_row (metadata_of bs) r };
 
     fn read(_alloc: Global, file: &Assembly, row: u32) -> Result<ClassLayoutRow, NoMemory> {
-        let packing_size = file.half(0x0f, 0, row);
-        let class_size = file.word(0x0f, 1, row);
-        let parent = file.token(0x0f, 2, row);
+        let packing_size = file.half(table::CLASS_LAYOUT, 0, row);
+        let class_size = file.word(table::CLASS_LAYOUT, 1, row);
+        let parent = file.token(table::CLASS_LAYOUT, 2, row);
         Ok(ClassLayoutRow {
             packing_size,
             class_size,
@@ -106,13 +107,13 @@ impl Row for ClassLayoutRow {
 
 /// TypeSpec (II.22.39).
 impl HasSignature for TypeSpecRow {
-    const TABLE: u8 = 0x1b;
+    const TABLE: u8 = table::TYPE_SPEC;
 
     const COLUMN: usize = 0;
 
     type Signature = Sig;
 
-    ghost TABLE = { 0x1b };
+    ghost TABLE = { TYPE_SPEC };
 
     ghost COLUMN = { 0 };
 
@@ -139,15 +140,15 @@ impl SignatureRow for TypeSpecRow {
 
 /// NestedClass (II.22.32).
 impl Row for NestedClassRow {
-    const TABLE: u8 = 0x29;
+    const TABLE: u8 = table::NESTED_CLASS;
 
-    ghost TABLE = { 0x29 };
+    ghost TABLE = { NESTED_CLASS };
 
     ghost row_of = { λ bs r. nested_class_row (metadata_of bs) r };
 
     fn read(_alloc: Global, file: &Assembly, row: u32) -> Result<NestedClassRow, NoMemory> {
-        let nested_class = file.token(0x29, 0, row);
-        let enclosing_class = file.token(0x29, 1, row);
+        let nested_class = file.token(table::NESTED_CLASS, 0, row);
+        let enclosing_class = file.token(table::NESTED_CLASS, 1, row);
         Ok(NestedClassRow {
             nested_class,
             enclosing_class,
@@ -157,17 +158,17 @@ impl Row for NestedClassRow {
 
 /// GenericParam (II.22.20).
 impl Row for GenericParamRow {
-    const TABLE: u8 = 0x2a;
+    const TABLE: u8 = table::GENERIC_PARAM;
 
-    ghost TABLE = { 0x2a };
+    ghost TABLE = { GENERIC_PARAM };
 
     ghost row_of = { λ bs r. generic_param_row (metadata_of bs) r };
 
     fn read(alloc: Global, file: &Assembly, row: u32) -> Result<GenericParamRow, NoMemory> {
-        let number = file.half(0x2a, 0, row);
-        let flags = file.half(0x2a, 1, row);
-        let owner = file.token(0x2a, 2, row);
-        let name = file.text(alloc, 0x2a, 3, row)?;
+        let number = file.half(table::GENERIC_PARAM, 0, row);
+        let flags = file.half(table::GENERIC_PARAM, 1, row);
+        let owner = file.token(table::GENERIC_PARAM, 2, row);
+        let name = file.text(alloc, table::GENERIC_PARAM, 3, row)?;
         Ok(GenericParamRow {
             number,
             flags,
@@ -179,9 +180,9 @@ impl Row for GenericParamRow {
 
 /// GenericParamConstraint (II.22.21).
 impl Row for GenericParamConstraintRow {
-    const TABLE: u8 = 0x2c;
+    const TABLE: u8 = table::GENERIC_PARAM_CONSTRAINT;
 
-    ghost TABLE = { 0x2c };
+    ghost TABLE = { GENERIC_PARAM_CONSTRAINT };
 
     ghost row_of = { λ bs r. generic_param_constraint_row (metadata_of bs) r };
 
@@ -190,8 +191,8 @@ impl Row for GenericParamConstraintRow {
         file: &Assembly,
         row: u32,
     ) -> Result<GenericParamConstraintRow, NoMemory> {
-        let owner = file.token(0x2c, 0, row);
-        let constraint = file.token(0x2c, 1, row);
+        let owner = file.token(table::GENERIC_PARAM_CONSTRAINT, 0, row);
+        let constraint = file.token(table::GENERIC_PARAM_CONSTRAINT, 1, row);
         Ok(GenericParamConstraintRow { owner, constraint })
     }
 }

@@ -9,14 +9,13 @@ ghost use Rattle.member_search.specs.Linked.{IsScope};
 ghost use Rattle.type_tables.specs.Tables.{AreRowTables, IsTables};
 ghost use Rattle.subtypes.specs.Named.{with_args, row_interface};
 
-use il_base::NoMemory;
+use il_base::{NoMemory, table};
 use link_rules::RowAt;
 use member_search::bases::{args_of, definition, is_interface};
 use member_search::linked::Scope;
-use member_search::params::token_of;
 use std::alloc::Global;
 use type_tables::tables::{Rows, Tables};
-use world_model::{AsmRec, TypeExpr};
+use world_model::{AsmRec, TypeExpr, token_of};
 
 /// Puts a type at the end, with these arguments put in.
 pub(crate) fn add_type(
@@ -82,7 +81,7 @@ fn add_row_interfaces(
     requires tables { AreRowTables rows.now.scope.rec.now rows.now.tables.now }
     ensures { OnOk result (found.new.items ≡ found.old.items ++ with_args args.now (interfaces_in rows.now.scope.linked.all.now (at_row rows.now.scope.asm row) rows.now.scope.rec.now)) }
 {
-    let token = token_of(0x02, row as usize)?;
+    let token = token_of(table::TYPE_DEF, row as usize)?;
     for k in rows.tables.interfaces.rows_with(token) {
         add_interface(alloc, &rows.scope, args, *k, found)?;
     }

@@ -9,18 +9,18 @@ ghost use Rattle.type_rules.specs.Subtypes.{is_class_at, is_reference};
 ghost use Rattle.type_tables.specs.Tables.{IsTables};
 
 use core_table::{ENUM, VALUE_TYPE};
-use il_base::NoMemory;
 use il_base::element::{OBJECT, STRING};
+use il_base::{NoMemory, table};
 use link_rules::RowAt;
 use member_search::bases::{base_at, definition};
 use type_tables::tables::Tables;
-use world_model::{AsmRec, TypeExpr};
+use world_model::{AsmRec, TypeExpr, wide_token};
 
 /// Whether a type definition is the one that a TypeDef token of the core library, the last assembly, names.
 fn is_core_row_at(all: &[AsmRec], token: u32, at: RowAt) -> bool
     ensures { result ≡ is_core_row_at all.now token at }
 {
-    at.asm as usize + 1 == all.len() && 0x0200_0001 + u64::from(at.row) == u64::from(token)
+    at.asm as usize + 1 == all.len() && wide_token(table::TYPE_DEF, at.row) == u64::from(token)
 }
 
 /// The definition of the base of a type definition.

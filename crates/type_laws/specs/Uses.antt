@@ -2,6 +2,7 @@
 use Rattle.std.specs.Prelude.{◌≡◌, ℕ, Some, slice_get, ◌==◌, ◌||◌, Bool, IsTrue}
 use Rattle.world_model.specs.declared.record.AsmRec.{AsmRec}
 use Rattle.world_model.specs.declared.world.World.{World}
+use Rattle.il_base.specs.declared.table.TheConstants.{METHOD_DEF, MEMBER_REF}
 use Rattle.world_model.specs.Tokens.{table_of}
 use Rattle.world_model.specs.Worlds.{known_or, method_at}
 use Rattle.link_rules.specs.Members.{generic_method}
@@ -9,7 +10,7 @@ use Rattle.link_rules.specs.Linked.{IsWorld}
 
 -- a MethodDef or MemberRef token
 abbrev pub is_method_token : ℕ → Bool
-is_method_token token = table_of token == 0x06 || table_of token == 0x0a
+is_method_token token = table_of token == METHOD_DEF || table_of token == MEMBER_REF
 
 -- a token of a row that isn't there names nothing by either
 abbrev pub TellsUses : World → Type 0

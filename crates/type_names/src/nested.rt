@@ -3,11 +3,11 @@
 ghost use Rattle.std.specs.Prelude.{◌≡◌, IfOk};
 ghost use Rattle.link_rules.specs.Types.{encloser};
 
-use il_base::NoMemory;
+use il_base::{NoMemory, table};
 use std::alloc::Global;
 use std::collections::HashMap;
 use std::marker::Model;
-use world_model::{AsmRec, index_in};
+use world_model::{AsmRec, index_in, wide_token};
 
 /// An assembly, and the encloser of each nested type. Contracts see the record.
 #[derive(Drop)]
@@ -41,7 +41,7 @@ impl<'a> Nested<'a> {
         for row in rec.nested_class.as_slice() {
             let token = u64::from(row.nested_class);
             if !enclosers.contains_key(&token) {
-                enclosers.insert(token, index_in(0x02, row.enclosing_class))?;
+                enclosers.insert(token, index_in(table::TYPE_DEF, row.enclosing_class))?;
             }
         }
         Ok(Nested { rec, enclosers })
@@ -59,8 +59,7 @@ impl<'a> Nested<'a> {
     pub(crate) fn encloser(&self, row: u32) -> Option<u32>
         ensures { result ≡ encloser self.now row }
     {
-        let token = 0x0200_0000 + u64::from(row) + 1;
-        match self.enclosers.get(&token) {
+        match self.enclosers.get(&wide_token(table::TYPE_DEF, row)) {
             None => None,
             Some(around) => *around,
         }

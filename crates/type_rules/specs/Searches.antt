@@ -7,6 +7,7 @@ use Rattle.il_base.specs.declared.ids.TypeId.{TypeId}
 use Rattle.il_base.specs.declared.ids.Item.{Item}
 use Rattle.il_base.specs.declared.ids.Item.TheVariants as item
 use Rattle.il_base.specs.declared.field_flags.TheConstants as field_flags
+use Rattle.il_base.specs.Flags.{has_flag, access_of}
 use Rattle.world_model.specs.declared.expr.TypeExpr.{TypeExpr}
 use Rattle.world_model.specs.declared.expr.MethodUse.{MethodUse}
 use Rattle.world_model.specs.declared.types.TypeDefRow.{TypeDefRow}
@@ -103,10 +104,10 @@ field_test recs test at = list_any (λ (rec : AsmRec). list_any test (listed (sl
 
 -- public, of a field's flags (II.23.1.5)
 abbrev pub is_public_field : List ℕ → FieldRow → Bool
-is_public_field name f = same_name f.name name && f.flags % 8 == field_flags.PUBLIC
+is_public_field name f = same_name f.name name && access_of f.flags == field_flags.PUBLIC
 
 abbrev pub is_public_instance_field : List ℕ → FieldRow → Bool
-is_public_instance_field name f = is_public_field name f && f.flags / field_flags.STATIC % 2 == 0
+is_public_instance_field name f = is_public_field name f && not (has_flag f.flags field_flags.STATIC)
 
 abbrev pub hides_nothing : RowAt → RowAt → Bool
 hides_nothing x y = false

@@ -5,7 +5,7 @@ use Rattle.std.specs.List.{position_from}
 use Rattle.std.specs.Option.{option_map, option_and_then}
 use Rattle.il_base.specs.declared.ids.MethodId.{MethodId}
 use Rattle.il_base.specs.declared.method_flags.TheConstants.{PUBLIC, STATIC, VIRTUAL, NEW_SLOT}
-use Rattle.il_base.specs.Flags.{has_flag}
+use Rattle.il_base.specs.Flags.{has_flag, access_of}
 use Rattle.world_model.specs.declared.known.Known.{Known}
 use Rattle.world_model.specs.declared.known.Known.TheVariants.{Good, Bad}
 use Rattle.world_model.specs.declared.expr.TypeExpr.{TypeExpr}
@@ -34,7 +34,7 @@ abbrev pub is_new_slot : MethodDefRow → Bool
 is_new_slot m = has_flag m.flags NEW_SLOT
 
 abbrev pub is_public : MethodDefRow → Bool
-is_public m = m.flags % 8 == PUBLIC
+is_public m = access_of m.flags == PUBLIC
 
 -- ---- methods by their rows
 

@@ -12,13 +12,13 @@ ghost use Rattle.type_tables.specs.Uses.{use_in};
 ghost use Rattle.type_tables.specs.Tables.{AreRowTables, IsTables};
 
 use crate::tables::{RowTables, Tables};
-use il_base::{AsmId, MethodId, NoMemory};
+use il_base::{AsmId, MethodId, NoMemory, table};
 use link_rules::{MethodType, RowAt};
 use member_search::counted::{Counted, row_of, rows_before, sum};
 use member_search::linked::assembly_at;
 use member_search::method_types::open_method_type;
 use std::alloc::Global;
-use world_model::{AsmRec, Known, MethodDefRow, MethodUse, TypeDefRow};
+use world_model::{AsmRec, Known, MethodDefRow, MethodUse, TypeDefRow, table_of};
 
 /// The row of a method.
 pub fn method_row_at(all: &[AsmRec], at: RowAt) -> Option<&MethodDefRow>
@@ -160,8 +160,8 @@ pub fn use_at<'w>(tables: &Tables<'w>, asm: u32, token: u32) -> Option<&'w Metho
     ensures { option_copied result ≡ use_in tables.now.world.now.recs asm token }
 {
     assembly_at(tables.world.recs.as_slice(), asm)?;
-    let table = token / 0x100_0000;
-    if table != 0x06 && table != 0x0a {
+    let table = table_of(token);
+    if table != table::METHOD_DEF && table != table::MEMBER_REF {
         return None;
     }
     match tables.world.method_at(AsmId(asm), token) {

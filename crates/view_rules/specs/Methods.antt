@@ -1,11 +1,12 @@
 -- What a world answers on methods, fields and type definitions.
-use Rattle.std.specs.Prelude.{ℕ, suc, ◌/◌, ◌%◌, List, [], ◌∷◌, length, codes, Option, Some, None, slice_get, ◌==◌, ◌&&◌, Bool, not, if◌then◌else◌}
+use Rattle.std.specs.Prelude.{ℕ, suc, List, [], ◌∷◌, length, codes, Option, Some, None, slice_get, ◌==◌, ◌&&◌, Bool, not, if◌then◌else◌}
 use Rattle.std.specs.List.{list_any, flat_map}
 use Rattle.std.specs.Option.{option_and_then, option_map}
 use Rattle.il_base.specs.declared.body.Body.{Body}
 use Rattle.il_base.specs.declared.outside.TheConstants.{PLATFORM, INTERFACE_BODY, GLOBAL_MEMBER, LAYOUT}
 use Rattle.il_base.specs.declared.table.TheConstants.{FIELD}
 use Rattle.il_base.specs.declared.type_flags.TheConstants.{EXPLICIT_LAYOUT}
+use Rattle.il_base.specs.Flags.{has_flag}
 use Rattle.world_model.specs.declared.known.Known.{Known}
 use Rattle.world_model.specs.declared.known.Known.TheVariants.{Bad}
 use Rattle.world_model.specs.declared.known.BadKind.TheVariants.{Outside}
@@ -77,7 +78,7 @@ method_query recs m = option_and_then (method_at recs) (home_from methods_in 0 r
 -- ---- fields
 
 abbrev pub has_explicit_layout : List AsmRec → Option RowAt → Bool
-has_explicit_layout recs owner = list_any (λ t. list_any (λ (row : TypeDefRow). row.flags / EXPLICIT_LAYOUT % 2 == 1) (listed (type_row_at recs t))) (listed owner)
+has_explicit_layout recs owner = list_any (λ t. list_any (λ (row : TypeDefRow). has_flag row.flags EXPLICIT_LAYOUT) (listed (type_row_at recs t))) (listed owner)
 
 -- a global field, and an instance field of a type with explicit layout, count as bad
 abbrev pub field_type : List AsmRec → RowAt → AsmRec → Option RowAt → FieldRow → Known TypeExpr

@@ -1,25 +1,26 @@
 ghost use Rattle.std.specs.Prelude.{◌≡◌};
 ghost use Rattle.type_rules.specs.Slots.{is_static, is_virtual, is_new_slot};
 
+use il_base::{has_flag, method_flags};
 use world_model::MethodDefRow;
 
 /// Static, of a method's flags (II.23.1.10).
 pub fn is_static(m: &MethodDefRow) -> bool
     ensures { result ≡ is_static m.now }
 {
-    m.flags / 0x10 % 2 == 1
+    has_flag(m.flags, method_flags::STATIC)
 }
 
 /// Virtual.
 pub fn is_virtual(m: &MethodDefRow) -> bool
     ensures { result ≡ is_virtual m.now }
 {
-    m.flags / 0x40 % 2 == 1
+    has_flag(m.flags, method_flags::VIRTUAL)
 }
 
 /// Newslot: always a slot of its own.
 pub fn is_new_slot(m: &MethodDefRow) -> bool
     ensures { result ≡ is_new_slot m.now }
 {
-    m.flags / 0x100 % 2 == 1
+    has_flag(m.flags, method_flags::NEW_SLOT)
 }

@@ -13,15 +13,14 @@ ghost use Rattle.virtual_calls.specs.Impls.{declares_by, stands_at, impl_by, imp
 use crate::flags::{is_static, is_virtual};
 use crate::nearest::{base_of, method_at, type_count};
 use crate::slots::Slots;
-use il_base::NoMemory;
+use il_base::{NoMemory, table};
 use link_rules::RowAt;
 use member_search::bases::definition;
 use member_search::own_types::open_parent;
-use member_search::params::token_of;
 use std::alloc::Global;
 use type_tables::methods::{method_home, type_of_method, use_at};
 use type_tables::tables::Tables;
-use world_model::{AsmRec, MethodImplRow, MethodUse, TypeExpr};
+use world_model::{AsmRec, MethodImplRow, MethodUse, TypeExpr, token_of};
 
 /// Which declarations of MethodImpl rows count.
 #[derive(Clone, Copy)]
@@ -286,7 +285,7 @@ fn impl_in_at(
     let Some(_row) = rec.type_def.get(at.row as usize) else {
         return Ok(None);
     };
-    let token = token_of(0x02, at.row as usize)?;
+    let token = token_of(table::TYPE_DEF, at.row as usize)?;
     let rows = of.tables.impls.rows_with(token);
     let body = first_of(alloc, tables, slots, declares, ty, at.asm, rec, rows)?;
     Ok(body)

@@ -1,5 +1,6 @@
 -- The rows of all tables, in the groups that the code makes of them. `bs` are the bytes of the file.
 use Rattle.std.specs.Prelude.{ℕ, List}
+use Rattle.il_base.specs.declared.table.TheConstants.{MODULE, TYPE_REF, TYPE_DEF, FIELD, PARAM, INTERFACE_IMPL, MEMBER_REF, CONSTANT, CUSTOM_ATTRIBUTE, FIELD_MARSHAL, DECL_SECURITY, CLASS_LAYOUT, FIELD_LAYOUT, STAND_ALONE_SIG, EVENT_MAP, EVENT, PROPERTY_MAP, PROPERTY, METHOD_SEMANTICS, METHOD_IMPL, MODULE_REF, TYPE_SPEC, IMPL_MAP, FIELD_RVA, ASSEMBLY, ASSEMBLY_PROCESSOR, ASSEMBLY_OS, ASSEMBLY_REF, ASSEMBLY_REF_PROCESSOR, ASSEMBLY_REF_OS, FILE, EXPORTED_TYPE, MANIFEST_RESOURCE, NESTED_CLASS, GENERIC_PARAM, METHOD_SPEC, GENERIC_PARAM_CONSTRAINT}
 use Rattle.world_reader.specs.declared.tables.AssemblyTables.{AssemblyTables}
 use Rattle.world_reader.specs.declared.tables.FileTables.{FileTables}
 use Rattle.world_reader.specs.declared.tables.TypeTables.{TypeTables}
@@ -22,48 +23,48 @@ unfoldable pub assembly_tables : List ℕ → AssemblyTables
 assembly_tables bs =
     let m = metadata_of bs in
     record {
-      «module» = all_rows m 0x00 (module_row m);
-      module_ref = all_rows m 0x1a (module_ref_row m);
-      assembly = all_rows m 0x20 (assembly_row m);
-      assembly_processor = all_rows m 0x21 (assembly_processor_row m);
-      assembly_os = all_rows m 0x22 (assembly_os_row m);
-      assembly_ref = all_rows m 0x23 (assembly_ref_row m);
-      assembly_ref_processor = all_rows m 0x24 (assembly_ref_processor_row m);
-      assembly_ref_os = all_rows m 0x25 (assembly_ref_os_row m);
+      «module» = all_rows m MODULE (module_row m);
+      module_ref = all_rows m MODULE_REF (module_ref_row m);
+      assembly = all_rows m ASSEMBLY (assembly_row m);
+      assembly_processor = all_rows m ASSEMBLY_PROCESSOR (assembly_processor_row m);
+      assembly_os = all_rows m ASSEMBLY_OS (assembly_os_row m);
+      assembly_ref = all_rows m ASSEMBLY_REF (assembly_ref_row m);
+      assembly_ref_processor = all_rows m ASSEMBLY_REF_PROCESSOR (assembly_ref_processor_row m);
+      assembly_ref_os = all_rows m ASSEMBLY_REF_OS (assembly_ref_os_row m);
     }
 
 unfoldable pub file_tables : List ℕ → FileTables
 file_tables bs =
     let m = metadata_of bs in
     record {
-      file = all_rows m 0x26 (file_row m);
-      exported_type = all_rows m 0x27 (exported_type_row m);
-      manifest_resource = all_rows m 0x28 (manifest_resource_row m);
-      descriptor = descriptor_in (all_rows m 0x28 (manifest_resource_row m)) (resources_of bs);
+      file = all_rows m FILE (file_row m);
+      exported_type = all_rows m EXPORTED_TYPE (exported_type_row m);
+      manifest_resource = all_rows m MANIFEST_RESOURCE (manifest_resource_row m);
+      descriptor = descriptor_in (all_rows m MANIFEST_RESOURCE (manifest_resource_row m)) (resources_of bs);
     }
 
 unfoldable pub type_tables : List ℕ → TypeTables
 type_tables bs =
     let m = metadata_of bs in
     record {
-      type_ref = all_rows m 0x01 (type_ref_row m);
-      type_def = all_rows m 0x02 (type_def_row m);
-      interface_impl = all_rows m 0x09 (interface_impl_row m);
-      type_spec = all_rows m 0x1b (type_spec_row m);
-      nested_class = all_rows m 0x29 (nested_class_row m);
-      generic_param = all_rows m 0x2a (generic_param_row m);
-      generic_param_constraint = all_rows m 0x2c (generic_param_constraint_row m);
+      type_ref = all_rows m TYPE_REF (type_ref_row m);
+      type_def = all_rows m TYPE_DEF (type_def_row m);
+      interface_impl = all_rows m INTERFACE_IMPL (interface_impl_row m);
+      type_spec = all_rows m TYPE_SPEC (type_spec_row m);
+      nested_class = all_rows m NESTED_CLASS (nested_class_row m);
+      generic_param = all_rows m GENERIC_PARAM (generic_param_row m);
+      generic_param_constraint = all_rows m GENERIC_PARAM_CONSTRAINT (generic_param_constraint_row m);
     }
 
 unfoldable pub field_tables : List ℕ → FieldTables
 field_tables bs =
     let m = metadata_of bs in
     record {
-      field = all_rows m 0x04 (field_row m);
-      class_layout = all_rows m 0x0f (class_layout_row m);
-      field_rva = all_rows m 0x1d (field_rva_row bs m (all_rows m 0x0f (class_layout_row m)) (all_rows m 0x04 (field_row m)));
-      field_layout = all_rows m 0x10 (field_layout_row m);
-      field_marshal = all_rows m 0x0d (field_marshal_row m);
+      field = all_rows m FIELD (field_row m);
+      class_layout = all_rows m CLASS_LAYOUT (class_layout_row m);
+      field_rva = all_rows m FIELD_RVA (field_rva_row bs m (all_rows m CLASS_LAYOUT (class_layout_row m)) (all_rows m FIELD (field_row m)));
+      field_layout = all_rows m FIELD_LAYOUT (field_layout_row m);
+      field_marshal = all_rows m FIELD_MARSHAL (field_marshal_row m);
     }
 
 unfoldable pub method_tables : List ℕ → MethodTables
@@ -71,10 +72,10 @@ method_tables bs =
     let m = metadata_of bs in
     record {
       method_def = methods_of bs;
-      param = all_rows m 0x08 (param_row m);
-      method_impl = all_rows m 0x19 (method_impl_row m);
-      method_spec = all_rows m 0x2b (method_spec_row m);
-      stand_alone_sig = all_rows m 0x11 (stand_alone_sig_row m);
+      param = all_rows m PARAM (param_row m);
+      method_impl = all_rows m METHOD_IMPL (method_impl_row m);
+      method_spec = all_rows m METHOD_SPEC (method_spec_row m);
+      stand_alone_sig = all_rows m STAND_ALONE_SIG (stand_alone_sig_row m);
       user = all_texts (heap m UserStrings) (methods_of bs);
     }
 
@@ -82,22 +83,22 @@ unfoldable pub property_tables : List ℕ → PropertyTables
 property_tables bs =
     let m = metadata_of bs in
     record {
-      event_map = all_rows m 0x12 (event_map_row m);
-      event = all_rows m 0x14 (event_row m);
-      property_map = all_rows m 0x15 (property_map_row m);
-      property = all_rows m 0x17 (property_row m);
-      method_semantics = all_rows m 0x18 (method_semantics_row m);
+      event_map = all_rows m EVENT_MAP (event_map_row m);
+      event = all_rows m EVENT (event_row m);
+      property_map = all_rows m PROPERTY_MAP (property_map_row m);
+      property = all_rows m PROPERTY (property_row m);
+      method_semantics = all_rows m METHOD_SEMANTICS (method_semantics_row m);
     }
 
 unfoldable pub extra_tables : List ℕ → ExtraTables
 extra_tables bs =
     let m = metadata_of bs in
     record {
-      member_ref = all_rows m 0x0a (member_ref_row m);
-      constant = all_rows m 0x0b (constant_row m);
-      custom_attribute = all_rows m 0x0c (custom_attribute_row m);
-      decl_security = all_rows m 0x0e (decl_security_row m);
-      impl_map = all_rows m 0x1c (impl_map_row m);
+      member_ref = all_rows m MEMBER_REF (member_ref_row m);
+      constant = all_rows m CONSTANT (constant_row m);
+      custom_attribute = all_rows m CUSTOM_ATTRIBUTE (custom_attribute_row m);
+      decl_security = all_rows m DECL_SECURITY (decl_security_row m);
+      impl_map = all_rows m IMPL_MAP (impl_map_row m);
     }
 
 unfoldable pub all_tables : List ℕ → AllTables

@@ -2,6 +2,7 @@
 
 ghost use Rattle.std.specs.Prelude.{◌≡◌, IfOk};
 ghost use Rattle.std.specs.Option.{option_map, option_and_then};
+ghost use Rattle.il_base.specs.declared.table.TheConstants.{FIELD_RVA};
 ghost use Rattle.cli_format.specs.Image.{metadata_of, image_at};
 ghost use Rattle.record_format.specs.Cells.{all_rows};
 ghost use Rattle.record_format.specs.Parts as parts;
@@ -10,25 +11,22 @@ ghost use Rattle.cell_reader.specs.Cells.{HasRow};
 
 use crate::layouts::Layouts;
 use cell_reader::Assembly;
-use il_base::{NoMemory, Seq, Sig, Text};
+use il_base::{NoMemory, Seq, Sig, Text, element, outside, table};
 use std::alloc::Global;
 use world_model::{BadKind, FieldRow, FieldRvaRow, Known, index_in};
-
-/// What is bad where a field's bytes have no size, or aren't there.
-const FIELD_DATA: u8 = 15;
 
 /// The size in bytes of a primitive, by its element type (II.23.1.16).
 #[tactic(auto, unfolding(record_format::specs::Parts::primitive_size))]
 fn primitive_size(kind: u8) -> Option<u32>
     ensures { result ≡ parts.primitive_size kind }
 {
-    if kind == 2 || kind == 4 || kind == 5 {
+    if kind == element::BOOLEAN || kind == element::I1 || kind == element::U1 {
         Some(1)
-    } else if kind == 3 || kind == 6 || kind == 7 {
+    } else if kind == element::CHAR || kind == element::I2 || kind == element::U2 {
         Some(2)
-    } else if kind == 8 || kind == 9 {
+    } else if kind == element::I4 || kind == element::U4 {
         Some(4)
-    } else if kind == 10 || kind == 11 {
+    } else if kind == element::I8 || kind == element::U8 {
         Some(8)
     } else {
         None
@@ -74,7 +72,7 @@ fn size_of_field(layouts: &Layouts, field: &FieldRow) -> Option<u32>
 fn size_by(layouts: &Layouts, fields: &[FieldRow], token: u32) -> Option<u32>
     ensures { result ≡ parts.size_by layouts.now fields.now token }
 {
-    match index_in(0x04, token) {
+    match index_in(table::FIELD, token) {
         None => None,
         Some(at) => match fields.get(at as usize) {
             None => None,
@@ -104,7 +102,7 @@ fn bytes_by(
     ensures { IfOk result (λ b. b ≡ parts.bytes_by file.now rva size) }
 {
     match bytes_at(file, rva, size) {
-        None => Ok(Known::Bad(BadKind::Outside(FIELD_DATA))),
+        None => Ok(Known::Bad(BadKind::Outside(outside::FIELD_DATA))),
         Some(bytes) => {
             let bytes = Seq::from_slice(alloc, bytes)?;
             Ok(Known::Good(bytes))
@@ -121,11 +119,11 @@ fn field_rva_row(
     fields: &[FieldRow],
     row: u32,
 ) -> Result<FieldRvaRow, NoMemory>
-    requires { HasRow (metadata_of file.now) 0x1d row }
+    requires { HasRow (metadata_of file.now) FIELD_RVA row }
     ensures { IfOk result (λ r. r ≡ others.field_rva_row file.now (metadata_of file.now) layouts.now fields.now row) }
 {
-    let rva = file.word(0x1d, 0, row);
-    let field = file.token(0x1d, 1, row);
+    let rva = file.word(table::FIELD_RVA, 0, row);
+    let field = file.token(table::FIELD_RVA, 1, row);
     let bytes = bytes_by(alloc, file, rva, size_by(layouts, fields, field))?;
     Ok(FieldRvaRow { rva, field, bytes })
 }
@@ -138,10 +136,10 @@ pub fn field_rva_rows(
     layouts: &Layouts,
     fields: &[FieldRow],
 ) -> Result<Seq<FieldRvaRow>, NoMemory>
-    ensures { IfOk result (λ rows. rows ≡ all_rows (metadata_of file.now) 0x1d (others.field_rva_row file.now (metadata_of file.now) layouts.now fields.now)) }
+    ensures { IfOk result (λ rows. rows ≡ all_rows (metadata_of file.now) FIELD_RVA (others.field_rva_row file.now (metadata_of file.now) layouts.now fields.now)) }
 {
     let mut rows = Seq::new(alloc);
-    for i in 0..file.count(0x1d) {
+    for i in 0..file.count(table::FIELD_RVA) {
         let row = field_rva_row(alloc, file, layouts, fields, i + 1)?;
         rows.push(row)?;
     }
