@@ -1,0 +1,5 @@
+pub mod Values
+pub mod Rows
+pub mod Tables
+pub mod FieldData
+pub mod Laid
