@@ -1,8 +1,5 @@
 -- Values that fit their columns are cells that do.
-use Rattle.std.proofs.Common.{◌≡◌, ℕ, zero, suc, ◌+◌, ◌/◌, ◌%◌, ◌<◌, ◌≤◌, ◌^◌, ◌⊎◌, inl, inr, true, false, Bool, List, [], ◌∷◌, map, length, get_or, Some, refl, sym, ap, subst, ◌∙◌, arith}
-use Rattle.std.specs.Prelude.{slice_get, nat_le, not, ◌||◌, IsTrue}
-use Rattle.std.proofs.lemmas.List.{length-map}
-use Rattle.std.proofs.lemmas.Option.{none-some, same_Some}
+use Rattle.std.proofs.Common.{◌≡◌, ℕ, zero, suc, ◌/◌, ◌%◌, ◌≤◌, inl, inr, true, List, [], ◌∷◌, get_or, refl, ap, subst, ◌∙◌, arith}
 use Rattle.cli_format.specs.declared.column.Column.{Column}
 use Rattle.cli_format.specs.declared.column.Column.TheVariants.{U8, U16, U32, Index, IndexOrNone, Run, Coded, CodedOrNone}
 use Rattle.cli_format.specs.declared.column.Column.TheVariants as column
@@ -11,18 +8,17 @@ use Rattle.cli_format.specs.declared.key.SortKey.TheVariants.{Unsorted, ByOne, S
 use Rattle.cli_format.specs.Columns.{columns_of, sort_key_of}
 use Rattle.cli_format.specs.Coded.{targets_of}
 use Rattle.cli_format.specs.Tokens.{coded_of}
-use Rattle.cli_format.specs.Metadata.{is_run, in_order}
+use Rattle.cli_format.specs.Metadata.{in_order}
 use Rattle.world_model.specs.declared.record.AsmRec.{AsmRec}
 use Rattle.world_model.specs.Records.{rows_in, names_row, names}
-use Rattle.file_layout.specs.declared.cell.Cell.{Cell}
 use Rattle.file_layout.specs.declared.cell.Cell.TheVariants as cell
 use Rattle.file_layout.specs.Cells.{CellTables}
 use Rattle.record_layout.specs.declared.value.Value.{Value}
 use Rattle.record_layout.specs.declared.value.Value.TheVariants as value
-use Rattle.record_layout.specs.Values.{token_number, cell_in, row_cells}
+use Rattle.record_layout.specs.Values.{cell_in, row_cells}
 use Rattle.layout_laws.specs.Columns.{FitsValue, FitsRow, IsRunStart, value_number, number_at, RunsRise, IsSorted}
 use Rattle.layout_laws.proofs.Tokens.{row_named, in_table, coded_named, none_coded, none_or}
-use Rattle.layout_laws.proofs.Cells.{count, plain, IsCoded, FitsCell, FitsCells, CellsRise, CellsSorted}
+use Rattle.layout_laws.proofs.Cells.{count, plain, FitsCell, FitsCells, CellsRise, CellsSorted}
 
 module _ (cells : CellTables) (rec : AsmRec) (same : (t : ℕ) → rows_in rec t ≡ count cells t) where
   -- ---- one value

@@ -1,9 +1,9 @@
 -- The columns by which tables are sorted hold numbers that are in no heap.
-use Rattle.std.proofs.Common.{◌≡◌, ℕ, zero, suc, ◌<◌, true, false, Bool, List, [], ◌∷◌, length, get_or, refl, arith}
+use Rattle.std.proofs.Common.{◌≡◌, ℕ, zero, suc, ◌<◌, true, false, Bool, List, [], ◌∷◌, length, get_or, refl}
 use Rattle.std.specs.Prelude.{◌&&◌, nat_lt, IsTrue}
 use Rattle.std.proofs.lemmas.Bool.{and_parts, ltb-true}
 use Rattle.cli_format.specs.declared.column.Column.{Column}
-use Rattle.cli_format.specs.declared.column.Column.TheVariants.{U8, U16, U32, Text, Blob, Guid, Index, IndexOrNone, Run, Coded, CodedOrNone}
+use Rattle.cli_format.specs.declared.column.Column.TheVariants.{U8, Text, Blob, Guid}
 use Rattle.cli_format.specs.declared.key.SortKey.{SortKey}
 use Rattle.cli_format.specs.declared.key.SortKey.TheVariants.{Unsorted, ByOne, Strictly, ByTwo}
 use Rattle.cli_format.specs.declared.key.TheConstants.{SORT_KEYS}

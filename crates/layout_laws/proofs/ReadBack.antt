@@ -1,5 +1,5 @@
 -- What is read of metadata whose tables are laid out, and that the demands on it hold.
-use Rattle.std.proofs.Common.{◌≡◌, ℕ, zero, suc, ◌+◌, ◌-◌, ◌<◌, ◌≤◌, true, not, List, [], length, get_or, Some, None, ◌⊎◌, inl, inr, refl, ap, ◌∙◌, sym, arith}
+use Rattle.std.proofs.Common.{◌≡◌, ℕ, zero, suc, ◌+◌, ◌-◌, ◌<◌, ◌≤◌, true, not, List, [], length, get_or, Some, None, inl, inr, refl, ap, ◌∙◌, sym, arith}
 use Rattle.std.specs.Prelude.{slice_get, nat_le, ◌||◌, ◌==◌, IsTrue}
 use Rattle.std.proofs.lemmas.Option.{get_or_from_slice_get}
 use Rattle.layout_laws.proofs.Keys.{holds_number, number_plain, IsKey, KeyWithin, keys_within}

@@ -1,5 +1,5 @@
 -- A file of at most 2^28 bytes: its parts are no longer, so that it can be laid out.
-use Rattle.std.proofs.Common.{◌≡◌, ℕ, ◌+◌, ◌-◌, ◌^◌, ◌≤◌, List, [], ◌++◌, map, length, arith, length-append}
+use Rattle.std.proofs.Common.{◌≡◌, ℕ, ◌+◌, ◌-◌, ◌^◌, ◌≤◌, List, ◌++◌, length, arith, length-append}
 use Rattle.world_model.specs.declared.record.AsmRec.{AsmRec}
 use Rattle.file_layout.specs.Bytes.{aligned}
 use Rattle.file_layout.specs.Metadata.{Streams, metadata_bytes, root_bytes, stream_headers}

@@ -1,9 +1,9 @@
 -- Each table of a record that is laid out is read again.
-use Rattle.std.proofs.Common.{◌≡◌, ℕ, suc, List, [], map, get_or, Some, refl, sym, ap, ap₂, ◌∙◌}
+use Rattle.std.proofs.Common.{◌≡◌, ℕ, suc, List, [], map, get_or, Some, refl, ap, ap₂, ◌∙◌}
 use Rattle.std.specs.Prelude.{slice_get}
 use Rattle.blob_grammar.specs.Reading.{type_of_blob, method_of_blob, property_of_blob, field_of_blob, locals_of_blob, instance_of_blob}
 use Rattle.world_model.specs.declared.record.AsmRec.{AsmRec}
-use Rattle.record_format.specs.Cells.{number_in, all_rows}
+use Rattle.record_format.specs.Cells.{all_rows}
 use Rattle.record_format.specs.Parts.{known_of, member_of_blob, body_by, bad_offset, bytes_by, size_by}
 use Rattle.record_layout.specs.declared.value.Value.{Value}
 use Rattle.record_layout.specs.Tables.{values_of, cells_of, method_rvas, field_rvas}

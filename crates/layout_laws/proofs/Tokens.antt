@@ -1,8 +1,8 @@
 -- Tokens as numbers of columns, and back (II.24.2.6).
-use Rattle.std.proofs.Common.{◌≡◌, ℕ, zero, suc, ◌+◌, ◌-◌, ◌*◌, ◌/◌, ◌%◌, ◌^◌, ◌<◌, ◌≤◌, ◌⊎◌, inl, inr, Bool, true, false, cond, eqb, List, [], ◌∷◌, length, Option, Some, None, refl, sym, ap, ap₂, subst, ◌∙◌, arith, eqb-true}
+use Rattle.std.proofs.Common.{◌≡◌, ℕ, zero, suc, ◌+◌, ◌-◌, ◌*◌, ◌/◌, ◌%◌, ◌^◌, ◌<◌, ◌≤◌, ◌⊎◌, inl, inr, Bool, true, false, cond, eqb, List, [], ◌∷◌, length, Some, refl, sym, ap, subst, ◌∙◌, arith, eqb-true}
 use Rattle.std.specs.Prelude.{slice_get, unwrap_or, position, ◌==◌, ◌&&◌, ◌||◌, nat_le}
 use Rattle.std.specs.List.{list_any}
-use Rattle.std.proofs.lemmas.Bool.{and_parts, leb-true, le-leb, ne_eqb, eq-eqb}
+use Rattle.std.proofs.lemmas.Bool.{and_parts, leb-true, le-leb, ne_eqb}
 use Rattle.std.proofs.lemmas.Nat.{mod-mul-add, div-mul-add}
 use Rattle.std.proofs.lemmas.Option.{none-some, same_Some, slice_get_within}
 use Rattle.cli_format.specs.declared.column.Column.{Column}
@@ -13,7 +13,7 @@ use Rattle.cli_format.specs.Coded.{targets_of, tag_bits_of, first_tag_of}
 use Rattle.cli_format.specs.Tables.{target_of}
 use Rattle.cli_format.specs.Tokens.{coded_of, tag_of}
 use Rattle.world_model.specs.declared.record.AsmRec.{AsmRec}
-use Rattle.world_model.specs.Tokens.{token_of, table_of}
+use Rattle.world_model.specs.Tokens.{table_of}
 use Rattle.world_model.specs.Records.{rows_in, names_row, names, Names}
 use Rattle.file_layout.specs.Cells.{CellTables}
 use Rattle.record_format.specs.Cells.{index_token, coded_token, token_by}

@@ -1,5 +1,5 @@
 -- What is read of rows whose cells are laid out: the values of a record's rows, by their columns.
-use Rattle.std.proofs.Common.{◌≡◌, ℕ, zero, suc, ◌+◌, ◌<◌, ◌≤◌, true, false, Bool, cond, List, [], ◌∷◌, map, length, get_or, Option, Some, None, refl, sym, ap, ◌∙◌, arith, eqb-true}
+use Rattle.std.proofs.Common.{◌≡◌, ℕ, zero, suc, ◌+◌, true, false, Bool, cond, List, [], ◌∷◌, map, length, get_or, Option, Some, None, refl, sym, ap, ◌∙◌, arith, eqb-true}
 use Rattle.std.specs.Prelude.{slice_get, ◌==◌}
 use Rattle.std.proofs.lemmas.Bool.{eqb-false}
 use Rattle.std.proofs.lemmas.List.{length-map}
@@ -9,11 +9,8 @@ use Rattle.cli_format.specs.declared.column.Column.TheVariants.{U8, Index, Index
 use Rattle.cli_format.specs.declared.column.Column.TheVariants as column
 use Rattle.cli_format.specs.Columns.{columns_of}
 use Rattle.cli_format.specs.Tables.{column_of}
-use Rattle.cli_format.specs.Metadata.{tables_stream}
 use Rattle.world_model.specs.declared.record.AsmRec.{AsmRec}
 use Rattle.world_model.specs.Records.{rows_in, Names, AreRuns}
-use Rattle.file_layout.specs.declared.cell.Cell.{Cell}
-use Rattle.file_layout.specs.declared.cell.Cell.TheVariants as cell
 use Rattle.record_format.specs.Cells.{number_in, text_in, blob_in, guid_in, token_in, token_by, count_of, run_end, all_rows}
 use Rattle.record_layout.specs.declared.value.Value.{Value}
 use Rattle.record_layout.specs.declared.value.Value.TheVariants as value

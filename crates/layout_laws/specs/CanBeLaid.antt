@@ -1,5 +1,5 @@
 -- Which records can be laid out: those that are the record of the file that they are laid out in, where it isn't too long.
-use Rattle.std.specs.Prelude.{◌≡◌, ℕ, ◌<◌, ◌≤◌, ◌^◌, bit_and, List, [], length, map, get_or, None}
+use Rattle.std.specs.Prelude.{◌≡◌, ℕ, ◌<◌, ◌≤◌, ◌^◌, bit_and, [], length, map, get_or, None}
 use Rattle.world_model.specs.declared.record.AsmRec.{AsmRec}
 use Rattle.world_model.specs.Records.{Each, RunsFollow}
 use Rattle.record_layout.specs.Tables.{values_of, method_rvas, field_rvas}

@@ -1,6 +1,6 @@
 -- What the parts of rows that are no plain values have: signatures and bodies with a spelling, bytes of fields as many as their
 -- types have, the texts of `ldstr` at their places.
-use Rattle.std.specs.Prelude.{◌≡◌, ℕ, ◌<◌, ◌^◌, ◌+◌, List, length, map, slice_get, Option, Some, None, IsTrue}
+use Rattle.std.specs.Prelude.{◌≡◌, ℕ, ◌<◌, ◌^◌, length, slice_get, Option, Some, None, IsTrue}
 use Rattle.std.specs.List.{AllByRecursion}
 use Rattle.il_base.specs.declared.body.Body.{Body}
 use Rattle.blob_grammar.specs.Signatures.{levels}
