@@ -19,7 +19,8 @@ use Rattle.file_layout.specs.Cells.{CellTables}
 use Rattle.file_layout.specs.TableStream as laid
 use Rattle.file_layout.specs.TableStream.{Tables, rows_in, fewer}
 use Rattle.written_tables.specs.Written.{IsText}
-use Rattle.layout_laws.specs.Columns.{IsGuid, IsRunStart}
+use Rattle.layout_laws.specs.Columns.{IsGuid}
+use Rattle.layout_laws.proofs.ColumnFits.{IsRunStart}
 
 -- how many rows a table has
 abbrev pub count : CellTables → ℕ → ℕ

@@ -16,7 +16,7 @@ use Rattle.file_layout.specs.Cells.{CellTables}
 use Rattle.record_layout.specs.declared.value.Value.{Value}
 use Rattle.record_layout.specs.declared.value.Value.TheVariants as value
 use Rattle.record_layout.specs.Values.{cell_in, row_cells}
-use Rattle.layout_laws.specs.Columns.{FitsValue, FitsRow, IsRunStart, value_number, number_at, RunsRise, IsSorted}
+use Rattle.layout_laws.proofs.ColumnFits.{FitsValue, FitsRow, IsRunStart, value_number, number_at, RunsRise, IsSorted}
 use Rattle.layout_laws.proofs.Tokens.{row_named, in_table, coded_named, none_coded, none_or}
 use Rattle.layout_laws.proofs.Cells.{count, plain, FitsCell, FitsCells, CellsRise, CellsSorted}
 

@@ -6,6 +6,9 @@ pub mod Pools
 pub mod Numbers
 pub mod ReadBack
 pub mod Tokens
+pub mod ColumnFits
+pub mod RowsJoined
+pub mod RowsFit
 pub mod Fits
 pub mod TablesFit
 pub mod ValuesRead

@@ -4,7 +4,7 @@ use Rattle.std.specs.Prelude.{slice_get, nat_lt}
 use Rattle.std.proofs.lemmas.Bool.{ltb-true}
 use Rattle.std.proofs.lemmas.List.{length-map}
 use Rattle.file_layout.specs.Runs.{run_fits}
-use Rattle.layout_laws.specs.Columns.{IsRunStart}
+use Rattle.layout_laws.proofs.ColumnFits.{IsRunStart}
 use Rattle.std.proofs.Math.ListN.{get_or-map}
 use Rattle.cli_format.specs.declared.column.Column.{Column}
 use Rattle.cli_format.specs.declared.column.Column.TheVariants.{U8, U16, U32, Text, Blob, Guid, Index, IndexOrNone, Run, Coded, CodedOrNone}

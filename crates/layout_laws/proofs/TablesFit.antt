@@ -14,6 +14,8 @@ use Rattle.record_layout.specs.Values.{ValueTables, row_cells, tables_cells}
 use Rattle.record_layout.specs.Rows.{module_values, type_ref_values, type_def_values, field_values, method_def_values, param_values, interface_impl_values, member_ref_values, constant_values, custom_attribute_values, field_marshal_values, decl_security_values, class_layout_values, field_layout_values, stand_alone_sig_values, event_map_values, event_values, property_map_values, property_values, method_semantics_values, method_impl_values, module_ref_values, type_spec_values, impl_map_values, field_rva_values, assembly_values, assembly_processor_values, assembly_os_values, assembly_ref_values, assembly_ref_processor_values, assembly_ref_os_values, file_values, exported_type_values, manifest_resource_values, nested_class_values, generic_param_values, method_spec_values, generic_param_constraint_values}
 use Rattle.record_layout.specs.Tables.{with_rvas, method_rvas, field_rvas, values_of, cells_of}
 use Rattle.layout_laws.specs.CanBeLaid.{CanBeLaid}
+use Rattle.layout_laws.proofs.RowsJoined.{with_these}
+use Rattle.layout_laws.proofs.RowsFit.{rows_fit}
 use Rattle.layout_laws.proofs.Lists.{of_mapped}
 use Rattle.layout_laws.proofs.Cells.{count}
 use Rattle.layout_laws.proofs.Pools.{TableFits, Fitting}
@@ -51,15 +53,6 @@ unfolding cells_of
 all_tables rec = tables_long (values_of rec) 0 ∙ values_long rec
 
 -- ---- rows with addresses
-
--- where the rows have them
-pub with_own : {A : Type 0} (values : ℕ → A → List Value) (rva : A → ℕ) (rows : List A) → with_rvas values (map rva rows) rows ≡ map (λ (row : A). values (rva row) row) rows
-unfolding with_rvas
-with_own values rva [] = refl
-with_own {A = A} values rva (row ∷ rows) = ap (λ (rest : List (List Value)). values (rva row) row ∷ rest) (with_own values rva rows)
-
-pub with_these : {A : Type 0} (values : ℕ → A → List Value) (rva : A → ℕ) (rows : List A) (rvas : List ℕ) → map rva rows ≡ rvas → with_rvas values rvas rows ≡ map (λ (row : A). values (rva row) row) rows
-with_these values rva rows rvas e = ap (λ (r : List ℕ). with_rvas values r rows) (sym e) ∙ with_own values rva rows
 
 these_long : {A : Type 0} (values : ℕ → A → List Value) (rva : A → ℕ) (rows : List A) (rvas : List ℕ) → map rva rows ≡ rvas → length rows ≡ length (with_rvas values rvas rows)
 these_long {A = A} values rva rows rvas e = sym (ap length (with_these values rva rows rvas e) ∙ length-map rows (λ (row : A). values (rva row) row))
@@ -143,17 +136,17 @@ module _ (rec : AsmRec) (h : CanBeLaid rec) where
   table_fits t = record {
     fits = λ r row e.
         let vs = fits_at t r row e in
-        rw (← vs.2) (row_fits (cells_of rec) rec same_count (columns_of t) vs.0 ((h.tables t).fit r vs.0 vs.1));
+        rw (← vs.2) (row_fits (cells_of rec) rec same_count (columns_of t) vs.0 ((rows_fit rec h t).fit r vs.0 vs.1));
     rise = λ r row next e f.
         let vs = fits_at t r row e in
         let ws = fits_at t (suc r) next f in
-        rw (← vs.2, ← ws.2) (row_rises rec (columns_of t) vs.0 ws.0 ((h.tables t).fit r vs.0 vs.1) ((h.tables t).fit (suc r) ws.0 ws.1) ((h.tables t).rise r vs.0 ws.0 vs.1 ws.1));
+        rw (← vs.2, ← ws.2) (row_rises rec (columns_of t) vs.0 ws.0 ((rows_fit rec h t).fit r vs.0 vs.1) ((rows_fit rec h t).fit (suc r) ws.0 ws.1) ((rows_fit rec h t).rise r vs.0 ws.0 vs.1 ws.1));
     sorted = λ r row next e f.
         let vs = fits_at t r row e in
         let ws = fits_at t (suc r) next f in
-        rw (← vs.2, ← ws.2) (row_sorted rec t vs.0 ws.0 ((h.tables t).fit r vs.0 vs.1) ((h.tables t).fit (suc r) ws.0 ws.1) ((h.tables t).sorted r vs.0 ws.0 vs.1 ws.1));
+        rw (← vs.2, ← ws.2) (row_sorted rec t vs.0 ws.0 ((rows_fit rec h t).fit r vs.0 vs.1) ((rows_fit rec h t).fit (suc r) ws.0 ws.1) ((rows_fit rec h t).sorted r vs.0 ws.0 vs.1 ws.1));
     known = λ e. table_cells rec t ∙ ap (map (row_cells (columns_of t))) (unlisted rec t e);
-    few = omega (arith, count_values t, (h.tables t).few);
+    few = omega (arith, count_values t, (rows_fit rec h t).few);
   }
 
   size_modules : rows_in rec 0x00 ≡ length rec.«module»

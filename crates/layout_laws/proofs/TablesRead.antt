@@ -14,7 +14,7 @@ use Rattle.layout_laws.proofs.ReadBack.{Reads}
 use Rattle.layout_laws.proofs.ValuesRead.{RowReads, table_read, run_read}
 use Rattle.layout_laws.proofs.SignaturesRead.{field_sig_again, property_sig_again, type_sig_again, instance_sig_again, locals_sig_again, method_sig_again, member_sig_again}
 use Rattle.layout_laws.proofs.BodiesRead.{BodyRead}
-use Rattle.layout_laws.proofs.TablesFit.{with_these}
+use Rattle.layout_laws.proofs.RowsJoined.{with_these}
 use Rattle.record_format.specs.Types.{module_row, type_ref_row, type_def_row, interface_impl_row, class_layout_row, module_ref_row, type_spec_row, assembly_row, assembly_processor_row, assembly_os_row, assembly_ref_row, assembly_ref_processor_row, assembly_ref_os_row, exported_type_row, nested_class_row, generic_param_row, generic_param_constraint_row}
 use Rattle.record_layout.specs.Rows.{module_values, type_ref_values, type_def_values, field_values, method_def_values, param_values, interface_impl_values, member_ref_values, constant_values, custom_attribute_values, field_marshal_values, decl_security_values, class_layout_values, field_layout_values, stand_alone_sig_values, event_map_values, event_values, property_map_values, property_values, method_semantics_values, method_impl_values, module_ref_values, type_spec_values, impl_map_values, field_rva_values, assembly_values, assembly_processor_values, assembly_os_values, assembly_ref_values, assembly_ref_processor_values, assembly_ref_os_values, file_values, exported_type_values, manifest_resource_values, nested_class_values, generic_param_values, method_spec_values, generic_param_constraint_values}
 use Rattle.layout_laws.proofs.RowsAgain.{module_again, type_ref_again, param_again, interface_impl_again, constant_again, custom_attribute_again, field_marshal_again, decl_security_again, class_layout_again, field_layout_again, event_again, method_semantics_again, method_impl_again, module_ref_again, impl_map_again, assembly_again, assembly_processor_again, assembly_os_again, assembly_ref_again, assembly_ref_processor_again, assembly_ref_os_again, file_again, exported_type_again, manifest_resource_again, nested_class_again, generic_param_again, generic_param_constraint_again}
@@ -149,8 +149,8 @@ module _ (lower : Lower) (m : List ℕ) (rec : AsmRec) (h : CanBeLaid rec) (read
   type_def_again : (k : ℕ) (row : TypeDefRow) → slice_get rec.type_def k ≡ Some row → RowReads m 0x02 (suc k) (type_def_values row) → type_def_row m (suc k) ≡ row
   unfolding type_def_row values_of
   type_def_again k row e r =
-      let fields = run_read m rec h reads 0x02 4 0x04 type_def_values (λ x. x.field_list_first) (λ x. x.field_list_end) rec.type_def refl (λ x. refl) h.runs.fields k row e in
-      let methods = run_read m rec h reads 0x02 5 0x06 type_def_values (λ x. x.method_list_first) (λ x. x.method_list_end) rec.type_def refl (λ x. refl) h.runs.methods k row e in
+      let fields = run_read m rec h reads 0x02 4 0x04 type_def_values (λ x. x.field_list_first) (λ x. x.field_list_end) rec.type_def refl (λ x. refl) h.is_record.runs.fields k row e in
+      let methods = run_read m rec h reads 0x02 5 0x06 type_def_values (λ x. x.method_list_first) (λ x. x.method_list_end) rec.type_def refl (λ x. refl) h.is_record.runs.methods k row e in
       λ i. record {
         flags = r 0 i;
         name = r 1 i;
@@ -199,7 +199,7 @@ module _ (lower : Lower) (m : List ℕ) (rec : AsmRec) (h : CanBeLaid rec) (read
   event_map_again : (k : ℕ) (row : EventMapRow) → slice_get rec.event_map k ≡ Some row → RowReads m 0x12 (suc k) (event_map_values row) → event_map_row m (suc k) ≡ row
   unfolding event_map_row values_of
   event_map_again k row e r =
-      let events = run_read m rec h reads 0x12 1 0x14 event_map_values (λ x. x.event_list_first) (λ x. x.event_list_end) rec.event_map refl (λ x. refl) h.runs.events k row e in
+      let events = run_read m rec h reads 0x12 1 0x14 event_map_values (λ x. x.event_list_first) (λ x. x.event_list_end) rec.event_map refl (λ x. refl) h.is_record.runs.events k row e in
       λ i. record { parent = r 0 i; event_list_first = r 1 i; event_list_end = events i }
 
   pub event_map_read : all_rows m 0x12 (event_map_row m) ≡ rec.event_map
@@ -209,7 +209,7 @@ module _ (lower : Lower) (m : List ℕ) (rec : AsmRec) (h : CanBeLaid rec) (read
   property_map_again : (k : ℕ) (row : PropertyMapRow) → slice_get rec.property_map k ≡ Some row → RowReads m 0x15 (suc k) (property_map_values row) → property_map_row m (suc k) ≡ row
   unfolding property_map_row values_of
   property_map_again k row e r =
-      let properties = run_read m rec h reads 0x15 1 0x17 property_map_values (λ x. x.property_list_first) (λ x. x.property_list_end) rec.property_map refl (λ x. refl) h.runs.properties k row e in
+      let properties = run_read m rec h reads 0x15 1 0x17 property_map_values (λ x. x.property_list_first) (λ x. x.property_list_end) rec.property_map refl (λ x. refl) h.is_record.runs.properties k row e in
       λ i. record { parent = r 0 i; property_list_first = r 1 i; property_list_end = properties i }
 
   pub property_map_read : all_rows m 0x15 (property_map_row m) ≡ rec.property_map
@@ -262,7 +262,7 @@ module _ (lower : Lower) (bs : List ℕ) (m : List ℕ) (rec : AsmRec) (h : CanB
   unfolding method_def_row
   method_def_again k row e r =
       let signature = ap (λ (b : List ℕ). known_of (method_of_blob b)) (r 4) ∙ method_sig_again lower row.signature (h.signatures.methods k row e) in
-      let params = run_read m rec h reads 0x06 5 0x08 method_values (λ x. x.param_list_first) (λ x. x.param_list_end) rec.method_def methods_are (λ x. refl) h.runs.params k row e in
+      let params = run_read m rec h reads 0x06 5 0x08 method_values (λ x. x.param_list_first) (λ x. x.param_list_end) rec.method_def methods_are (λ x. refl) h.is_record.runs.params k row e in
       let body = ap (body_by bs) (r 0) ∙ (bodies k row e).body in
       let bad = ap (bad_offset bs) (r 0) ∙ (bodies k row e).bad in
       λ i. record {

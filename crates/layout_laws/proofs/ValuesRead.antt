@@ -17,8 +17,9 @@ use Rattle.record_layout.specs.declared.value.Value.TheVariants as value
 use Rattle.record_layout.specs.Values.{token_number, cell_in, row_cells}
 use Rattle.record_layout.specs.Tables.{values_of, cells_of}
 use Rattle.written_tables.specs.Written.{IsText}
-use Rattle.layout_laws.specs.Columns.{FitsValue, FitsRow}
+use Rattle.layout_laws.proofs.ColumnFits.{FitsValue, FitsRow}
 use Rattle.layout_laws.specs.CanBeLaid.{CanBeLaid}
+use Rattle.layout_laws.proofs.RowsFit.{rows_fit}
 use Rattle.layout_laws.proofs.Lists.{mapped, element, rows_read}
 use Rattle.layout_laws.proofs.Tokens.{HoldsToken, token_again}
 use Rattle.layout_laws.proofs.ReadBack.{Reads, read_number, read_text, read_blob, read_guid}
@@ -78,19 +79,19 @@ module _ (m : List ℕ) (rec : AsmRec) (h : CanBeLaid rec) (reads : Reads m (cel
   value_read : (t k c : ℕ) (vs : List Value) (v : Value) → slice_get (get_or (values_of rec) t []) k ≡ Some vs → slice_get vs c ≡ Some v → ReadsAs m t c (suc k) v
   unfolding token_in column_of
   value_read t k c vs (value.Number n) e f =
-      read_number m (cells_of rec) reads t k c (row_cells (columns_of t) vs) (row_there t k vs e) n (cell_at rec (columns_of t) vs c (value.Number n) ((h.tables t).fit k vs e) f)
+      read_number m (cells_of rec) reads t k c (row_cells (columns_of t) vs) (row_there t k vs e) n (cell_at rec (columns_of t) vs c (value.Number n) ((rows_fit rec h t).fit k vs e) f)
   value_read t k c vs (value.Text x) e f =
-      read_text m (cells_of rec) reads t k c (row_cells (columns_of t) vs) (row_there t k vs e) x (cell_at rec (columns_of t) vs c (value.Text x) ((h.tables t).fit k vs e) f)
-      (is_text rec (get_or (columns_of t) c U8) x (value_at rec (columns_of t) vs c (value.Text x) ((h.tables t).fit k vs e) f))
+      read_text m (cells_of rec) reads t k c (row_cells (columns_of t) vs) (row_there t k vs e) x (cell_at rec (columns_of t) vs c (value.Text x) ((rows_fit rec h t).fit k vs e) f)
+      (is_text rec (get_or (columns_of t) c U8) x (value_at rec (columns_of t) vs c (value.Text x) ((rows_fit rec h t).fit k vs e) f))
   value_read t k c vs (value.Blob x) e f =
-      read_blob m (cells_of rec) reads t k c (row_cells (columns_of t) vs) (row_there t k vs e) x (cell_at rec (columns_of t) vs c (value.Blob x) ((h.tables t).fit k vs e) f)
+      read_blob m (cells_of rec) reads t k c (row_cells (columns_of t) vs) (row_there t k vs e) x (cell_at rec (columns_of t) vs c (value.Blob x) ((rows_fit rec h t).fit k vs e) f)
   value_read t k c vs (value.Guid x) e f =
-      read_guid m (cells_of rec) reads t k c (row_cells (columns_of t) vs) (row_there t k vs e) x (cell_at rec (columns_of t) vs c (value.Guid x) ((h.tables t).fit k vs e) f)
+      read_guid m (cells_of rec) reads t k c (row_cells (columns_of t) vs) (row_there t k vs e) x (cell_at rec (columns_of t) vs c (value.Guid x) ((rows_fit rec h t).fit k vs e) f)
   value_read t k c vs (value.Token token) e f =
       let col : Column = get_or (columns_of t) c U8 in
       let number = read_number m (cells_of rec) reads t k c (row_cells (columns_of t) vs) (row_there t k vs e) (token_number (get_or (columns_of t) c U8) token)
-      (cell_at rec (columns_of t) vs c (value.Token token) ((h.tables t).fit k vs e) f) in
-      let is = is_token rec (get_or (columns_of t) c U8) token (value_at rec (columns_of t) vs c (value.Token token) ((h.tables t).fit k vs e) f) in
+      (cell_at rec (columns_of t) vs c (value.Token token) ((rows_fit rec h t).fit k vs e) f) in
+      let is = is_token rec (get_or (columns_of t) c U8) token (value_at rec (columns_of t) vs c (value.Token token) ((rows_fit rec h t).fit k vs e) f) in
       ap (token_by (get_or (columns_of t) c U8)) number ∙ token_again rec (get_or (columns_of t) c U8) token is.0 is.1
 
   read_by : (t k c : ℕ) (vs : List Value) (o : Option Value) → slice_get (get_or (values_of rec) t []) k ≡ Some vs → slice_get vs c ≡ o → ReadsAt m t c (suc k) o
