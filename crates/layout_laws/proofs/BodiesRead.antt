@@ -18,7 +18,7 @@ use Rattle.file_layout.specs.Image.{code_rva}
 use Rattle.file_layout.specs.Bodies.{behind, body_behind, code_behind, rva_at, rvas_behind}
 use Rattle.record_format.specs.Parts.{body_by, body_in, body_of_reading, bad_offset, offset_in, fault_offset}
 use Rattle.written_image.proofs.Sizes.{aligned4}
-use Rattle.layout_laws.specs.CanBeLaid.{CanBeLaid}
+use Rattle.layout_laws.proofs.Within.{Within}
 use Rattle.layout_laws.proofs.Lists.{mapped}
 use Rattle.layout_laws.proofs.Lower.{Lower}
 use Rattle.record_layout.specs.Tables.{bodies_of, bodies_code, code_of}
@@ -101,10 +101,10 @@ none_has_none [] start k e = absurd (none-some None e)
 none_has_none (x ∷ bs) start zero e = ap (λ (b : Option (Known Body)). Some (rva_at (length start) b)) (same_Some x None e)
 none_has_none (x ∷ bs) start (suc k) e = none_has_none bs (behind start x) k e
 
-module _ (lower : Lower) (bs : List ℕ) (rec : AsmRec) (h : CanBeLaid rec) (more : List ℕ) (whole : code_of rec ≡ bodies_code rec ++ more) (small : length (code_of rec) ≤ 2 ^ 28)
+module _ (lower : Lower) (bs : List ℕ) (rec : AsmRec) (h : Within rec) (more : List ℕ) (whole : code_of rec ≡ bodies_code rec ++ more) (small : length (code_of rec) ≤ 2 ^ 28)
     (code : (before after : List ℕ) → code_of rec ≡ before ++ after → (rest : List ℕ) × (image_tail bs (code_rva + length before) ≡ Some (after ++ rest))) where
   own_rva : (k : ℕ) (row : MethodDefRow) → slice_get rec.method_def k ≡ Some row → slice_get (rvas_behind [] (bodies_of rec)) k ≡ Some row.rva
-  own_rva k row e = rw (← h.body_rvas) (mapped (λ (m : MethodDefRow). m.rva) rec.method_def k row e)
+  own_rva k row e = rw (← h.can.body_rvas) (mapped (λ (m : MethodDefRow). m.rva) rec.method_def k row e)
 
   read_by : (k : ℕ) (row : MethodDefRow) → slice_get rec.method_def k ≡ Some row → (b : Body) → row.body ≡ Some (Good b) → HasSpelling b → Stands (bodies_of rec) [] k b → BodyRead bs row
   read_by k row e b f spelled s =
@@ -121,7 +121,7 @@ module _ (lower : Lower) (bs : List ℕ) (rec : AsmRec) (h : CanBeLaid rec) (mor
       ap body_at (append_assoc (body_bytes b) (s.after ++ more) found.0) ∙ lower.bodies b ((s.after ++ more) ++ found.0) spelled in
       record {
         body = body_there bs ((body_bytes b ++ (s.after ++ more)) ++ found.0) row.rva b (length (body_bytes b)) some tail read ∙ sym f;
-        bad = sound_there bs ((body_bytes b ++ (s.after ++ more)) ++ found.0) row.rva b (length (body_bytes b)) some tail read ∙ sym (h.methods k row e).sound;
+        bad = sound_there bs ((body_bytes b ++ (s.after ++ more)) ++ found.0) row.rva b (length (body_bytes b)) some tail read ∙ sym (h.can.methods k row e).sound;
       }
 
   none_read : (k : ℕ) (row : MethodDefRow) → slice_get rec.method_def k ≡ Some row → row.body ≡ None → BodyRead bs row
@@ -129,7 +129,7 @@ module _ (lower : Lower) (bs : List ℕ) (rec : AsmRec) (h : CanBeLaid rec) (mor
       let zero_rva : 0 ≡ row.rva = same_Some 0 row.rva (sym (none_has_none (bodies_of rec) [] k (mapped (λ (m : MethodDefRow). m.body) rec.method_def k row e ∙ ap Some f)) ∙ own_rva k row e) in
       record {
         body = ap (body_by bs) (sym zero_rva) ∙ no_body bs ∙ sym f;
-        bad = ap (bad_offset bs) (sym zero_rva) ∙ no_fault bs ∙ sym (h.methods k row e).sound;
+        bad = ap (bad_offset bs) (sym zero_rva) ∙ no_fault bs ∙ sym (h.can.methods k row e).sound;
       }
 
   by_body : (k : ℕ) (row : MethodDefRow) → slice_get rec.method_def k ≡ Some row → (o : Option (Known Body)) → row.body ≡ o → FitsBody o → BodyRead bs row
@@ -139,4 +139,4 @@ module _ (lower : Lower) (bs : List ℕ) (rec : AsmRec) (h : CanBeLaid rec) (mor
   by_body k row e (Some (Bad why)) f fits = absurd fits
 
   pub bodies_read : (k : ℕ) (row : MethodDefRow) → slice_get rec.method_def k ≡ Some row → BodyRead bs row
-  bodies_read k row e = by_body k row e row.body refl (h.methods k row e).body
+  bodies_read k row e = by_body k row e row.body refl (h.can.methods k row e).body

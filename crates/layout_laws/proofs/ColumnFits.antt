@@ -1,11 +1,11 @@
 -- Rows that can be laid out, by their columns alone: each value fits its column and names what is there, runs rise from row to
 -- row, and sorted tables are in order.
-use Rattle.std.specs.Prelude.{ℕ, ◌+◌, ◌<◌, ◌≤◌, ◌^◌, not, nat_le, ◌||◌, List, [], ◌∷◌, length, get_or, IsTrue}
+use Rattle.std.specs.Prelude.{ℕ, ◌+◌, ◌<◌, ◌≤◌, ◌^◌, not, nat_le, ◌||◌, List, [], ◌∷◌, get_or, IsTrue}
 use Rattle.cli_format.specs.declared.column.Column.{Column}
 use Rattle.cli_format.specs.declared.column.Column.TheVariants.{U8, U16, U32, Index, IndexOrNone, Run, Coded, CodedOrNone}
 use Rattle.cli_format.specs.declared.column.Column.TheVariants as column
 use Rattle.cli_format.specs.Columns.{columns_of, sort_key_of}
-use Rattle.cli_format.specs.Metadata.{is_run, in_order, most_rows}
+use Rattle.cli_format.specs.Metadata.{is_run, in_order}
 use Rattle.world_model.specs.declared.record.AsmRec.{AsmRec}
 use Rattle.world_model.specs.Records.{rows_in, Names, Each, EachPair}
 use Rattle.file_layout.specs.Runs.{run_fits}
@@ -69,7 +69,6 @@ IsSorted t row next = IsTrue (in_order (sort_key_of t) (number_at (columns_of t)
 -- ---- a table by its number
 
 pub record RowsFit (rec : AsmRec) (t : ℕ) (rows : List (List Value)) : Type 0 where
-  pub few : length rows ≤ most_rows
   pub fit : Each (FitsRow rec (columns_of t)) rows
   pub rise : EachPair (RunsRise (columns_of t)) rows
   pub sorted : EachPair (IsSorted t) rows

@@ -14,7 +14,7 @@ use Rattle.file_layout.specs.Image.{code_rva}
 use Rattle.record_layout.specs.FieldData.{data_of, with_data, with_all_data, data_rvas}
 use Rattle.record_layout.specs.Tables.{bodies_code, code_of}
 use Rattle.layout_laws.specs.Parts.{IsGood}
-use Rattle.layout_laws.specs.CanBeLaid.{CanBeLaid}
+use Rattle.layout_laws.proofs.Within.{Within}
 use Rattle.layout_laws.proofs.Lists.{mapped}
 
 aligned8 : (n : ℕ) → n ≤ aligned 8 n
@@ -72,12 +72,12 @@ bytes_there : (bs : List ℕ) (rva : ℕ) (size : Option ℕ) (bytes : List ℕ)
 unfolding bytes_by
 bytes_there bs rva size bytes e f = rw (e, f) refl
 
-module _ (bs : List ℕ) (rec : AsmRec) (h : CanBeLaid rec) (small : length (code_of rec) ≤ 2 ^ 28)
+module _ (bs : List ℕ) (rec : AsmRec) (h : Within rec) (small : length (code_of rec) ≤ 2 ^ 28)
     (code : (before here after : List ℕ) → code_of rec ≡ before ++ here ++ after → image_at bs (code_rva + length before) (length here) ≡ Some here) where
   place_of : (k : ℕ) (row : FieldRvaRow) → slice_get rec.field_rva k ≡ Some row → Stands rec.field_rva (bodies_code rec) k row → image_at bs row.rva (length (data_of row.bytes)) ≡ Some (data_of row.bytes)
   unfolding code_of
   place_of k row e s =
-      let own : slice_get (data_rvas (bodies_code rec) rec.field_rva) k ≡ Some row.rva = rw (← h.data_rvas) (mapped (λ (f : FieldRvaRow). f.rva) rec.field_rva k row e) in
+      let own : slice_get (data_rvas (bodies_code rec) rec.field_rva) k ≡ Some row.rva = rw (← h.can.data_rvas) (mapped (λ (f : FieldRvaRow). f.rva) rec.field_rva k row e) in
       let same : (code_rva + aligned 8 (length s.before)) % 4294967296 ≡ row.rva = same_Some _ _ (sym s.address ∙ own) in
       let long = ap length s.code ∙ length-append (padded 8 s.before) (data_of row.bytes ++ s.after) in
       let place : code_rva + length (padded 8 s.before) ≡ row.rva = omega (arith, same, long, small, padded_long s.before) in
@@ -89,5 +89,5 @@ module _ (bs : List ℕ) (rec : AsmRec) (h : CanBeLaid rec) (small : length (cod
 
   pub data_read : (k : ℕ) (row : FieldRvaRow) → slice_get rec.field_rva k ≡ Some row → bytes_by bs row.rva (size_by rec.class_layout rec.field row.field) ≡ row.bytes
   data_read k row e =
-      by_bytes row.rva (size_by rec.class_layout rec.field row.field) row.bytes (h.field_data k row e)
+      by_bytes row.rva (size_by rec.class_layout rec.field row.field) row.bytes (h.can.field_data k row e)
       (place_of k row e (data_stands rec.field_rva (bodies_code rec) k row e))

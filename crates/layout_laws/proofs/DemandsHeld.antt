@@ -17,12 +17,12 @@ use Rattle.file_layout.specs.TableStream as laid
 use Rattle.file_layout.specs.Cells.{CellTables, pools_of, numbers_of}
 use Rattle.file_layout.specs.Laid.{sizes_of, streams_with}
 use Rattle.record_layout.specs.Tables.{code_of, cells_of}
-use Rattle.record_layout.specs.Laid.{users_of, streams_of, parts_of, laid_length}
+use Rattle.record_layout.specs.Laid.{users_of, streams_of, parts_of}
 use Rattle.record_layout.specs.Laid.{laid as laid_bytes}
 use Rattle.record_format.specs.Record.{as_demand, record_demands, HasRecord}
 use Rattle.written_image.specs.Written.{ReadsBack, StreamsReadBack}
 use Rattle.written_tables.specs.Written.{TablesReadBack}
-use Rattle.layout_laws.specs.CanBeLaid.{CanBeLaid}
+use Rattle.layout_laws.proofs.Within.{Within}
 use Rattle.layout_laws.proofs.Lower.{Lower}
 use Rattle.layout_laws.proofs.Pools.{Fitting, Small, Heaped, heaps_hold}
 use Rattle.layout_laws.proofs.Numbers.{tables_fit}
@@ -118,14 +118,14 @@ users_small : (rec : AsmRec) → length (streams_of rec).users ≤ 2 ^ 24 → le
 unfolding streams_of streams_with
 users_small rec small = small
 
-module _ (lower : Lower) (rec : AsmRec) (h : CanBeLaid rec) (small : laid_length rec ≤ 2 ^ 28) (few_texts : length (streams_of rec).users ≤ 2 ^ 24) where
+module _ (lower : Lower) (rec : AsmRec) (h : Within rec) where
   image_back : ReadsBack (parts_of rec) (laid_bytes rec)
   unfolding laid_bytes
-  image_back = lower.images (parts_of rec) (can_lay rec h small)
+  image_back = lower.images (parts_of rec) (can_lay rec h)
 
   streams_back_there : StreamsReadBack (streams_of rec) (parts_of rec).metadata
   unfolding parts_of
-  streams_back_there = lower.metadata (streams_of rec) (can_stream rec h small)
+  streams_back_there = lower.metadata (streams_of rec) (can_stream rec h)
 
   streams_back_here : StreamsReadBack (streams_of rec) (metadata_of (laid_bytes rec))
   streams_back_here = subst (λ (m : List ℕ). StreamsReadBack (streams_of rec) m) (sym image_back.metadata) streams_back_there
@@ -149,15 +149,15 @@ module _ (lower : Lower) (rec : AsmRec) (h : CanBeLaid rec) (small : laid_length
     subsystem = image_back.subsystem;
     entry = image_back.entry;
     resources = image_back.resources;
-    tables = metadata_reads lower (cells_of rec) (users_of rec) (fitting rec h) (pools_small rec h small) (metadata_of (laid_bytes rec)) streams_back;
-    users = users_are lower (cells_of rec) (users_of rec) (fitting rec h) (pools_small rec h small) (metadata_of (laid_bytes rec)) streams_back;
-    bodies = bodies_read lower (laid_bytes rec) rec h (code_extends rec).0 (code_extends rec).1 (code_small rec h small) code_back;
-    field_data = data_read (laid_bytes rec) rec h (code_small rec h small) bytes_back;
+    tables = metadata_reads lower (cells_of rec) (users_of rec) (fitting rec h) (pools_small rec h) (metadata_of (laid_bytes rec)) streams_back;
+    users = users_are lower (cells_of rec) (users_of rec) (fitting rec h) (pools_small rec h) (metadata_of (laid_bytes rec)) streams_back;
+    bodies = bodies_read lower (laid_bytes rec) rec h (code_extends rec).0 (code_extends rec).1 (code_small rec h) code_back;
+    field_data = data_read (laid_bytes rec) rec h (code_small rec h) bytes_back;
   }
 
   pub reads_back_by : HasRecord (laid_bytes rec) rec
   reads_back_by = record {
     meets = record_held (laid_bytes rec) image_back.demands
-        (metadata_held lower (cells_of rec) (users_of rec) (fitting rec h) (pools_small rec h small) (metadata_of (laid_bytes rec)) streams_back (metadata_place_of (laid_bytes rec)));
-    is = sym (record_read lower (laid_bytes rec) rec h bits_back (users_small rec few_texts));
+        (metadata_held lower (cells_of rec) (users_of rec) (fitting rec h) (pools_small rec h) (metadata_of (laid_bytes rec)) streams_back (metadata_place_of (laid_bytes rec)));
+    is = sym (record_read lower (laid_bytes rec) rec h bits_back (users_small rec h.users));
   }

@@ -1,4 +1,5 @@
 pub mod Lists
+pub mod Within
 pub mod Cells
 pub mod Keys
 pub mod Lower

@@ -16,7 +16,7 @@ use Rattle.record_format.specs.Others.{manifest_resource_row}
 use Rattle.record_format.specs.Parts.{bytes_by, size_by}
 use Rattle.record_format.specs.Texts.{all_texts, descriptor_in}
 use Rattle.record_format.specs.Record.{methods_of, record_at}
-use Rattle.layout_laws.specs.CanBeLaid.{CanBeLaid}
+use Rattle.layout_laws.proofs.Within.{Within}
 use Rattle.layout_laws.proofs.Lower.{Lower}
 use Rattle.layout_laws.proofs.ReadBack.{Reads}
 use Rattle.layout_laws.proofs.BodiesRead.{BodyRead}
@@ -34,7 +34,7 @@ pub record FileReads (bs : List ℕ) (rec : AsmRec) : Type 0 where
   pub bodies : (k : ℕ) (row : MethodDefRow) → slice_get rec.method_def k ≡ Some row → BodyRead bs row
   pub field_data : (k : ℕ) (row : FieldRvaRow) → slice_get rec.field_rva k ≡ Some row → bytes_by bs row.rva (size_by rec.class_layout rec.field row.field) ≡ row.bytes
 
-module _ (lower : Lower) (bs : List ℕ) (rec : AsmRec) (h : CanBeLaid rec) (reads : FileReads bs rec) (small : length (users_heap (users_of rec)) ≤ 2 ^ 24) where
+module _ (lower : Lower) (bs : List ℕ) (rec : AsmRec) (h : Within rec) (reads : FileReads bs rec) (small : length (users_heap (users_of rec)) ≤ 2 ^ 24) where
   abbrev m : List ℕ
   m = metadata_of bs
 
@@ -87,7 +87,7 @@ module _ (lower : Lower) (bs : List ℕ) (rec : AsmRec) (h : CanBeLaid rec) (rea
       let generic_param_same = generic_param_read m rec h reads.tables in
       let method_spec_same = method_spec_read lower m rec h reads.tables in
       let generic_param_constraint_same = generic_param_constraint_read m rec h reads.tables in
-      let descriptor_same = ap (descriptor_in (all_rows m 0x28 (manifest_resource_row m))) reads.resources ∙ sym h.header.descriptor in
+      let descriptor_same = ap (descriptor_in (all_rows m 0x28 (manifest_resource_row m))) reads.resources ∙ sym h.can.header.descriptor in
       λ i. record {
         bits = reads.bits i;
         subsystem = reads.subsystem i;

@@ -69,10 +69,9 @@ pub joined : {A : Type 0} (rec : AsmRec) (t : ℕ) (values : A → List Value) (
     → EachPair (λ row next. IsSorted t (values row) (values next)) rows
     → RowsFit rec t (map values rows)
 joined rec t values rows fits names rise sorted = record {
-  few = fits.few;
   fit = λ k vs e.
       let row = of_mapped values rows k vs e in
-      rw (← row.2) (row_fits rec (columns_of t) (values row.0) (fits.fit k (values row.0) (mapped values rows k row.0 row.1)) (names k row.0 row.1));
+      rw (← row.2) (row_fits rec (columns_of t) (values row.0) (fits k (values row.0) (mapped values rows k row.0 row.1)) (names k row.0 row.1));
   rise = λ k vs ws e f.
       let row = of_mapped values rows k vs e in
       let next = of_mapped values rows (suc k) ws f in
@@ -104,7 +103,6 @@ with_own_rows {A = A} rec t values rva rows rvas e fits names rise sorted =
 
 pub no_rows_fit : (rec : AsmRec) (t : ℕ) → RowsFit rec t []
 no_rows_fit rec t = record {
-  few = omega arith;
   fit = λ k vs e. absurd (none-some vs e);
   rise = λ k vs ws e f. absurd (none-some vs e);
   sorted = λ k vs ws e f. absurd (none-some vs e);

@@ -7,10 +7,10 @@ use Rattle.file_layout.specs.Image.{Parts, image_length, names_end}
 use Rattle.file_layout.specs.Cells.{pools_of}
 use Rattle.file_layout.specs.Laid.{streams_with}
 use Rattle.record_layout.specs.Tables.{code_of, cells_of}
-use Rattle.record_layout.specs.Laid.{streams_of, parts_of, laid_length}
+use Rattle.record_layout.specs.Laid.{streams_of, parts_of}
 use Rattle.written_image.specs.Written.{CanLay, CanStream}
 use Rattle.written_image.proofs.Sizes.{aligned4, aligned512}
-use Rattle.layout_laws.specs.CanBeLaid.{CanBeLaid}
+use Rattle.layout_laws.proofs.Within.{Within}
 use Rattle.layout_laws.proofs.Pools.{Small}
 
 pub parts_within : (p : Parts) → length p.code + length p.metadata ≤ image_length p
@@ -33,16 +33,16 @@ streams_within s =
     let whole = joined root_bytes (stream_headers s) s.tables s.strings s.users s.guids s.blobs in
     record { strings = omega arith; guids = omega arith; blobs = omega arith }
 
-module _ (rec : AsmRec) (h : CanBeLaid rec) (small : laid_length rec ≤ 2 ^ 28) where
+module _ (rec : AsmRec) (h : Within rec) where
   pub can_lay : CanLay (parts_of rec)
   unfolding parts_of
-  can_lay = record { bits = h.header.bits; il_only = h.header.il_only; not_native = h.header.not_native; entry = h.header.entry; subsystem = h.header.subsystem; small = omega (arith, small) }
+  can_lay = record { bits = h.can.header.bits; il_only = h.can.header.il_only; not_native = h.can.header.not_native; entry = h.can.header.entry; subsystem = h.can.header.subsystem; small = omega (arith, h.bytes) }
 
   code_small_of : length (parts_of rec).code ≤ 2 ^ 28
-  code_small_of = omega (arith, small, parts_within (parts_of rec))
+  code_small_of = omega (arith, h.bytes, parts_within (parts_of rec))
 
   metadata_small_of : length (parts_of rec).metadata ≤ 2 ^ 28
-  metadata_small_of = omega (arith, small, parts_within (parts_of rec))
+  metadata_small_of = omega (arith, h.bytes, parts_within (parts_of rec))
 
   pub code_small : length (code_of rec) ≤ 2 ^ 28
   unfolding parts_of

@@ -13,7 +13,7 @@ use Rattle.record_layout.specs.declared.value.Value.{Value}
 use Rattle.record_layout.specs.Values.{ValueTables, row_cells, tables_cells}
 use Rattle.record_layout.specs.Rows.{module_values, type_ref_values, type_def_values, field_values, method_def_values, param_values, interface_impl_values, member_ref_values, constant_values, custom_attribute_values, field_marshal_values, decl_security_values, class_layout_values, field_layout_values, stand_alone_sig_values, event_map_values, event_values, property_map_values, property_values, method_semantics_values, method_impl_values, module_ref_values, type_spec_values, impl_map_values, field_rva_values, assembly_values, assembly_processor_values, assembly_os_values, assembly_ref_values, assembly_ref_processor_values, assembly_ref_os_values, file_values, exported_type_values, manifest_resource_values, nested_class_values, generic_param_values, method_spec_values, generic_param_constraint_values}
 use Rattle.record_layout.specs.Tables.{with_rvas, method_rvas, field_rvas, values_of, cells_of}
-use Rattle.layout_laws.specs.CanBeLaid.{CanBeLaid}
+use Rattle.layout_laws.proofs.Within.{Within}
 use Rattle.layout_laws.proofs.RowsJoined.{with_these}
 use Rattle.layout_laws.proofs.RowsFit.{rows_fit}
 use Rattle.layout_laws.proofs.Lists.{of_mapped}
@@ -122,12 +122,12 @@ unlisted rec t e = empty_at schema (values_of rec) t (all_unlisted rec) e
 
 -- ---- a record that can be laid out
 
-module _ (rec : AsmRec) (h : CanBeLaid rec) where
+module _ (rec : AsmRec) (h : Within rec) where
   pub count_values : (t : ℕ) → count (cells_of rec) t ≡ length (get_or (values_of rec) t [])
   count_values t = ap length (table_cells rec t) ∙ length-map (get_or (values_of rec) t []) (row_cells (columns_of t))
 
   pub same_count : (t : ℕ) → rows_in rec t ≡ count (cells_of rec) t
-  same_count t = ap (λ (sizes : List ℕ). get_or sizes t 0) (row_counts rec h.body_rvas h.data_rvas) ∙ get_or-map length (values_of rec) t [] ∙ sym (count_values t)
+  same_count t = ap (λ (sizes : List ℕ). get_or sizes t 0) (row_counts rec h.can.body_rvas h.can.data_rvas) ∙ get_or-map length (values_of rec) t [] ∙ sym (count_values t)
 
   fits_at : (t r : ℕ) (row : List Cell) → slice_get (get_or (cells_of rec) t []) r ≡ Some row → (vs : List Value) × (slice_get (get_or (values_of rec) t []) r ≡ Some vs) × (row_cells (columns_of t) vs ≡ row)
   fits_at t r row e = of_mapped (row_cells (columns_of t)) (get_or (values_of rec) t []) r row (rw (← table_cells rec t) e)
@@ -146,7 +146,7 @@ module _ (rec : AsmRec) (h : CanBeLaid rec) where
         let ws = fits_at t (suc r) next f in
         rw (← vs.2, ← ws.2) (row_sorted rec t vs.0 ws.0 ((rows_fit rec h t).fit r vs.0 vs.1) ((rows_fit rec h t).fit (suc r) ws.0 ws.1) ((rows_fit rec h t).sorted r vs.0 ws.0 vs.1 ws.1));
     known = λ e. table_cells rec t ∙ ap (map (row_cells (columns_of t))) (unlisted rec t e);
-    few = omega (arith, count_values t, (rows_fit rec h t).few);
+    few = omega (arith, same_count t, h.few t);
   }
 
   size_modules : rows_in rec 0x00 ≡ length rec.«module»
@@ -165,7 +165,7 @@ module _ (rec : AsmRec) (h : CanBeLaid rec) where
   fitting = record {
     all = table_fits;
     tables = all_tables rec;
-    modules = sym (same_count 0x00) ∙ size_modules ∙ h.one_module;
-    assemblies = sym (same_count 0x20) ∙ size_assemblies ∙ h.one_assembly;
-    types = omega (arith, same_count 0x02, size_types, h.some_type);
+    modules = sym (same_count 0x00) ∙ size_modules ∙ h.can.one_module;
+    assemblies = sym (same_count 0x20) ∙ size_assemblies ∙ h.can.one_assembly;
+    types = omega (arith, same_count 0x02, size_types, h.can.some_type);
   }

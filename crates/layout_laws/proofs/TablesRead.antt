@@ -8,7 +8,7 @@ use Rattle.record_format.specs.Parts.{known_of, member_of_blob, body_by, bad_off
 use Rattle.record_layout.specs.declared.value.Value.{Value}
 use Rattle.record_layout.specs.Tables.{values_of, cells_of, method_rvas, field_rvas}
 use Rattle.world_model.specs.declared.types.ClassLayoutRow.{ClassLayoutRow}
-use Rattle.layout_laws.specs.CanBeLaid.{CanBeLaid}
+use Rattle.layout_laws.proofs.Within.{Within}
 use Rattle.layout_laws.proofs.Lower.{Lower}
 use Rattle.layout_laws.proofs.ReadBack.{Reads}
 use Rattle.layout_laws.proofs.ValuesRead.{RowReads, table_read, run_read}
@@ -34,7 +34,7 @@ use Rattle.world_model.specs.declared.members.MethodSpecRow.{MethodSpecRow}
 
 -- ---- rows of plain values
 
-module _ (m : List ℕ) (rec : AsmRec) (h : CanBeLaid rec) (reads : Reads m (cells_of rec)) where
+module _ (m : List ℕ) (rec : AsmRec) (h : Within rec) (reads : Reads m (cells_of rec)) where
   pub module_read : all_rows m 0x00 (module_row m) ≡ rec.«module»
   unfolding values_of
   module_read = table_read m rec h reads 0x00 (module_row m) module_values rec.«module» refl (λ k row e r. module_again m (suc k) row r)
@@ -145,12 +145,12 @@ module _ (m : List ℕ) (rec : AsmRec) (h : CanBeLaid rec) (reads : Reads m (cel
 
 -- ---- rows with runs and signatures
 
-module _ (lower : Lower) (m : List ℕ) (rec : AsmRec) (h : CanBeLaid rec) (reads : Reads m (cells_of rec)) where
+module _ (lower : Lower) (m : List ℕ) (rec : AsmRec) (h : Within rec) (reads : Reads m (cells_of rec)) where
   type_def_again : (k : ℕ) (row : TypeDefRow) → slice_get rec.type_def k ≡ Some row → RowReads m 0x02 (suc k) (type_def_values row) → type_def_row m (suc k) ≡ row
   unfolding type_def_row values_of
   type_def_again k row e r =
-      let fields = run_read m rec h reads 0x02 4 0x04 type_def_values (λ x. x.field_list_first) (λ x. x.field_list_end) rec.type_def refl (λ x. refl) h.is_record.runs.fields k row e in
-      let methods = run_read m rec h reads 0x02 5 0x06 type_def_values (λ x. x.method_list_first) (λ x. x.method_list_end) rec.type_def refl (λ x. refl) h.is_record.runs.methods k row e in
+      let fields = run_read m rec h reads 0x02 4 0x04 type_def_values (λ x. x.field_list_first) (λ x. x.field_list_end) rec.type_def refl (λ x. refl) h.can.is_record.runs.fields k row e in
+      let methods = run_read m rec h reads 0x02 5 0x06 type_def_values (λ x. x.method_list_first) (λ x. x.method_list_end) rec.type_def refl (λ x. refl) h.can.is_record.runs.methods k row e in
       λ i. record {
         flags = r 0 i;
         name = r 1 i;
@@ -169,7 +169,7 @@ module _ (lower : Lower) (m : List ℕ) (rec : AsmRec) (h : CanBeLaid rec) (read
   field_again : (k : ℕ) (row : FieldRow) → slice_get rec.field k ≡ Some row → RowReads m 0x04 (suc k) (field_values row) → field_row m (suc k) ≡ row
   unfolding field_row
   field_again k row e r =
-      let signature = ap (λ (b : List ℕ). known_of (field_of_blob b)) (r 2) ∙ field_sig_again lower row.signature (h.signatures.fields k row e) in
+      let signature = ap (λ (b : List ℕ). known_of (field_of_blob b)) (r 2) ∙ field_sig_again lower row.signature (h.can.signatures.fields k row e) in
       λ i. record { flags = r 0 i; name = r 1 i; signature = signature i }
 
   pub field_read : all_rows m 0x04 (field_row m) ≡ rec.field
@@ -179,7 +179,7 @@ module _ (lower : Lower) (m : List ℕ) (rec : AsmRec) (h : CanBeLaid rec) (read
   member_ref_again : (k : ℕ) (row : MemberRefRow) → slice_get rec.member_ref k ≡ Some row → RowReads m 0x0a (suc k) (member_ref_values row) → member_ref_row m (suc k) ≡ row
   unfolding member_ref_row
   member_ref_again k row e r =
-      let signature = ap member_of_blob (r 2) ∙ member_sig_again lower row.signature (h.signatures.members k row e) in
+      let signature = ap member_of_blob (r 2) ∙ member_sig_again lower row.signature (h.can.signatures.members k row e) in
       λ i. record { class = r 0 i; name = r 1 i; signature = signature i }
 
   pub member_ref_read : all_rows m 0x0a (member_ref_row m) ≡ rec.member_ref
@@ -189,7 +189,7 @@ module _ (lower : Lower) (m : List ℕ) (rec : AsmRec) (h : CanBeLaid rec) (read
   stand_alone_sig_again : (k : ℕ) (row : StandAloneSigRow) → slice_get rec.stand_alone_sig k ≡ Some row → RowReads m 0x11 (suc k) (stand_alone_sig_values row) → stand_alone_sig_row m (suc k) ≡ row
   unfolding stand_alone_sig_row
   stand_alone_sig_again k row e r =
-      let signature = ap (λ (b : List ℕ). known_of (locals_of_blob b)) (r 0) ∙ locals_sig_again lower row.signature (h.signatures.locals k row e) in
+      let signature = ap (λ (b : List ℕ). known_of (locals_of_blob b)) (r 0) ∙ locals_sig_again lower row.signature (h.can.signatures.locals k row e) in
       λ i. record { signature = signature i }
 
   pub stand_alone_sig_read : all_rows m 0x11 (stand_alone_sig_row m) ≡ rec.stand_alone_sig
@@ -199,7 +199,7 @@ module _ (lower : Lower) (m : List ℕ) (rec : AsmRec) (h : CanBeLaid rec) (read
   event_map_again : (k : ℕ) (row : EventMapRow) → slice_get rec.event_map k ≡ Some row → RowReads m 0x12 (suc k) (event_map_values row) → event_map_row m (suc k) ≡ row
   unfolding event_map_row values_of
   event_map_again k row e r =
-      let events = run_read m rec h reads 0x12 1 0x14 event_map_values (λ x. x.event_list_first) (λ x. x.event_list_end) rec.event_map refl (λ x. refl) h.is_record.runs.events k row e in
+      let events = run_read m rec h reads 0x12 1 0x14 event_map_values (λ x. x.event_list_first) (λ x. x.event_list_end) rec.event_map refl (λ x. refl) h.can.is_record.runs.events k row e in
       λ i. record { parent = r 0 i; event_list_first = r 1 i; event_list_end = events i }
 
   pub event_map_read : all_rows m 0x12 (event_map_row m) ≡ rec.event_map
@@ -209,7 +209,7 @@ module _ (lower : Lower) (m : List ℕ) (rec : AsmRec) (h : CanBeLaid rec) (read
   property_map_again : (k : ℕ) (row : PropertyMapRow) → slice_get rec.property_map k ≡ Some row → RowReads m 0x15 (suc k) (property_map_values row) → property_map_row m (suc k) ≡ row
   unfolding property_map_row values_of
   property_map_again k row e r =
-      let properties = run_read m rec h reads 0x15 1 0x17 property_map_values (λ x. x.property_list_first) (λ x. x.property_list_end) rec.property_map refl (λ x. refl) h.is_record.runs.properties k row e in
+      let properties = run_read m rec h reads 0x15 1 0x17 property_map_values (λ x. x.property_list_first) (λ x. x.property_list_end) rec.property_map refl (λ x. refl) h.can.is_record.runs.properties k row e in
       λ i. record { parent = r 0 i; property_list_first = r 1 i; property_list_end = properties i }
 
   pub property_map_read : all_rows m 0x15 (property_map_row m) ≡ rec.property_map
@@ -219,7 +219,7 @@ module _ (lower : Lower) (m : List ℕ) (rec : AsmRec) (h : CanBeLaid rec) (read
   property_again : (k : ℕ) (row : PropertyRow) → slice_get rec.property k ≡ Some row → RowReads m 0x17 (suc k) (property_values row) → property_row m (suc k) ≡ row
   unfolding property_row
   property_again k row e r =
-      let signature = ap (λ (b : List ℕ). known_of (property_of_blob b)) (r 2) ∙ property_sig_again lower row.signature (h.signatures.properties k row e) in
+      let signature = ap (λ (b : List ℕ). known_of (property_of_blob b)) (r 2) ∙ property_sig_again lower row.signature (h.can.signatures.properties k row e) in
       λ i. record { flags = r 0 i; name = r 1 i; signature = signature i }
 
   pub property_read : all_rows m 0x17 (property_row m) ≡ rec.property
@@ -229,7 +229,7 @@ module _ (lower : Lower) (m : List ℕ) (rec : AsmRec) (h : CanBeLaid rec) (read
   type_spec_again : (k : ℕ) (row : TypeSpecRow) → slice_get rec.type_spec k ≡ Some row → RowReads m 0x1b (suc k) (type_spec_values row) → type_spec_row m (suc k) ≡ row
   unfolding type_spec_row
   type_spec_again k row e r =
-      let signature = ap (λ (b : List ℕ). known_of (type_of_blob b)) (r 0) ∙ type_sig_again lower row.signature (h.signatures.types k row e) in
+      let signature = ap (λ (b : List ℕ). known_of (type_of_blob b)) (r 0) ∙ type_sig_again lower row.signature (h.can.signatures.types k row e) in
       λ i. record { signature = signature i }
 
   pub type_spec_read : all_rows m 0x1b (type_spec_row m) ≡ rec.type_spec
@@ -239,7 +239,7 @@ module _ (lower : Lower) (m : List ℕ) (rec : AsmRec) (h : CanBeLaid rec) (read
   method_spec_again : (k : ℕ) (row : MethodSpecRow) → slice_get rec.method_spec k ≡ Some row → RowReads m 0x2b (suc k) (method_spec_values row) → method_spec_row m (suc k) ≡ row
   unfolding method_spec_row
   method_spec_again k row e r =
-      let instantiation = ap (λ (b : List ℕ). known_of (instance_of_blob b)) (r 1) ∙ instance_sig_again lower row.instantiation (h.signatures.instances k row e) in
+      let instantiation = ap (λ (b : List ℕ). known_of (instance_of_blob b)) (r 1) ∙ instance_sig_again lower row.instantiation (h.can.signatures.instances k row e) in
       λ i. record { method = r 0 i; instantiation = instantiation i }
 
   pub method_spec_read : all_rows m 0x2b (method_spec_row m) ≡ rec.method_spec
@@ -248,7 +248,7 @@ module _ (lower : Lower) (m : List ℕ) (rec : AsmRec) (h : CanBeLaid rec) (read
 
 -- ---- rows with addresses
 
-module _ (lower : Lower) (bs : List ℕ) (m : List ℕ) (rec : AsmRec) (h : CanBeLaid rec) (reads : Reads m (cells_of rec))
+module _ (lower : Lower) (bs : List ℕ) (m : List ℕ) (rec : AsmRec) (h : Within rec) (reads : Reads m (cells_of rec))
     (bodies : (k : ℕ) (row : MethodDefRow) → slice_get rec.method_def k ≡ Some row → BodyRead bs row)
     (bytes_are : (k : ℕ) (row : FieldRvaRow) → slice_get rec.field_rva k ≡ Some row → bytes_by bs row.rva (size_by rec.class_layout rec.field row.field) ≡ row.bytes) where
   abbrev method_values : MethodDefRow → List Value
@@ -256,13 +256,13 @@ module _ (lower : Lower) (bs : List ℕ) (m : List ℕ) (rec : AsmRec) (h : CanB
 
   methods_are : get_or (values_of rec) 0x06 [] ≡ map method_values rec.method_def
   unfolding values_of
-  methods_are = with_these method_def_values (λ (x : MethodDefRow). x.rva) rec.method_def (method_rvas rec) h.body_rvas
+  methods_are = with_these method_def_values (λ (x : MethodDefRow). x.rva) rec.method_def (method_rvas rec) h.can.body_rvas
 
   method_def_again : (k : ℕ) (row : MethodDefRow) → slice_get rec.method_def k ≡ Some row → RowReads m 0x06 (suc k) (method_values row) → method_def_row bs m (suc k) ≡ row
   unfolding method_def_row
   method_def_again k row e r =
-      let signature = ap (λ (b : List ℕ). known_of (method_of_blob b)) (r 4) ∙ method_sig_again lower row.signature (h.signatures.methods k row e) in
-      let params = run_read m rec h reads 0x06 5 0x08 method_values (λ x. x.param_list_first) (λ x. x.param_list_end) rec.method_def methods_are (λ x. refl) h.is_record.runs.params k row e in
+      let signature = ap (λ (b : List ℕ). known_of (method_of_blob b)) (r 4) ∙ method_sig_again lower row.signature (h.can.signatures.methods k row e) in
+      let params = run_read m rec h reads 0x06 5 0x08 method_values (λ x. x.param_list_first) (λ x. x.param_list_end) rec.method_def methods_are (λ x. refl) h.can.is_record.runs.params k row e in
       let body = ap (body_by bs) (r 0) ∙ (bodies k row e).body in
       let bad = ap (bad_offset bs) (r 0) ∙ (bodies k row e).bad in
       λ i. record {
@@ -285,7 +285,7 @@ module _ (lower : Lower) (bs : List ℕ) (m : List ℕ) (rec : AsmRec) (h : CanB
 
   data_are : get_or (values_of rec) 0x1d [] ≡ map data_values rec.field_rva
   unfolding values_of
-  data_are = with_these field_rva_values (λ (x : FieldRvaRow). x.rva) rec.field_rva (field_rvas rec) h.data_rvas
+  data_are = with_these field_rva_values (λ (x : FieldRvaRow). x.rva) rec.field_rva (field_rvas rec) h.can.data_rvas
 
   field_rva_again : (k : ℕ) (row : FieldRvaRow) → slice_get rec.field_rva k ≡ Some row → RowReads m 0x1d (suc k) (data_values row) → field_rva_row bs m rec.class_layout rec.field (suc k) ≡ row
   unfolding field_rva_row

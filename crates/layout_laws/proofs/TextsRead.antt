@@ -14,7 +14,7 @@ use Rattle.file_layout.specs.Interning.{place_among}
 use Rattle.file_layout.specs.Heaps.{users_heap, user_item, user_place, units_bytes, last_byte}
 use Rattle.record_format.specs.Texts.{is_loaded, units_of, user_token, user_text_at, text_if_loaded, and_text, texts_below, text_offsets, all_texts}
 use Rattle.written_tables.specs.Written.{IsIn, UsersReadBack}
-use Rattle.layout_laws.specs.CanBeLaid.{CanBeLaid}
+use Rattle.layout_laws.proofs.Within.{Within}
 use Rattle.layout_laws.proofs.Lists.{mapped, of_mapped, item_within}
 
 -- ---- units
@@ -132,7 +132,7 @@ pub items_within : (texts : List (List ℕ)) → 1 + length (flat_map user_item 
 unfolding users_heap
 items_within texts = omega (arith, length-append (flat_map user_item texts) (zeros (aligned 4 (length (0 ∷ flat_map user_item texts)) - length (0 ∷ flat_map user_item texts))))
 
-module _ (rec : AsmRec) (h : CanBeLaid rec) (reads : UsersReadBack (map (λ t. t.text) rec.user)) (small : length (users_heap (map (λ t. t.text) rec.user)) ≤ 2 ^ 24) where
+module _ (rec : AsmRec) (h : Within rec) (reads : UsersReadBack (map (λ t. t.text) rec.user)) (small : length (users_heap (map (λ t. t.text) rec.user)) ≤ 2 ^ 24) where
   abbrev texts : List (List ℕ)
   texts = map (λ t. t.text) rec.user
 
@@ -140,7 +140,7 @@ module _ (rec : AsmRec) (h : CanBeLaid rec) (reads : UsersReadBack (map (λ t. t
   distinct j k x e f =
       let a = of_mapped (λ (t : UserText). t.text) rec.user j x e in
       let b = of_mapped (λ (t : UserText). t.text) rec.user k x f in
-      h.texts.once j k a.0 b.0 a.1 b.1 (a.2 ∙ sym b.2)
+      h.can.texts.once j k a.0 b.0 a.1 b.1 (a.2 ∙ sym b.2)
 
   -- a text's offset, by the items before it
   offset : (k : ℕ) (t : UserText) → slice_get rec.user k ≡ Some t → user_place texts t.text ≡ 1 + length (flat_map item_of (take k rec.user))
@@ -155,7 +155,7 @@ module _ (rec : AsmRec) (h : CanBeLaid rec) (reads : UsersReadBack (map (λ t. t
       let short : 2 * length t.text + 1 < 2 ^ 29 = omega (arith, item_some t.text, item_within user_item texts t.text listed, items_within texts, small) in
       let long : length (units_bytes t.text ++ last_byte t.text ∷ []) ≡ 2 * length t.text + 1 = omega (arith, length-append (units_bytes t.text) (last_byte t.text ∷ []), units_long t.text) in
       text_here (users_heap texts) (user_place texts t.text) (units_bytes t.text ++ last_byte t.text ∷ []) t
-      (reads.each t.text listed short) (omega (arith, long)) (units_again t.text (last_byte t.text) (h.texts.units k t e)) (h.texts.tokens k t e)
+      (reads.each t.text listed short) (omega (arith, long)) (units_again t.text (last_byte t.text) (h.can.texts.units k t e)) (h.can.texts.tokens k t e)
 
   if_loaded : (n : ℕ) → is_loaded rec.method_def (user_token n) ≡ true → text_if_loaded (users_heap texts) rec.method_def n ≡ user_text_at (users_heap texts) n
   if_loaded n e = rw e refl
@@ -165,15 +165,15 @@ module _ (rec : AsmRec) (h : CanBeLaid rec) (reads : UsersReadBack (map (λ t. t
 
   step_by : (n : ℕ) (b : Bool) → is_loaded rec.method_def (user_token n) ≡ b → and_text (upto n 1 rec.user) (text_if_loaded (users_heap texts) rec.method_def n) ≡ upto (suc n) 1 rec.user
   step_by n true e =
-      let found = h.texts.only n e in
-      let here : user_place texts found.1.text ≡ n = omega (arith, h.texts.tokens found.0 found.1 found.2, found.3) in
+      let found = h.can.texts.only n e in
+      let here : user_place texts found.1.text ≡ n = omega (arith, h.can.texts.tokens found.0 found.1 found.2, found.3) in
       let read : text_if_loaded (users_heap texts) rec.method_def n ≡ Some found.1 =
       if_loaded n e ∙ ap (user_text_at (users_heap texts)) (sym here) ∙ read_at found.0 found.1 found.2 in
       ap (and_text (upto n 1 rec.user)) read ∙ sym (upto_hit rec.user 1 found.0 found.1 n found.2 (sym here ∙ offset found.0 found.1 found.2))
   step_by n false e =
       let none : (k : ℕ) (t : UserText) → slice_get rec.user k ≡ Some t → n ≡ 1 + length (flat_map item_of (take k rec.user)) → ⊥ = λ k t f g.
-      let token : t.token ≡ user_token n = omega (arith, h.texts.tokens k t f, offset k t f, g) in
-      let loads : is_loaded rec.method_def (user_token n) ≡ true = rw (← token) (h.texts.loaded k t f) in
+      let token : t.token ≡ user_token n = omega (arith, h.can.texts.tokens k t f, offset k t f, g) in
+      let loads : is_loaded rec.method_def (user_token n) ≡ true = rw (← token) (h.can.texts.loaded k t f) in
       cc in
       ap (and_text (upto n 1 rec.user)) (if_not n e) ∙ sym (upto_miss rec.user 1 n none)
 

@@ -18,7 +18,7 @@ use Rattle.record_layout.specs.Values.{token_number, cell_in, row_cells}
 use Rattle.record_layout.specs.Tables.{values_of, cells_of}
 use Rattle.written_tables.specs.Written.{IsText}
 use Rattle.layout_laws.proofs.ColumnFits.{FitsValue, FitsRow}
-use Rattle.layout_laws.specs.CanBeLaid.{CanBeLaid}
+use Rattle.layout_laws.proofs.Within.{Within}
 use Rattle.layout_laws.proofs.RowsFit.{rows_fit}
 use Rattle.layout_laws.proofs.Lists.{mapped, element, rows_read}
 use Rattle.layout_laws.proofs.Tokens.{HoldsToken, token_again}
@@ -72,7 +72,7 @@ is_token rec c token h = absurd h
 
 -- ---- a record's rows
 
-module _ (m : List ℕ) (rec : AsmRec) (h : CanBeLaid rec) (reads : Reads m (cells_of rec)) where
+module _ (m : List ℕ) (rec : AsmRec) (h : Within rec) (reads : Reads m (cells_of rec)) where
   row_there : (t k : ℕ) (vs : List Value) → slice_get (get_or (values_of rec) t []) k ≡ Some vs → slice_get (get_or (cells_of rec) t []) k ≡ Some (row_cells (columns_of t) vs)
   row_there t k vs e = rw (table_cells rec t) (mapped (row_cells (columns_of t)) (get_or (values_of rec) t []) k vs e)
 

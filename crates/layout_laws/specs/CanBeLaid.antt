@@ -1,8 +1,7 @@
--- Which records can be laid out: those that are the record of the file that they are laid out in, where it isn't too long.
-use Rattle.std.specs.Prelude.{◌≡◌, ℕ, ◌<◌, ◌≤◌, ◌^◌, bit_and, [], length, map, get_or, None, IsTrue}
+-- Which records can be laid out: those that are the record of the file that they are laid out in, where it passes no limit.
+use Rattle.std.specs.Prelude.{◌≡◌, ℕ, ◌<◌, ◌≤◌, ◌^◌, bit_and, [], length, map, get_or, None}
 use Rattle.world_model.specs.declared.record.AsmRec.{AsmRec}
 use Rattle.world_model.specs.Records.{Each, IsRecord}
-use Rattle.file_layout.specs.Runs.{runs_have_spelling}
 use Rattle.record_layout.specs.Tables.{values_of, method_rvas, field_rvas}
 use Rattle.layout_laws.specs.Columns.{TableFits}
 use Rattle.layout_laws.specs.Parts.{SignaturesFit, MethodFits, DataFits, TextsFit}
@@ -26,8 +25,6 @@ pub record CanBeLaid (rec : AsmRec) : Type 0 where
   -- tokens name rows, runs follow one another, sorted tables are in order (II.22)
   pub is_record : IsRecord rec
   pub tables : (t : ℕ) → TableFits t (get_or (values_of rec) t [])
-  -- no run begins after the last of exactly 65535 rows
-  pub runs : IsTrue (runs_have_spelling rec)
   pub signatures : SignaturesFit rec
   pub methods : Each MethodFits rec.method_def
   pub field_data : Each (DataFits rec) rec.field_rva

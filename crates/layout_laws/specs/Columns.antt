@@ -1,10 +1,9 @@
 -- What a file can hold in the columns of a record's tables (II.22, II.24.2.6).
-use Rattle.std.specs.Prelude.{◌≡◌, ◌⊎◌, ℕ, ◌<◌, ◌≤◌, ◌^◌, List, [], ◌∷◌, length}
+use Rattle.std.specs.Prelude.{◌≡◌, ◌⊎◌, ℕ, ◌<◌, ◌^◌, List, [], ◌∷◌, length}
 use Rattle.cli_format.specs.declared.column.Column.{Column}
 use Rattle.cli_format.specs.declared.column.Column.TheVariants.{U8, U16, U32}
 use Rattle.cli_format.specs.declared.column.Column.TheVariants as column
 use Rattle.cli_format.specs.Columns.{columns_of}
-use Rattle.cli_format.specs.Metadata.{most_rows}
 use Rattle.world_model.specs.Records.{Each}
 use Rattle.record_layout.specs.declared.value.Value.{Value}
 use Rattle.record_layout.specs.declared.value.Value.TheVariants as value
@@ -28,7 +27,6 @@ abbrev pub FitsColumns : List Column → List Value → Type 0
 FitsColumns (c ∷ cs) (v ∷ vs) = FitsColumn c v × FitsColumns cs vs
 FitsColumns cs vs = Unit {0}
 
--- a table by its number
-pub record TableFits (t : ℕ) (rows : List (List Value)) : Type 0 where
-  pub few : length rows ≤ most_rows
-  pub fit : Each (FitsColumns (columns_of t)) rows
+-- the rows of a table by its number
+abbrev pub TableFits : ℕ → List (List Value) → Type 0
+TableFits t rows = Each (FitsColumns (columns_of t)) rows

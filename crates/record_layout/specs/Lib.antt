@@ -3,3 +3,4 @@ pub mod Rows
 pub mod Tables
 pub mod FieldData
 pub mod Laid
+pub mod Limits

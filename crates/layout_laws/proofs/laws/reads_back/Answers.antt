@@ -1,9 +1,10 @@
 -- A file that is laid out has the record that it is laid out from.
+use Rattle.layout_laws.proofs.Within.{within}
 use Rattle.layout_laws.proofs.DemandsHeld.{reads_back_by}
 use Rattle.layout_laws.proofs.laws.reads_back.Goals as goal
 
 pub returns : goal.returns
-returns c = reads_back_by (record {
+returns c rec can none = reads_back_by (record {
   images = c.images.ensures;
   metadata = c.metadata.ensures;
   tables = c.tables.ensures;
@@ -25,4 +26,4 @@ returns c = reads_back_by (record {
   local_values = c.values.ensures.locals;
   instance_values = c.values.ensures.instances;
   bodies = c.written_body_is_read.ensures;
-})
+}) rec (within rec can none)
