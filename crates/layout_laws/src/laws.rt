@@ -1,0 +1,31 @@
+ghost use Rattle.std.specs.Prelude.{◌≡◌, None};
+ghost use Rattle.world_model.specs.declared.record.AsmRec.{AsmRec};
+ghost use Rattle.record_format.specs.Record.{HasRecord};
+ghost use Rattle.record_layout.specs.Laid.{laid};
+ghost use Rattle.record_layout.specs.Limits.{limit_of};
+ghost use Rattle.layout_laws.specs.CanBeLaid.{CanBeLaid};
+
+use blob_grammar::laws::{fields, instances, locals, methods, properties, types, values};
+use body_grammar::written_body_is_read;
+use written_image::laws::{images, metadata};
+use written_tables::laws::{each_once, heaps, tables};
+
+/// A record that can be laid out is that of the file that it is laid out in, where that passes no limit: no table has more than
+/// 2^20 rows, no run begins after the last of exactly 65535, `#US` has at most 2^24 bytes, the file at most 2^28.
+pub fn reads_back()
+    ensures { (rec : AsmRec) → CanBeLaid rec → limit_of rec ≡ None → HasRecord (laid rec) rec }
+{
+    images();
+    metadata();
+    tables();
+    heaps();
+    each_once();
+    types();
+    methods();
+    properties();
+    fields();
+    locals();
+    instances();
+    values();
+    written_body_is_read();
+}

@@ -1,0 +1,42 @@
+-- What a row has in its columns, and the cells that it has there. A token is its row's number where a column is of one table,
+-- and a coded index where it is of several (II.24.2.6).
+use Rattle.std.specs.Prelude.{ℕ, suc, ◌%◌, List, [], ◌∷◌, map}
+use Rattle.cli_format.specs.declared.column.Column.{Column}
+use Rattle.cli_format.specs.declared.column.Column.TheVariants.{Index, IndexOrNone, Coded, CodedOrNone}
+use Rattle.cli_format.specs.Columns.{columns_of}
+use Rattle.cli_format.specs.Tokens.{coded_of}
+use Rattle.file_layout.specs.declared.cell.Cell.{Cell}
+use Rattle.file_layout.specs.declared.cell.Cell.TheVariants as cell
+use Rattle.file_layout.specs.Cells.{CellTables}
+use Rattle.record_layout.specs.declared.value.Value.{Value}
+use Rattle.record_layout.specs.declared.value.Value.TheVariants as value
+
+-- the number of a token in a column; the row is in its three low bytes
+abbrev pub token_number : Column → ℕ → ℕ
+token_number (Index t) token = token % 16777216
+token_number (IndexOrNone t) token = token % 16777216
+token_number (Coded index) token = coded_of index token
+token_number (CodedOrNone index) token = coded_of index token
+token_number _ token = token
+
+abbrev pub cell_in : Column → Value → Cell
+cell_in c (value.Number n) = cell.Number n
+cell_in c (value.Text t) = cell.Text t
+cell_in c (value.Blob b) = cell.Blob b
+cell_in c (value.Guid g) = cell.Guid g
+cell_in c (value.Token token) = cell.Number (token_number c token)
+
+-- a row, by the columns of its table
+unfoldable pub row_cells : List Column → List Value → List Cell
+row_cells [] values = []
+row_cells (c ∷ cs) [] = []
+row_cells (c ∷ cs) (v ∷ vs) = cell_in c v ∷ row_cells cs vs
+
+-- tables by their numbers, from 0; a row is its values
+abbrev pub ValueTables : Type 0
+ValueTables = List (List (List Value))
+
+-- the cells of tables, the first of which has this number
+unfoldable pub tables_cells : ℕ → ValueTables → CellTables
+tables_cells t [] = []
+tables_cells t (rows ∷ more) = map (row_cells (columns_of t)) rows ∷ tables_cells (suc t) more

@@ -1,0 +1,29 @@
+-- Which records have rows that can be written: each signature that has a reading has a spelling (II.23.2).
+use Rattle.std.specs.Prelude.{ℕ, List, All}
+use Rattle.il_base.specs.declared.sig.Sig.{Sig}
+use Rattle.il_base.specs.declared.sig.MethodSig.{MethodSig}
+use Rattle.blob_grammar.specs.Laws.{IsSpelled}
+use Rattle.blob_grammar.specs.Signatures.{levels, IsType, IsMethod, IsProperty, IsField, AreLocals, IsInstance}
+use Rattle.world_model.specs.declared.known.Known.{Known}
+use Rattle.world_model.specs.declared.known.Known.TheVariants.{Good, Bad}
+use Rattle.world_model.specs.declared.expr.MemberSig.{MemberSig}
+use Rattle.world_model.specs.declared.expr.MemberSig.TheVariants as member
+use Rattle.world_model.specs.declared.record.AsmRec.{AsmRec}
+
+-- it has no reading, or a spelling
+abbrev pub HasSpelling : {A : Type 0} → (A → List ℕ → Type 0) → Known A → Type 0
+HasSpelling grammar (Good x) = IsSpelled grammar x
+HasSpelling grammar (Bad why) = Unit {0}
+
+abbrev pub IsMember : MemberSig → List ℕ → Type 0
+IsMember (member.Method s) = IsMethod s
+IsMember (member.Field s) = IsField s
+
+pub record CanWriteRows (rec : AsmRec) : Type 0 where
+  pub fields : All (λ row. HasSpelling IsField row.signature) rec.field
+  pub methods : All (λ row. HasSpelling IsMethod row.signature) rec.method_def
+  pub members : All (λ row. HasSpelling IsMember row.signature) rec.member_ref
+  pub locals : All (λ row. HasSpelling AreLocals row.signature) rec.stand_alone_sig
+  pub properties : All (λ row. HasSpelling IsProperty row.signature) rec.property
+  pub types : All (λ row. HasSpelling (IsType levels) row.signature) rec.type_spec
+  pub instances : All (λ row. HasSpelling IsInstance row.instantiation) rec.method_spec

@@ -1,0 +1,194 @@
+//! Rows that hang on members.
+
+ghost use Rattle.il_base.specs.declared.table.TheConstants.{CONSTANT, CUSTOM_ATTRIBUTE, FIELD_MARSHAL, DECL_SECURITY, FIELD_LAYOUT, IMPL_MAP, FIELD_RVA, FILE, MANIFEST_RESOURCE};
+ghost use Rattle.record_layout.specs.Rows as layout;
+
+use crate::placed::Placed;
+use crate::row::{Row, blob, listed, text};
+use il_base::{NoMemory, Seq, table};
+use record_layout::Value;
+use std::alloc::Global;
+use world_model::{
+    ConstantRow, CustomAttributeRow, DeclSecurityRow, FieldLayoutRow, FieldMarshalRow, FieldRvaRow,
+    FileRow, ImplMapRow, ManifestResourceRow,
+};
+
+/// Constant (II.22.9).
+impl Row for ConstantRow {
+    const TABLE: u8 = table::CONSTANT as u8;
+
+    ghost TABLE = { CONSTANT };
+
+    ghost values_of = { layout.constant_values };
+
+    ghost CanWrite = { λ _. Unit {0} };
+
+    fn values(&self, alloc: Global) -> Result<Seq<Value>, NoMemory> {
+        let value = blob(alloc, &self.value)?;
+        listed(
+            alloc,
+            [
+                Value::Number(u32::from(self.kind)),
+                Value::Number(0),
+                Value::Token(self.parent),
+                value,
+            ],
+        )
+    }
+}
+
+/// CustomAttribute (II.22.10).
+impl Row for CustomAttributeRow {
+    const TABLE: u8 = table::CUSTOM_ATTRIBUTE as u8;
+
+    ghost TABLE = { CUSTOM_ATTRIBUTE };
+
+    ghost values_of = { layout.custom_attribute_values };
+
+    ghost CanWrite = { λ _. Unit {0} };
+
+    fn values(&self, alloc: Global) -> Result<Seq<Value>, NoMemory> {
+        let value = blob(alloc, &self.value)?;
+        listed(
+            alloc,
+            [Value::Token(self.parent), Value::Token(self.ctor), value],
+        )
+    }
+}
+
+/// FieldMarshal (II.22.17).
+impl Row for FieldMarshalRow {
+    const TABLE: u8 = table::FIELD_MARSHAL as u8;
+
+    ghost TABLE = { FIELD_MARSHAL };
+
+    ghost values_of = { layout.field_marshal_values };
+
+    ghost CanWrite = { λ _. Unit {0} };
+
+    fn values(&self, alloc: Global) -> Result<Seq<Value>, NoMemory> {
+        let native_type = blob(alloc, &self.native_type)?;
+        listed(alloc, [Value::Token(self.parent), native_type])
+    }
+}
+
+/// DeclSecurity (II.22.11).
+impl Row for DeclSecurityRow {
+    const TABLE: u8 = table::DECL_SECURITY as u8;
+
+    ghost TABLE = { DECL_SECURITY };
+
+    ghost values_of = { layout.decl_security_values };
+
+    ghost CanWrite = { λ _. Unit {0} };
+
+    fn values(&self, alloc: Global) -> Result<Seq<Value>, NoMemory> {
+        let permission_set = blob(alloc, &self.permission_set)?;
+        listed(
+            alloc,
+            [
+                Value::Number(u32::from(self.action)),
+                Value::Token(self.parent),
+                permission_set,
+            ],
+        )
+    }
+}
+
+/// FieldLayout (II.22.16).
+impl Row for FieldLayoutRow {
+    const TABLE: u8 = table::FIELD_LAYOUT as u8;
+
+    ghost TABLE = { FIELD_LAYOUT };
+
+    ghost values_of = { layout.field_layout_values };
+
+    ghost CanWrite = { λ _. Unit {0} };
+
+    fn values(&self, alloc: Global) -> Result<Seq<Value>, NoMemory> {
+        listed(
+            alloc,
+            [Value::Number(self.offset), Value::Token(self.field)],
+        )
+    }
+}
+
+/// ImplMap (II.22.22).
+impl Row for ImplMapRow {
+    const TABLE: u8 = table::IMPL_MAP as u8;
+
+    ghost TABLE = { IMPL_MAP };
+
+    ghost values_of = { layout.impl_map_values };
+
+    ghost CanWrite = { λ _. Unit {0} };
+
+    fn values(&self, alloc: Global) -> Result<Seq<Value>, NoMemory> {
+        let import_name = text(alloc, &self.import_name)?;
+        listed(
+            alloc,
+            [
+                Value::Number(u32::from(self.mapping_flags)),
+                Value::Token(self.member_forwarded),
+                import_name,
+                Value::Token(self.import_scope),
+            ],
+        )
+    }
+}
+
+/// FieldRVA (II.22.18).
+impl Placed for FieldRvaRow {
+    const TABLE: u8 = table::FIELD_RVA as u8;
+
+    ghost TABLE = { FIELD_RVA };
+
+    ghost values_of = { layout.field_rva_values };
+
+    ghost CanWrite = { λ _. Unit {0} };
+
+    fn values(&self, alloc: Global, rva: u32) -> Result<Seq<Value>, NoMemory> {
+        listed(alloc, [Value::Number(rva), Value::Token(self.field)])
+    }
+}
+
+/// File (II.22.19).
+impl Row for FileRow {
+    const TABLE: u8 = table::FILE as u8;
+
+    ghost TABLE = { FILE };
+
+    ghost values_of = { layout.file_values };
+
+    ghost CanWrite = { λ _. Unit {0} };
+
+    fn values(&self, alloc: Global) -> Result<Seq<Value>, NoMemory> {
+        let name = text(alloc, &self.name)?;
+        let hash_value = blob(alloc, &self.hash_value)?;
+        listed(alloc, [Value::Number(self.flags), name, hash_value])
+    }
+}
+
+/// ManifestResource (II.22.24).
+impl Row for ManifestResourceRow {
+    const TABLE: u8 = table::MANIFEST_RESOURCE as u8;
+
+    ghost TABLE = { MANIFEST_RESOURCE };
+
+    ghost values_of = { layout.manifest_resource_values };
+
+    ghost CanWrite = { λ _. Unit {0} };
+
+    fn values(&self, alloc: Global) -> Result<Seq<Value>, NoMemory> {
+        let name = text(alloc, &self.name)?;
+        listed(
+            alloc,
+            [
+                Value::Number(self.offset),
+                Value::Number(self.flags),
+                name,
+                Value::Token(self.implementation),
+            ],
+        )
+    }
+}

@@ -1,0 +1,54 @@
+//! Rows that have an address: methods with bodies, and the bytes of fields.
+
+ghost use Rattle.std.specs.Prelude.{◌≡◌, ℕ, List, map, All, IfOk};
+ghost use Rattle.cli_format.specs.Columns.{columns_of};
+ghost use Rattle.record_layout.specs.declared.value.Value.{Value};
+ghost use Rattle.record_layout.specs.Tables.{with_rvas};
+ghost use Rattle.record_layout.specs.Values as layout;
+
+use crate::cells::row_cells;
+use cli_format::columns;
+use file_layout::Cell;
+use il_base::{NoMemory, Seq};
+use record_layout::Value;
+use std::alloc::Global;
+
+/// A row of a table that is written with an address.
+pub trait Placed {
+    /// The table's number.
+    const TABLE: u8;
+
+    ghost TABLE: { ℕ };
+
+    ghost values_of: { ℕ → Self → List Value };
+
+    ghost CanWrite: { Self → Type 0 };
+
+    /// The row's values, in the order of its columns, with an address in the image.
+    fn values(&self, alloc: Global, rva: u32) -> Result<Seq<Value>, NoMemory>
+        requires { CanWrite self.now }
+        ensures { IfOk result (λ values. values ≡ values_of rva self.now) };
+}
+
+/// The rows of a table as cells, each with its address.
+#[tactic(auto, unfolding(record_layout::specs::Tables::with_rvas))]
+pub fn placed_table<R: Placed>(
+    alloc: Global,
+    rvas: &[u32],
+    rows: &[R],
+) -> Result<Seq<Seq<Cell>>, NoMemory>
+    requires { All R.CanWrite rows.now }
+    ensures { IfOk result (λ cells. cells ≡ map (layout.row_cells (columns_of R.TABLE)) (with_rvas R.values_of rvas.now rows.now)) }
+{
+    let mut cells = Seq::new(alloc);
+    for (i, row) in rows.iter().enumerate() {
+        match rvas.get(i) {
+            None => return Ok(cells),
+            Some(rva) => {
+                let values = row.values(alloc, *rva)?;
+                cells.push(row_cells(alloc, columns(R::TABLE), values)?)?;
+            }
+        }
+    }
+    Ok(cells)
+}
