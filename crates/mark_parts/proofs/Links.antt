@@ -1,0 +1,19 @@
+-- What links tell of the tokens of an assembly.
+use Rattle.std.proofs.Common.{◌≡◌, ℕ, List, Some, sym, subst}
+use Rattle.std.specs.Prelude.{slice_get}
+use Rattle.world_model.specs.declared.record.AsmRec.{AsmRec}
+use Rattle.world_model.specs.declared.world.World.{World}
+use Rattle.world_model.specs.Worlds.{known_or, method_at, field_at}
+use Rattle.link_rules.specs.Linked.{IsWorld}
+use Rattle.mark_rules.specs.Naming.{method_named, field_named}
+use Rattle.world_laws.specs.Tokens.{InWorlds, NamesMethods, NamesFields}
+
+pub method_by_links : (w : World) (recs : List AsmRec) (a : ℕ) (rec : AsmRec) (token : ℕ) → InWorlds NamesMethods → IsWorld w → recs ≡ w.recs → slice_get recs a ≡ Some rec
+    → known_or (method_at w a token) ≡ method_named recs a rec token
+method_by_links w recs a rec token law is same here =
+    subst (λ (rs : List AsmRec). known_or (method_at w a token) ≡ method_named rs a rec token) (sym same) (law w is a rec (subst (λ (rs : List AsmRec). slice_get rs a ≡ Some rec) same here) token)
+
+pub field_by_links : (w : World) (recs : List AsmRec) (a : ℕ) (rec : AsmRec) (token : ℕ) → InWorlds NamesFields → IsWorld w → recs ≡ w.recs → slice_get recs a ≡ Some rec
+    → known_or (field_at w a token) ≡ field_named recs a rec token
+field_by_links w recs a rec token law is same here =
+    subst (λ (rs : List AsmRec). known_or (field_at w a token) ≡ field_named rs a rec token) (sym same) (law w is a rec (subst (λ (rs : List AsmRec). slice_get rs a ≡ Some rec) same here) token)

@@ -1,0 +1,11 @@
+use Rattle.std.proofs.Common.{ap, ◌∙◌}
+use Rattle.world_model.specs.Worlds.{known_or}
+use Rattle.mark_tables.specs.Assemblies.{recs_of, place_of, rec_of}
+use Rattle.mark_parts.proofs.Links.{field_by_links}
+use Rattle.mark_parts.proofs.tokens.field_link.Goals as goal
+
+pub returns : goal.returns
+returns c =
+    let asm = c.args.asm.now in
+    ap known_or c.field_at.ensures
+    ∙ field_by_links asm.world.now (recs_of asm) (place_of asm) (rec_of asm) c.args.token c.tokens_named.ensures.fields c.requires.world c.requires.recs c.requires.scope.here

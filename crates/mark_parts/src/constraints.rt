@@ -1,0 +1,108 @@
+//! The constraints of generic parameters (II.22.20, II.22.21).
+
+ghost use Rattle.std.specs.Prelude.{◌≡◌, ◌++◌, [], suc, slice_get, OnOk};
+ghost use Rattle.std.specs.List.{flat_map};
+ghost use Rattle.std.specs.Option.{option_map_or};
+ghost use Rattle.mark_rules.specs.Types.{constraint_of, constraints_of};
+ghost use Rattle.world_model.specs.Tokens.{token_of};
+ghost use Rattle.type_rules.specs.Rows.{each_row};
+ghost use Rattle.mark_tables.specs.Assemblies.{recs_of, place_of, rec_of, IsAssembly};
+ghost use Rattle.mark_parts.specs.Constraints.{constraint_part, param_part};
+
+use crate::tokens::add_type_token;
+use il_base::NoMemory;
+use mark_facts::parts::Parts;
+use mark_tables::assembly::Assembly;
+use member_search::params::token_of;
+use std::alloc::Global;
+
+/// Puts what a row of GenericParamConstraint, from 0, names at the end.
+fn add_constraint(
+    alloc: Global,
+    asm: &Assembly<'_>,
+    k: u32,
+    parts: &mut Parts,
+) -> Result<(), NoMemory>
+    requires { IsAssembly asm.now }
+    ensures { OnOk result (parts.new ≡ parts.old ++ option_map_or (constraint_part (recs_of asm.now) (place_of asm.now) (rec_of asm.now) k) (slice_get (rec_of asm.now).generic_param_constraint k) []) }
+{
+    let Some(row) = asm.scope.rec.generic_param_constraint.get(k as usize) else {
+        return Ok(());
+    };
+    let token = token_of(0x2c, k as usize)?;
+    add_type_token(alloc, asm, token, 0, row.constraint, parts)
+}
+
+/// Puts what rows of GenericParamConstraint, from 0, name at the end.
+fn add_constraint_rows(
+    alloc: Global,
+    asm: &Assembly<'_>,
+    rows: &[u32],
+    parts: &mut Parts,
+) -> Result<(), NoMemory>
+    requires { IsAssembly asm.now }
+    ensures { OnOk result (parts.new ≡ parts.old ++ flat_map (λ k. option_map_or (constraint_part (recs_of asm.now) (place_of asm.now) (rec_of asm.now) k) (slice_get (rec_of asm.now).generic_param_constraint k) []) rows.now) }
+{
+    for k in rows {
+        add_constraint(alloc, asm, *k, parts)?;
+    }
+    Ok(())
+}
+
+/// Puts the constraints that belong to a row of GenericParam, from 0, at the end.
+fn add_constraints_at(
+    alloc: Global,
+    asm: &Assembly<'_>,
+    k: u32,
+    parts: &mut Parts,
+) -> Result<(), NoMemory>
+    requires { IsAssembly asm.now }
+    ensures { OnOk result (parts.new ≡ parts.old ++ each_row (constraint_of (recs_of asm.now) (place_of asm.now) (rec_of asm.now) (token_of 0x2a (suc k))) (rec_of asm.now).generic_param_constraint) }
+{
+    let token = token_of(0x2a, k as usize)?;
+    let rows = asm.owners.constraints.rows_with(token);
+    add_constraint_rows(alloc, asm, rows, parts)?;
+    Ok(())
+}
+
+/// Puts the constraints of a row of GenericParam, from 0, at the end.
+fn add_param(alloc: Global, asm: &Assembly<'_>, k: u32, parts: &mut Parts) -> Result<(), NoMemory>
+    requires { IsAssembly asm.now }
+    ensures { OnOk result (parts.new ≡ parts.old ++ option_map_or (param_part (recs_of asm.now) (place_of asm.now) (rec_of asm.now) k) (slice_get (rec_of asm.now).generic_param k) []) }
+{
+    match asm.scope.rec.generic_param.get(k as usize) {
+        Some(_row) => add_constraints_at(alloc, asm, k, parts),
+        None => Ok(()),
+    }
+}
+
+/// Puts the constraints of rows of GenericParam, from 0, at the end.
+fn add_param_rows(
+    alloc: Global,
+    asm: &Assembly<'_>,
+    rows: &[u32],
+    parts: &mut Parts,
+) -> Result<(), NoMemory>
+    requires { IsAssembly asm.now }
+    ensures { OnOk result (parts.new ≡ parts.old ++ flat_map (λ k. option_map_or (param_part (recs_of asm.now) (place_of asm.now) (rec_of asm.now) k) (slice_get (rec_of asm.now).generic_param k) []) rows.now) }
+{
+    for k in rows {
+        add_param(alloc, asm, *k, parts)?;
+    }
+    Ok(())
+}
+
+/// Puts the constraints of the generic parameters of a type or a method, by its token, at the end.
+pub fn add_constraints(
+    alloc: Global,
+    asm: &Assembly<'_>,
+    owner: u32,
+    parts: &mut Parts,
+) -> Result<(), NoMemory>
+    requires { IsAssembly asm.now }
+    ensures { OnOk result (parts.new ≡ parts.old ++ constraints_of (recs_of asm.now) (place_of asm.now) (rec_of asm.now) owner) }
+{
+    let rows = asm.owners.params.rows_with(owner);
+    add_param_rows(alloc, asm, rows, parts)?;
+    Ok(())
+}

@@ -1,0 +1,11 @@
+//! The parts of items: what a signature, a body, a base, a constraint or an interface row names. What goes in is an assembly
+//! with what is made of it (`mark_tables`) and a row; what comes out are the parts that `mark_rules` lists.
+#![tactic(auto)]
+
+pub mod bodies;
+pub mod constraints;
+pub mod forms;
+pub mod items;
+pub mod methods;
+pub mod sigs;
+pub mod tokens;

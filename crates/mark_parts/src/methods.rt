@@ -1,0 +1,137 @@
+//! The parts of a method.
+
+ghost use Rattle.std.specs.Prelude.{◌≡◌, ◌++◌, OnOk};
+ghost use Rattle.std.specs.List.{flat_map};
+ghost use Rattle.link_rules.specs.Types.{at_row};
+ghost use Rattle.mark_rules.specs.Bodies.{is_read, code_parts, body_parts, body_of};
+ghost use Rattle.mark_rules.specs.Calls.{row_parts, uncaught_row_parts, parts_of_method, uncaught_parts};
+ghost use Rattle.mark_tables.specs.Assemblies.{recs_of, place_of, rec_of, all_of, IsAssembly, IsMarker};
+ghost use Rattle.mark_parts.specs.Items.{head_parts, some_body_parts};
+
+use crate::bodies::{add_body, add_code};
+use crate::constraints::add_constraints;
+use crate::sigs::add_method_sig;
+use il_base::{MethodSig, NoMemory};
+use link_rules::RowAt;
+use mark_facts::parts::Parts;
+use mark_tables::assembly::Assembly;
+use mark_tables::marker::Marker;
+use member_search::params::token_of;
+use std::alloc::Global;
+use world_model::{Known, MethodDefRow};
+
+/// Whether the catch types of a body are among its parts.
+#[derive(Clone, Copy, Debug, PartialEq, Eq)]
+pub enum Caught {
+    Named,
+    Left,
+}
+
+/// Whether a signature has a reading.
+pub fn is_read(sig: &Known<MethodSig>) -> bool
+    ensures { result ≡ is_read sig.now }
+{
+    match sig {
+        Known::Good(_) => true,
+        Known::Bad(_) => false,
+    }
+}
+
+/// Puts what a method's signature and constraints name at the end.
+#[tactic(auto, using(crate::proofs::Lists::two_put, crate::proofs::Lists::none_more))]
+fn add_head(
+    alloc: Global,
+    asm: &Assembly<'_>,
+    row: u32,
+    m: &MethodDefRow,
+    parts: &mut Parts,
+) -> Result<(), NoMemory>
+    requires { IsAssembly asm.now }
+    ensures { OnOk result (parts.new ≡ parts.old ++ head_parts (recs_of asm.now) (place_of asm.now) (rec_of asm.now) row m.now) }
+{
+    add_method_sig(alloc, asm, row, &m.signature, parts)?;
+    add_constraints(alloc, asm, row, parts)
+}
+
+/// Puts what a method's body names at the end.
+fn add_some_body(
+    alloc: Global,
+    asm: &Assembly<'_>,
+    row: u32,
+    caught: Caught,
+    m: &MethodDefRow,
+    parts: &mut Parts,
+) -> Result<(), NoMemory>
+    requires { IsAssembly asm.now }
+    ensures { OnOk result (parts.new ≡ parts.old ++ some_body_parts (recs_of asm.now) (place_of asm.now) (rec_of asm.now) row caught m.now) }
+{
+    let read = is_read(&m.signature);
+    match &m.body {
+        None => Ok(()),
+        Some(Known::Bad(_)) => Ok(()),
+        Some(Known::Good(body)) => match caught {
+            Caught::Named => add_body(alloc, asm, row, read, body, parts),
+            Caught::Left => add_code(alloc, asm, row, read, body, parts),
+        },
+    }
+}
+
+/// Puts the parts of a method's row at the end.
+#[tactic(auto, using(crate::proofs::Lists::two_put, crate::proofs::Lists::none_more))]
+fn add_row(
+    alloc: Global,
+    asm: &Assembly<'_>,
+    row: u32,
+    caught: Caught,
+    m: &MethodDefRow,
+    parts: &mut Parts,
+) -> Result<(), NoMemory>
+    requires { IsAssembly asm.now }
+    ensures { OnOk result (parts.new ≡ parts.old ++ (head_parts (recs_of asm.now) (place_of asm.now) (rec_of asm.now) row m.now ++ some_body_parts (recs_of asm.now) (place_of asm.now) (rec_of asm.now) row caught m.now)) }
+{
+    add_head(alloc, asm, row, m, parts)?;
+    add_some_body(alloc, asm, row, caught, m, parts)
+}
+
+/// Puts the parts of a method at the end: its signature, the constraints of its parameters, its locals, what each operand
+/// names, and the types that it catches. A row that isn't there has none.
+#[tactic(auto, unfolding(mark_rules::specs::Calls::parts_of_method), using(crate::proofs::Lists::none_more))]
+pub fn add_parts_of_method(
+    alloc: Global,
+    marker: &Marker<'_>,
+    at: RowAt,
+    parts: &mut Parts,
+) -> Result<(), NoMemory>
+    requires { IsMarker marker.now }
+    ensures { OnOk result (parts.new ≡ parts.old ++ parts_of_method (all_of marker.now) at) }
+{
+    let Some(asm) = marker.assembly_at(at.asm) else {
+        return Ok(());
+    };
+    let Some(m) = asm.scope.rec.method_def.get(at.row as usize) else {
+        return Ok(());
+    };
+    let row = token_of(0x06, at.row as usize)?;
+    add_row(alloc, &asm, row, Caught::Named, m, parts)
+}
+
+/// Puts the parts of a method but the types that it catches at the end.
+#[tactic(auto, unfolding(mark_rules::specs::Calls::uncaught_parts), using(crate::proofs::Lists::none_more))]
+pub fn add_uncaught_parts(
+    alloc: Global,
+    marker: &Marker<'_>,
+    at: RowAt,
+    parts: &mut Parts,
+) -> Result<(), NoMemory>
+    requires { IsMarker marker.now }
+    ensures { OnOk result (parts.new ≡ parts.old ++ uncaught_parts (all_of marker.now) at) }
+{
+    let Some(asm) = marker.assembly_at(at.asm) else {
+        return Ok(());
+    };
+    let Some(m) = asm.scope.rec.method_def.get(at.row as usize) else {
+        return Ok(());
+    };
+    let row = token_of(0x06, at.row as usize)?;
+    add_row(alloc, &asm, row, Caught::Left, m, parts)
+}
