@@ -1,0 +1,10 @@
+pub mod Contested
+pub mod Firsts
+pub mod Freeing
+pub mod Items
+pub mod Olds
+pub mod Planned
+pub mod Ranging
+pub mod Ranking
+pub mod Named
+pub mod Taking

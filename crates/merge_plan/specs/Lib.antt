@@ -1,0 +1,9 @@
+pub mod Contests
+pub mod Kept
+pub mod Keys
+pub mod OldNames
+pub mod Plans
+pub mod Ranks
+pub mod Renamed
+pub mod Rivals
+pub mod Taken

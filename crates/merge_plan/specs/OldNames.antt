@@ -1,0 +1,13 @@
+-- Types with their full names in the inputs.
+use Rattle.std.specs.Prelude.{◌≡◌, List, map}
+use Rattle.world_model.specs.declared.record.AsmRec.{AsmRec}
+use Rattle.link_rules.specs.declared.row_at.RowAt.{RowAt}
+use Rattle.merge_rules.specs.Names.{old_name}
+use Rattle.merge_plan.specs.declared.full_names.OldName.{OldName}
+
+abbrev pub types_of : List OldName → List RowAt
+types_of old = map (λ (o : OldName). o.typ) old
+
+-- each has the full name that its row has
+pub record AreOldNames (recs : List AsmRec) (old : List OldName) : Type 0 where
+  pub are : map (λ (o : OldName). o.full.items) old ≡ map (λ (o : OldName). old_name recs o.typ) old

@@ -1,0 +1,6 @@
+-- Types with their new names.
+use Rattle.merge_rules.specs.Names.{NewName}
+use Rattle.merge_plan.specs.declared.new_names.Renamed.{Renamed}
+
+abbrev pub new_name : Renamed → NewName
+new_name r = record { typ = r.typ; name = r.name }

@@ -1,0 +1,14 @@
+-- Full names that are taken: the old ones of kept top-level types, and the new ones.
+use Rattle.std.specs.Prelude.{◌≡◌, ℕ, Bool, List, bytes_eq}
+use Rattle.std.specs.List.{list_any}
+use Rattle.world_model.specs.declared.record.AsmRec.{AsmRec}
+use Rattle.link_rules.specs.declared.row_at.RowAt.{RowAt}
+use Rattle.merge_rules.specs.Names.{NewName, has_name}
+use Rattle.merge_plan.specs.declared.taken.Taken.{Taken}
+
+abbrev pub has_in : Taken → List ℕ → Bool
+has_in taken name = list_any (λ other. bytes_eq name other.items) taken.names.keys
+
+-- they are those of these kept types, and those of these new names
+abbrev pub AreTaken : List AsmRec → List RowAt → List NewName → Taken → Type 0
+AreTaken recs kept names taken = (full : List ℕ) → has_in taken full ≡ has_name recs kept names full

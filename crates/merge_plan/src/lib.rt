@@ -1,0 +1,21 @@
+//! What a merge keeps, and under which names: the rows of kept items in the order of the output, their new numbers, the new
+//! names of types, or the first collision of two names. `merge_rules` defines each.
+#![tactic(auto)]
+
+mod contests;
+mod full_names;
+mod kept;
+mod keys;
+mod new_names;
+mod numbers;
+pub mod outcome;
+mod planning;
+mod ranks;
+mod rivals;
+mod rows;
+mod taken;
+
+pub use kept::{KeptItems, Kind};
+pub use numbers::Numbers;
+pub use planning::plan;
+pub use rows::{inputs, is_kept, kept_rows, push_run, rows_of_kind};

@@ -1,0 +1,2 @@
+pub mod SigLayers
+pub mod Telling

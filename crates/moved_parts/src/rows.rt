@@ -1,0 +1,100 @@
+//! Rows of members with new tokens, without the flags that say that a row is named in a table that isn't written.
+
+ghost use Rattle.std.specs.Prelude.{◌≡◌, IfOk};
+ghost use Rattle.merge_rules.specs.Moved.{moved_param_row};
+ghost use Rattle.moved_parts.specs.Moves.{event_by, field_by, method_by, property_by};
+
+use crate::code::moved_known_body;
+use crate::sigs::{moved_known_sig, moved_method_sig};
+use crate::tokens::NewTokens;
+use il_base::{NoMemory, Seq, field_flags, method_flags, param_flags};
+use std::alloc::Global;
+use world_model::{AsmRec, EventRow, FieldRow, MethodDefRow, ParamRow, PropertyRow};
+
+/// A Field row (II.22.15).
+pub fn moved_field(alloc: Global, tokens: &NewTokens, row: &FieldRow) -> Result<FieldRow, NoMemory>
+    ensures { IfOk result (λ f. f ≡ field_by tokens.now row.now) }
+{
+    let name = Seq::from_slice(alloc, row.name.as_slice())?;
+    let signature = moved_known_sig(alloc, tokens, &row.signature)?;
+    Ok(FieldRow {
+        flags: row
+            .flags
+            .saturating_sub(row.flags & field_flags::HAS_FIELD_MARSHAL),
+        name,
+        signature,
+    })
+}
+
+/// A MethodDef row (II.22.26) of an assembly, with a run of parameters from a row to another, both from 1. It has no address
+/// yet.
+pub fn moved_method(
+    alloc: Global,
+    rec: &AsmRec,
+    tokens: &NewTokens,
+    first: u32,
+    end: u32,
+    row: &MethodDefRow,
+) -> Result<MethodDefRow, NoMemory>
+    ensures { IfOk result (λ m. m ≡ method_by tokens.now rec.now first end row.now) }
+{
+    let name = Seq::from_slice(alloc, row.name.as_slice())?;
+    let signature = moved_method_sig(alloc, tokens, &row.signature)?;
+    let body = moved_known_body(alloc, rec, tokens, &row.body)?;
+    Ok(MethodDefRow {
+        rva: 0,
+        impl_flags: row.impl_flags,
+        flags: row
+            .flags
+            .saturating_sub(row.flags & method_flags::HAS_SECURITY),
+        name,
+        signature,
+        param_list_first: first,
+        param_list_end: end,
+        body,
+        bad_at: 0,
+    })
+}
+
+/// A Param row (II.22.33).
+pub fn moved_param(alloc: Global, row: &ParamRow) -> Result<ParamRow, NoMemory>
+    ensures { IfOk result (λ p. p ≡ moved_param_row row.now) }
+{
+    let name = Seq::from_slice(alloc, row.name.as_slice())?;
+    Ok(ParamRow {
+        flags: row
+            .flags
+            .saturating_sub(row.flags & param_flags::HAS_FIELD_MARSHAL),
+        sequence: row.sequence,
+        name,
+    })
+}
+
+/// A Property row (II.22.34).
+pub fn moved_property(
+    alloc: Global,
+    tokens: &NewTokens,
+    row: &PropertyRow,
+) -> Result<PropertyRow, NoMemory>
+    ensures { IfOk result (λ p. p ≡ property_by tokens.now row.now) }
+{
+    let name = Seq::from_slice(alloc, row.name.as_slice())?;
+    let signature = moved_method_sig(alloc, tokens, &row.signature)?;
+    Ok(PropertyRow {
+        flags: row.flags,
+        name,
+        signature,
+    })
+}
+
+/// An Event row (II.22.13).
+pub fn moved_event(alloc: Global, tokens: &NewTokens, row: &EventRow) -> Result<EventRow, NoMemory>
+    ensures { IfOk result (λ e. e ≡ event_by tokens.now row.now) }
+{
+    let name = Seq::from_slice(alloc, row.name.as_slice())?;
+    Ok(EventRow {
+        event_flags: row.event_flags,
+        name,
+        event_type: tokens.types.get(row.event_type),
+    })
+}
