@@ -1,0 +1,4 @@
+pub mod Carrying
+pub mod Facts
+pub mod Laws
+pub mod Found

@@ -1,0 +1,13 @@
+//! Which sources reach which slots of a body. What the instructions do with sources goes in (`Flowing`); out comes the set of
+//! all that is carried, as `specs/Carrying` defines it by walks of one source.
+#![tactic(auto)]
+
+mod facts;
+mod moves;
+mod pairs;
+#[cfg(test)]
+mod tests;
+mod walks;
+
+pub use moves::{Flowing, Move, Turning};
+pub use walks::Reached;
