@@ -1,7 +1,5 @@
 -- Which records have rows that can be written: each signature that has a reading has a spelling (II.23.2).
 use Rattle.std.specs.Prelude.{ℕ, List, All}
-use Rattle.il_base.specs.declared.sig.Sig.{Sig}
-use Rattle.il_base.specs.declared.sig.MethodSig.{MethodSig}
 use Rattle.blob_grammar.specs.Laws.{IsSpelled}
 use Rattle.blob_grammar.specs.Signatures.{levels, IsType, IsMethod, IsProperty, IsField, AreLocals, IsInstance}
 use Rattle.world_model.specs.declared.known.Known.{Known}
@@ -15,14 +13,15 @@ abbrev pub HasSpelling : {A : Type 0} → (A → List ℕ → Type 0) → Known 
 HasSpelling grammar (Good x) = IsSpelled grammar x
 HasSpelling grammar (Bad why) = Unit {0}
 
-abbrev pub IsMember : MemberSig → List ℕ → Type 0
-IsMember (member.Method s) = IsMethod s
-IsMember (member.Field s) = IsField s
+abbrev pub HasMemberSpelling : Known MemberSig → Type 0
+HasMemberSpelling (Good (member.Method s)) = IsSpelled IsMethod s
+HasMemberSpelling (Good (member.Field s)) = IsSpelled IsField s
+HasMemberSpelling (Bad why) = Unit {0}
 
 pub record CanWriteRows (rec : AsmRec) : Type 0 where
   pub fields : All (λ row. HasSpelling IsField row.signature) rec.field
   pub methods : All (λ row. HasSpelling IsMethod row.signature) rec.method_def
-  pub members : All (λ row. HasSpelling IsMember row.signature) rec.member_ref
+  pub members : All (λ row. HasMemberSpelling row.signature) rec.member_ref
   pub locals : All (λ row. HasSpelling AreLocals row.signature) rec.stand_alone_sig
   pub properties : All (λ row. HasSpelling IsProperty row.signature) rec.property
   pub types : All (λ row. HasSpelling (IsType levels) row.signature) rec.type_spec

@@ -51,10 +51,14 @@ pub fn row_cells(
     ensures { IfOk result (λ cells. cells ≡ layout.row_cells columns.now values) }
 {
     let mut cells = Seq::new(alloc);
-    for (i, value) in values.into_vec().into_iter().enumerate() {
-        match columns.get(i) {
-            None => return Ok(cells),
-            Some(column) => cells.push(cell_in(*column, value))?,
+    let mut rest = columns;
+    for value in values.into_vec() {
+        match rest {
+            [] => {}
+            [column, more @ ..] => {
+                cells.push(cell_in(*column, value))?;
+                rest = more;
+            }
         }
     }
     Ok(cells)

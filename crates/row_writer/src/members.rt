@@ -2,7 +2,7 @@
 
 ghost use Rattle.il_base.specs.declared.table.TheConstants.{FIELD, METHOD_DEF, PARAM, MEMBER_REF, STAND_ALONE_SIG, EVENT_MAP, EVENT, PROPERTY_MAP, PROPERTY, METHOD_SEMANTICS, METHOD_IMPL, METHOD_SPEC};
 ghost use Rattle.blob_grammar.specs.Signatures.{AreLocals, IsField, IsInstance, IsMethod, IsProperty};
-ghost use Rattle.row_writer.specs.CanWrite.{HasSpelling, IsMember};
+ghost use Rattle.row_writer.specs.CanWrite.{HasSpelling, HasMemberSpelling};
 ghost use Rattle.record_layout.specs.Rows as layout;
 
 use crate::placed::Placed;
@@ -94,7 +94,7 @@ impl Row for MemberRefRow {
 
     ghost values_of = { layout.member_ref_values };
 
-    ghost CanWrite = { λ row. HasSpelling IsMember row.signature };
+    ghost CanWrite = { λ row. HasMemberSpelling row.signature };
 
     fn values(&self, alloc: Global) -> Result<Seq<Value>, NoMemory> {
         let name = text(alloc, &self.name)?;

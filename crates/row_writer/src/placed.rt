@@ -41,12 +41,14 @@ pub fn placed_table<R: Placed>(
     ensures { IfOk result (λ cells. cells ≡ map (layout.row_cells (columns_of R.TABLE)) (with_rvas R.values_of rvas.now rows.now)) }
 {
     let mut cells = Seq::new(alloc);
-    for (i, row) in rows.iter().enumerate() {
-        match rvas.get(i) {
-            None => return Ok(cells),
-            Some(rva) => {
+    let mut rest = rvas;
+    for row in rows {
+        match rest {
+            [] => {}
+            [rva, more @ ..] => {
                 let values = row.values(alloc, *rva)?;
                 cells.push(row_cells(alloc, columns(R::TABLE), values)?)?;
+                rest = more;
             }
         }
     }

@@ -7,7 +7,7 @@ ghost use Rattle.blob_grammar.specs.Signatures as spell;
 ghost use Rattle.file_layout.specs.Rows.{method_blob, member_blob, locals_blob};
 ghost use Rattle.record_layout.specs.Rows.{field_blob, property_blob, type_blob, instance_blob};
 ghost use Rattle.record_layout.specs.declared.value.Value.TheVariants as value;
-ghost use Rattle.row_writer.specs.CanWrite.{HasSpelling, IsMember};
+ghost use Rattle.row_writer.specs.CanWrite.{HasSpelling, HasMemberSpelling};
 
 use il_base::{MethodSig, NoMemory, Seq, Sig, Text};
 use record_layout::Value;
@@ -98,7 +98,7 @@ pub fn field(alloc: Global, signature: &Known<Sig>) -> Result<Value, NoMemory>
 }
 
 pub fn member(alloc: Global, signature: &Known<MemberSig>) -> Result<Value, NoMemory>
-    requires { HasSpelling IsMember signature.now }
+    requires { HasMemberSpelling signature.now }
     ensures { IfOk result (λ v. v ≡ value.Blob (member_blob signature.now)) }
 {
     match signature {
