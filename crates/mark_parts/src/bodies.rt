@@ -12,11 +12,11 @@ ghost use Rattle.mark_parts.specs.Items.{is_field_ref, is_text_at, locals_row};
 use crate::forms::{Names, names_of};
 use crate::sigs::add_sigs;
 use crate::tokens::{add_field_token, add_method_token, add_type_token};
-use il_base::{Body, Form, Handler, Instr, NoMemory, Operand};
+use il_base::{Body, Form, Handler, Instr, NoMemory, Operand, table};
 use mark_facts::parts::Parts;
 use mark_tables::assembly::Assembly;
 use std::alloc::Global;
-use world_model::{AsmRec, BadKind, Known, MemberRefRow, MemberSig, StandAloneSigRow, index_in};
+use world_model::{AsmRec, BadKind, Known, MemberRefRow, MemberSig, StandAloneSigRow, index_in, table_of};
 
 /// Whether a row of MemberRef is a field's.
 fn is_field_row(row: &MemberRefRow) -> bool
@@ -33,7 +33,7 @@ fn is_field_row(row: &MemberRefRow) -> bool
 fn is_field_ref(rec: &AsmRec, token: u32) -> bool
     ensures { result ≡ is_field_ref rec.now token }
 {
-    let Some(k) = index_in(0x0a, token) else {
+    let Some(k) = index_in(table::MEMBER_REF, token) else {
         return false;
     };
     match rec.member_ref.get(k as usize) {
@@ -46,16 +46,16 @@ fn is_field_ref(rec: &AsmRec, token: u32) -> bool
 pub fn is_field_token(rec: &AsmRec, token: u32) -> bool
     ensures { result ≡ is_field_token rec.now token }
 {
-    let table = token / 0x100_0000;
-    table == 0x04 || (table == 0x0a && is_field_ref(rec, token))
+    let of = table_of(token);
+    of == table::FIELD || (of == table::MEMBER_REF && is_field_ref(rec, token))
 }
 
 /// Whether a token is one of MethodDef, MemberRef or MethodSpec.
 pub fn is_method_token(token: u32) -> bool
     ensures { result ≡ is_method_token token }
 {
-    let table = token / 0x100_0000;
-    table == 0x06 || table == 0x0a || table == 0x2b
+    let of = table_of(token);
+    of == table::METHOD_DEF || of == table::MEMBER_REF || of == table::METHOD_SPEC
 }
 
 /// Puts what the operand of `ldtoken` (III.4.17) names at the end.
@@ -207,7 +207,7 @@ fn add_instructions(
 fn locals_row(rec: &AsmRec, token: u32) -> Option<&StandAloneSigRow>
     ensures { option_copied result ≡ locals_row rec.now token }
 {
-    let k = index_in(0x11, token)?;
+    let k = index_in(table::STAND_ALONE_SIG, token)?;
     rec.stand_alone_sig.get(k as usize)
 }
 

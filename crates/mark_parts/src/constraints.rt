@@ -4,16 +4,17 @@ ghost use Rattle.std.specs.Prelude.{◌≡◌, ◌++◌, [], suc, slice_get, OnO
 ghost use Rattle.std.specs.List.{flat_map};
 ghost use Rattle.std.specs.Option.{option_map_or};
 ghost use Rattle.mark_rules.specs.Types.{constraint_of, constraints_of};
+ghost use Rattle.il_base.specs.declared.table.TheConstants.{GENERIC_PARAM};
 ghost use Rattle.world_model.specs.Tokens.{token_of};
 ghost use Rattle.type_rules.specs.Rows.{each_row};
 ghost use Rattle.mark_tables.specs.Assemblies.{recs_of, place_of, rec_of, IsAssembly};
 ghost use Rattle.mark_parts.specs.Constraints.{constraint_part, param_part};
 
+use world_model::token_of;
 use crate::tokens::add_type_token;
-use il_base::NoMemory;
+use il_base::{NoMemory, table};
 use mark_facts::parts::Parts;
 use mark_tables::assembly::Assembly;
-use member_search::params::token_of;
 use std::alloc::Global;
 
 /// Puts what a row of GenericParamConstraint, from 0, names at the end.
@@ -29,7 +30,7 @@ fn add_constraint(
     let Some(row) = asm.scope.rec.generic_param_constraint.get(k as usize) else {
         return Ok(());
     };
-    let token = token_of(0x2c, k as usize)?;
+    let token = token_of(table::GENERIC_PARAM_CONSTRAINT, k as usize)?;
     add_type_token(alloc, asm, token, 0, row.constraint, parts)
 }
 
@@ -57,9 +58,9 @@ fn add_constraints_at(
     parts: &mut Parts,
 ) -> Result<(), NoMemory>
     requires { IsAssembly asm.now }
-    ensures { OnOk result (parts.new ≡ parts.old ++ each_row (constraint_of (recs_of asm.now) (place_of asm.now) (rec_of asm.now) (token_of 0x2a (suc k))) (rec_of asm.now).generic_param_constraint) }
+    ensures { OnOk result (parts.new ≡ parts.old ++ each_row (constraint_of (recs_of asm.now) (place_of asm.now) (rec_of asm.now) (token_of GENERIC_PARAM (suc k))) (rec_of asm.now).generic_param_constraint) }
 {
-    let token = token_of(0x2a, k as usize)?;
+    let token = token_of(table::GENERIC_PARAM, k as usize)?;
     let rows = asm.owners.constraints.rows_with(token);
     add_constraint_rows(alloc, asm, rows, parts)?;
     Ok(())

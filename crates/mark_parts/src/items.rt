@@ -6,15 +6,15 @@ ghost use Rattle.mark_rules.specs.Properties.{parts_of_property, parts_of_event}
 ghost use Rattle.mark_tables.specs.Assemblies.{recs_of, place_of, rec_of, all_of, IsAssembly, IsMarker};
 ghost use Rattle.mark_parts.specs.Items.{extends_parts};
 
+use world_model::token_of;
 use crate::constraints::add_constraints;
 use crate::sigs::{add_method_sig, add_sig};
 use crate::tokens::add_type_token;
-use il_base::NoMemory;
+use il_base::{NoMemory, table};
 use link_rules::RowAt;
 use mark_facts::parts::Parts;
 use mark_tables::assembly::Assembly;
 use mark_tables::marker::Marker;
-use member_search::params::token_of;
 use std::alloc::Global;
 
 /// Puts what the Extends of a type names at the end, by the type's row from 0 and its token.
@@ -51,7 +51,7 @@ pub fn add_parts_of_type(
     let Some(asm) = marker.assembly_at(at.asm) else {
         return Ok(());
     };
-    let row = token_of(0x02, at.row as usize)?;
+    let row = token_of(table::TYPE_DEF, at.row as usize)?;
     add_extends(alloc, &asm, at.row, row, parts)?;
     add_constraints(alloc, &asm, row, parts)
 }
@@ -73,7 +73,7 @@ pub fn add_parts_of_field(
     let Some(f) = asm.scope.rec.field.get(at.row as usize) else {
         return Ok(());
     };
-    let row = token_of(0x04, at.row as usize)?;
+    let row = token_of(table::FIELD, at.row as usize)?;
     add_sig(alloc, &asm, row, &f.signature, parts)
 }
 
@@ -94,7 +94,7 @@ pub fn add_parts_of_impl(
     let Some(i) = asm.scope.rec.interface_impl.get(at.row as usize) else {
         return Ok(());
     };
-    let row = token_of(0x09, at.row as usize)?;
+    let row = token_of(table::INTERFACE_IMPL, at.row as usize)?;
     add_type_token(alloc, &asm, row, 0, i.interface, parts)
 }
 
@@ -115,7 +115,7 @@ pub fn add_parts_of_property(
     let Some(p) = asm.scope.rec.property.get(at.row as usize) else {
         return Ok(());
     };
-    let row = token_of(0x17, at.row as usize)?;
+    let row = token_of(table::PROPERTY, at.row as usize)?;
     add_method_sig(alloc, &asm, row, &p.signature, parts)
 }
 
@@ -136,6 +136,6 @@ pub fn add_parts_of_event(
     let Some(e) = asm.scope.rec.event.get(at.row as usize) else {
         return Ok(());
     };
-    let row = token_of(0x14, at.row as usize)?;
+    let row = token_of(table::EVENT, at.row as usize)?;
     add_type_token(alloc, &asm, row, 0, e.event_type, parts)
 }

@@ -11,14 +11,13 @@ ghost use Rattle.mark_parts.specs.Items.{head_parts, some_body_parts};
 use crate::bodies::{add_body, add_code};
 use crate::constraints::add_constraints;
 use crate::sigs::add_method_sig;
-use il_base::{MethodSig, NoMemory};
+use il_base::{MethodSig, NoMemory, table};
 use link_rules::RowAt;
 use mark_facts::parts::Parts;
 use mark_tables::assembly::Assembly;
 use mark_tables::marker::Marker;
-use member_search::params::token_of;
 use std::alloc::Global;
-use world_model::{Known, MethodDefRow};
+use world_model::{Known, MethodDefRow, token_of};
 
 /// Whether the catch types of a body are among its parts.
 #[derive(Clone, Copy, Debug, PartialEq, Eq)]
@@ -111,7 +110,7 @@ pub fn add_parts_of_method(
     let Some(m) = asm.scope.rec.method_def.get(at.row as usize) else {
         return Ok(());
     };
-    let row = token_of(0x06, at.row as usize)?;
+    let row = token_of(table::METHOD_DEF, at.row as usize)?;
     add_row(alloc, &asm, row, Caught::Named, m, parts)
 }
 
@@ -132,6 +131,6 @@ pub fn add_uncaught_parts(
     let Some(m) = asm.scope.rec.method_def.get(at.row as usize) else {
         return Ok(());
     };
-    let row = token_of(0x06, at.row as usize)?;
+    let row = token_of(table::METHOD_DEF, at.row as usize)?;
     add_row(alloc, &asm, row, Caught::Left, m, parts)
 }

@@ -11,7 +11,7 @@ ghost use Rattle.type_rules.specs.Slots.{is_static};
 ghost use Rattle.type_rules.specs.Initializers.{is_void, takes_and_gives_nothing, is_initializer, initializer_in, initializer};
 ghost use Rattle.mark_tables.specs.Assemblies.{recs_of, place_of, rec_of, all_of, IsAssembly, IsMarker};
 
-use il_base::{MethodSig, NoMemory};
+use il_base::{MethodSig, NoMemory, has_flag, method_flags};
 use link_rules::{MethodType, RowAt};
 use mark_tables::assembly::Assembly;
 use mark_tables::marker::Marker;
@@ -24,7 +24,7 @@ use world_model::{Known, MethodDefRow, TypeDefRow, TypeExpr};
 pub fn is_static(m: &MethodDefRow) -> bool
     ensures { result ≡ is_static m.now }
 {
-    m.flags / 0x10 % 2 == 1
+    has_flag(m.flags, method_flags::STATIC)
 }
 
 /// Whether a type is void, modifiers aside.

@@ -8,13 +8,12 @@ ghost use Rattle.mark_tables.specs.Assemblies.{recs_of, place_of, rec_of, all_of
 ghost use Rattle.mark_rows.specs.Runs.{properties_at, events_at};
 
 use crate::runs::{Members, add_run, rows_of_run};
-use il_base::NoMemory;
+use il_base::{NoMemory, table};
 use link_rules::RowAt;
 use mark_tables::marker::Marker;
 use member_search::owners::Run;
-use member_search::params::token_of;
 use std::alloc::Global;
-use world_model::AsmRec;
+use world_model::{AsmRec, token_of};
 
 /// The methods of a type's run, in order.
 #[tactic(auto, unfolding(type_rules::specs::Rows::methods_of_type), using(crate::proofs::Mapping::none_more))]
@@ -104,7 +103,7 @@ pub fn properties_of_type(
     let Some(asm) = marker.assembly_at(at.asm) else {
         return Ok(Vec::new(alloc));
     };
-    let token = token_of(0x02, at.row as usize)?;
+    let token = token_of(table::TYPE_DEF, at.row as usize)?;
     let maps = asm.of_types.properties.rows_with(token);
     let rows = properties_under(alloc, asm.scope.rec, at.asm, maps)?;
     Ok(rows)
@@ -145,7 +144,7 @@ pub fn events_of_type(alloc: Global, marker: &Marker<'_>, at: RowAt) -> Result<V
     let Some(asm) = marker.assembly_at(at.asm) else {
         return Ok(Vec::new(alloc));
     };
-    let token = token_of(0x02, at.row as usize)?;
+    let token = token_of(table::TYPE_DEF, at.row as usize)?;
     let maps = asm.of_types.events.rows_with(token);
     let rows = events_under(alloc, asm.scope.rec, at.asm, maps)?;
     Ok(rows)

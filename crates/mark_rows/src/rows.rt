@@ -8,17 +8,17 @@ ghost use Rattle.mark_rules.specs.Properties.{property_owner, event_owner};
 ghost use Rattle.mark_tables.specs.Assemblies.{all_of, IsMarker};
 
 use core_table::ENUM;
-use il_base::NoMemory;
+use il_base::{NoMemory, field_flags, has_flag, table};
 use link_rules::RowAt;
 use mark_tables::marker::Marker;
 use member_search::bases::{base_at, definition};
-use world_model::{AsmRec, FieldRow, index_in};
+use world_model::{AsmRec, FIRST_TYPE_DEF, FieldRow, index_in};
 
 /// Whether a type definition is System.Enum of the core library.
 fn is_enum_row(all: &[AsmRec], at: RowAt) -> bool
     ensures { result ≡ is_core_row_at all.now ENUM at }
 {
-    at.asm as usize + 1 == all.len() && 0x0200_0001 + u64::from(at.row) == u64::from(ENUM)
+    at.asm as usize + 1 == all.len() && u64::from(FIRST_TYPE_DEF) + u64::from(at.row) == u64::from(ENUM)
 }
 
 /// Whether the base of a type is System.Enum (II.14.3).
@@ -41,7 +41,7 @@ pub fn is_enum(marker: &Marker<'_>, at: RowAt) -> Result<bool, NoMemory>
 fn is_instance(f: &FieldRow) -> bool
     ensures { result ≡ not (is_static_field f.now) }
 {
-    f.flags / 0x10 % 2 != 1
+    !has_flag(f.flags, field_flags::STATIC)
 }
 
 /// Whether a field is there, and an instance's.
@@ -72,7 +72,7 @@ pub fn property_owner(rec: &AsmRec, k: u32) -> Option<u32>
     let wanted = u64::from(k) + 1;
     for row in rec.property_map.as_slice() {
         if is_in_run(row.property_list_first, row.property_list_end, wanted) {
-            return index_in(0x02, row.parent);
+            return index_in(table::TYPE_DEF, row.parent);
         }
     }
     None
@@ -86,7 +86,7 @@ pub fn event_owner(rec: &AsmRec, k: u32) -> Option<u32>
     let wanted = u64::from(k) + 1;
     for row in rec.event_map.as_slice() {
         if is_in_run(row.event_list_first, row.event_list_end, wanted) {
-            return index_in(0x02, row.parent);
+            return index_in(table::TYPE_DEF, row.parent);
         }
     }
     None

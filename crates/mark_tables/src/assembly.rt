@@ -8,12 +8,11 @@ ghost use Rattle.type_rules.specs.Rows.{owner_of_field};
 ghost use Rattle.mark_tables.specs.Assemblies.{rec_of, IsAssembly};
 
 use crate::owners::OwnerRows;
-use il_base::NoMemory;
+use il_base::{NoMemory, table};
 use member_search::counted::row_of;
 use member_search::linked::Scope;
-use member_search::params::token_of;
 use type_tables::tables::RowTables;
-use world_model::{AsmRec, TypeDefRow, World};
+use world_model::{AsmRec, TypeDefRow, World, token_of};
 
 /// An assembly of a world, and what is made of it.
 #[derive(Clone, Copy)]
@@ -49,7 +48,7 @@ impl Assembly<'_> {
         requires { IsAssembly self.now }
         ensures { IfOk result (λ around. around ≡ encloser (rec_of self.now) row) }
     {
-        let token = token_of(0x02, row as usize)?;
+        let token = token_of(table::TYPE_DEF, row as usize)?;
         Ok(self.owners.enclosers.of_token(token))
     }
 

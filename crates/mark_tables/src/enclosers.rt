@@ -6,7 +6,7 @@ ghost use Rattle.world_model.specs.Tokens.{token_of};
 ghost use Rattle.link_rules.specs.Types.{encloser_in};
 ghost use Rattle.mark_tables.specs.Owners.{encloser_by, AreEnclosers};
 
-use il_base::NoMemory;
+use il_base::{NoMemory, table};
 use std::alloc::Global;
 use std::collections::HashMap;
 use world_model::{AsmRec, index_in};
@@ -24,7 +24,7 @@ impl Enclosers {
         let mut rows = HashMap::new(alloc);
         for row in rec.nested_class.as_slice() {
             if !rows.contains_key(&row.nested_class) {
-                rows.insert(row.nested_class, index_in(0x02, row.enclosing_class))?;
+                rows.insert(row.nested_class, index_in(table::TYPE_DEF, row.enclosing_class))?;
             }
         }
         Ok(Enclosers { rows })

@@ -10,7 +10,7 @@ ghost use Rattle.moved_parts.specs.Moves.{new_token, any_by, form_by};
 use il_base::{Form, NoMemory, table};
 use std::alloc::Global;
 use std::collections::HashMap;
-use world_model::{AsmRec, Known, MemberRefRow, MemberSig, index_in};
+use world_model::{AsmRec, Known, MemberRefRow, MemberSig, index_in, table_of};
 
 /// New tokens by old ones. A token that isn't among them becomes 0.
 #[derive(Drop)]
@@ -94,7 +94,7 @@ fn is_field_row(row: Option<&MemberRefRow>) -> bool
 fn is_field_token(rec: &AsmRec, token: u32) -> bool
     ensures { result ≡ is_field_token rec.now token }
 {
-    let of = token / 0x100_0000;
+    let of = table_of(token);
     of == table::FIELD || (of == table::MEMBER_REF && is_field_row(member_row(rec, token)))
 }
 
@@ -102,7 +102,7 @@ fn is_field_token(rec: &AsmRec, token: u32) -> bool
 fn is_method_token(token: u32) -> bool
     ensures { result ≡ is_method_token token }
 {
-    let of = token / 0x100_0000;
+    let of = table_of(token);
     of == table::METHOD_DEF || of == table::MEMBER_REF || of == table::METHOD_SPEC
 }
 
