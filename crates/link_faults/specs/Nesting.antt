@@ -1,5 +1,6 @@
 -- A graph of enclosers.
 use Rattle.std.specs.Prelude.{◌≡◌, ℕ, suc, ◌<◌, List}
+use Rattle.il_base.specs.declared.table.TheConstants.{TYPE_DEF}
 use Rattle.world_model.specs.declared.types.NestedClassRow.{NestedClassRow}
 use Rattle.world_model.specs.Tokens.{token_of}
 use Rattle.link_rules.specs.Types.{encloser_in}
@@ -8,4 +9,4 @@ use Rattle.link_faults.specs.Graphs.{next_in}
 
 -- what these rows say of each type that a token can name
 abbrev pub IsAround : List NestedClassRow → List (List ℕ) → Type 0
-IsAround rows graph = (k : ℕ) → suc k < 16777216 → next_in graph k ≡ listed (encloser_in (token_of 0x02 (suc k)) rows)
+IsAround rows graph = (k : ℕ) → suc k < 16777216 → next_in graph k ≡ listed (encloser_in (token_of TYPE_DEF (suc k)) rows)

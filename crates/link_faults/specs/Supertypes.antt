@@ -2,6 +2,8 @@
 use Rattle.std.specs.Prelude.{ℕ, suc, ◌-◌, List, [], ◌∷◌, ◌++◌, Option, Some, None, slice_get, slice_set, unwrap_or, nat_lt, ◌==◌, ◌||◌, Bool, false, if◌then◌else◌}
 use Rattle.std.specs.List.{flat_map}
 use Rattle.std.specs.Option.{option_and_then}
+use Rattle.il_base.specs.declared.table.TheConstants.{TYPE_DEF}
+use Rattle.world_model.specs.declared.tokens.TheConstants.{FIRST_TYPE_DEF}
 use Rattle.world_model.specs.declared.types.TypeDefRow.{TypeDefRow}
 use Rattle.world_model.specs.declared.types.InterfaceImplRow.{InterfaceImplRow}
 use Rattle.world_model.specs.declared.record.AsmRec.{AsmRec}
@@ -46,7 +48,7 @@ interfaces_by all links flags a token row = if is_row_of token row then listed (
 
 -- the place of the row that a TypeDef token names
 abbrev pub place_of : ℕ → Option ℕ
-place_of token = if nat_lt token 0x02000001 then None else Some (token - 0x02000001)
+place_of token = if nat_lt token FIRST_TYPE_DEF then None else Some (token - FIRST_TYPE_DEF)
 
 -- a graph in which a node leads to one more
 abbrev pub led_on : List (List ℕ) → Option ℕ → Option ℕ → List (List ℕ)
@@ -59,7 +61,7 @@ nothing_of k t = []
 
 -- by these rows of InterfaceImpl
 abbrev pub interfaces_of : List AsmRec → List TypeLink → List Bool → ℕ → List InterfaceImplRow → ℕ → TypeDefRow → List ℕ
-interfaces_of all links flags a rows k t = flat_map (interfaces_by all links flags a (token_of 0x02 (suc k))) rows
+interfaces_of all links flags a rows k t = flat_map (interfaces_by all links flags a (token_of TYPE_DEF (suc k))) rows
 
 abbrev pub all_interfaces : List AsmRec → List TypeLink → List Bool → List (List ℕ)
 all_interfaces all links flags = links_from (λ a (rec : AsmRec). numbered (interfaces_of all links flags a rec.interface_impl) 0 rec.type_def) 0 all

@@ -4,6 +4,7 @@ use Rattle.std.specs.List.{flat_map}
 use Rattle.world_model.specs.declared.known.Known.{Known}
 use Rattle.il_base.specs.declared.ids.TypeId.{TypeId}
 use Rattle.il_base.specs.declared.sig.Sig.{Sig}
+use Rattle.world_model.specs.declared.tokens.TheConstants.{FIRST_TYPE_DEF}
 use Rattle.world_model.specs.declared.expr.TypeExpr.{TypeExpr, fold-TypeExpr}
 use Rattle.world_model.specs.declared.expr.TypeExpr.TheOpen.{TypeExpr-F}
 use Rattle.world_model.specs.declared.types.TypeDefRow.{TypeDefRow}
@@ -22,7 +23,7 @@ use Rattle.link_faults.specs.Supertypes.{base_target}
 
 -- the id of a type of the core library, whether it is there or not
 abbrev pub core_type : List AsmRec → ℕ → TypeId
-core_type all token = type_id all (length all - 1) (token - 0x02000001)
+core_type all token = type_id all (length all - 1) (token - FIRST_TYPE_DEF)
 
 abbrev pub is_core_type : List AsmRec → ℕ → Option ℕ → Bool
 is_core_type all token None = false
@@ -30,7 +31,7 @@ is_core_type all token (Some id) = nat_eq id (core_type all token).0
 
 -- whether the type in this row of an assembly is System.Enum
 abbrev pub is_enum_itself : List AsmRec → ℕ → ℕ → Bool
-is_enum_itself all a k = nat_eq (suc a) (length all) && nat_eq k (ENUM - 0x02000001)
+is_enum_itself all a k = nat_eq (suc a) (length all) && nat_eq k (ENUM - FIRST_TYPE_DEF)
 
 abbrev pub is_value : List AsmRec → List TypeLink → ℕ → ℕ → TypeDefRow → Bool
 is_value all links a k t =

@@ -8,7 +8,7 @@ ghost use Rattle.link_faults.specs.Supertypes.{base_target, bases_of, all_bases}
 use crate::graph::list_of;
 use crate::scope::Scope;
 use il_base::type_flags::INTERFACE;
-use il_base::{AsmId, NoMemory, Seq};
+use il_base::{AsmId, NoMemory, Seq, has_type_flag};
 use std::alloc::Global;
 use world_model::{AsmRec, TypeDefRow};
 
@@ -16,7 +16,7 @@ use world_model::{AsmRec, TypeDefRow};
 pub(crate) fn is_interface_row(row: &TypeDefRow) -> bool
     ensures { result ≡ is_interface_row row.now }
 {
-    row.flags / INTERFACE % 2 == 1
+    has_type_flag(row.flags, INTERFACE)
 }
 
 /// The id of the definition of a class's base, where it has one. An interface has none.

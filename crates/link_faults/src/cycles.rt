@@ -16,7 +16,7 @@ use crate::levels::{is_on_cycle, levels_of};
 use crate::ranks::is_acyclic;
 use crate::scope::Scope;
 use crate::value_types::all_values;
-use il_base::{NoMemory, Seq};
+use il_base::{NoMemory, Seq, reason, table};
 use link_laws::laws::links_tell;
 use link_rules::LinkError;
 use std::alloc::Global;
@@ -132,7 +132,7 @@ impl Graphs {
     {
         for (at, _row) in rec.type_def.as_slice().iter().enumerate() {
             if self.is_cyclic(alloc, scope, levels, file, at)? {
-                return Ok(Some(row_fault(file, 15, 0x02, at)?));
+                return Ok(Some(row_fault(file, reason::CYCLIC_TYPES, table::TYPE_DEF, at)?));
             }
         }
         Ok(None)

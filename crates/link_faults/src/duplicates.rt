@@ -10,7 +10,7 @@ use crate::member_keys::{field_codes, method_codes};
 use crate::repeats::first_repeat;
 use crate::scope::Scope;
 use crate::type_keys::type_codes;
-use il_base::{AsmId, NoMemory, Seq};
+use il_base::{AsmId, NoMemory, Seq, reason, table};
 use link_laws::laws::links_tell;
 use link_rules::LinkError;
 use std::alloc::Global;
@@ -28,7 +28,7 @@ fn repeated_row(
     match first_repeat(alloc, codes)? {
         None => Ok(None),
         Some(at) => {
-            let fault = row_fault(file, 17, table, at)?;
+            let fault = row_fault(file, reason::DUPLICATE_MEMBER, table, at)?;
             Ok(Some(fault))
         }
     }
@@ -39,7 +39,7 @@ fn repeated_type(alloc: Global, file: usize, rec: &AsmRec) -> Result<Option<Link
     ensures { IfOk result (λ found. found ≡ repeated_type file rec.now) }
 {
     let codes = type_codes(alloc, rec)?;
-    let found = repeated_row(alloc, file, 0x02, &codes)?;
+    let found = repeated_row(alloc, file, table::TYPE_DEF, &codes)?;
     Ok(found)
 }
 
@@ -55,7 +55,7 @@ fn repeated_field(
     ensures { IfOk result (λ found. found ≡ repeated_field scope.now.all.now asm.0 rec.now) }
 {
     let codes = field_codes(alloc, scope, asm, rec)?;
-    let found = repeated_row(alloc, asm.0 as usize, 0x04, &codes)?;
+    let found = repeated_row(alloc, asm.0 as usize, table::FIELD, &codes)?;
     Ok(found)
 }
 
@@ -71,7 +71,7 @@ fn repeated_method(
     ensures { IfOk result (λ found. found ≡ repeated_method scope.now.all.now asm.0 rec.now) }
 {
     let codes = method_codes(alloc, scope, asm, rec)?;
-    let found = repeated_row(alloc, asm.0 as usize, 0x06, &codes)?;
+    let found = repeated_row(alloc, asm.0 as usize, table::METHOD_DEF, &codes)?;
     Ok(found)
 }
 

@@ -6,6 +6,7 @@ ghost use Rattle.link_rules.specs.declared.link_error.LinkError.TheVariants as f
 
 use il_base::NoMemory;
 use link_rules::LinkError;
+use world_model::token_of;
 
 /// The fault of a row of this table; rows and files count from 0. Where its token has more than 32 bits, there is no
 /// memory for such a row.
@@ -15,11 +16,6 @@ pub(crate) fn row_fault(file: usize, why: u8, table: u8, row: usize) -> Result<L
     let Ok(file) = u32::try_from(file) else {
         return Err(NoMemory);
     };
-    let Ok(row) = u32::try_from(row) else {
-        return Err(NoMemory);
-    };
-    let Ok(token) = u32::try_from(u64::from(table) * 0x100_0000 + u64::from(row) + 1) else {
-        return Err(NoMemory);
-    };
+    let token = token_of(table, row)?;
     Ok(LinkError::Bad { file, why, token })
 }

@@ -9,7 +9,7 @@ ghost use Rattle.link_faults.specs.Values.{flagged, held_in, held_in_field, held
 
 use crate::scope::Scope;
 use crate::value_types::is_value;
-use il_base::{AsmId, NoMemory, Seq, TypeId};
+use il_base::{AsmId, NoMemory, Seq, TypeId, field_flags};
 use std::alloc::Global;
 use world_model::{AsmRec, FieldRow, TypeDefRow, TypeExpr};
 
@@ -94,7 +94,7 @@ fn add_field(
 ) -> Result<(), NoMemory>
     ensures { OnOk result (held.new ≡ held.old ++ held_in_field scope.now.all.now scope.now.links.now values.now asm.0 field.now) }
 {
-    if field.flags / 0x10 % 2 == 1 {
+    if il_base::has_flag(field.flags, field_flags::STATIC) {
         return Ok(());
     }
     match scope.type_of_field(alloc, asm, &field.signature)? {

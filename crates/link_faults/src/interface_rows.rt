@@ -10,7 +10,7 @@ use crate::held::has_flag;
 use crate::scope::Scope;
 use il_base::{AsmId, NoMemory, Seq, TypeId};
 use std::alloc::Global;
-use world_model::{AsmRec, InterfaceImplRow};
+use world_model::{AsmRec, FIRST_TYPE_DEF, InterfaceImplRow};
 
 /// Adds which types of an assembly are interfaces.
 fn add_flags(rec: &AsmRec, flags: &mut Vec<bool>) -> Result<(), NoMemory>
@@ -68,7 +68,7 @@ fn lead_on(graph: &mut Vec<Seq<u32>>, node: u32, to: u32) -> Result<(), NoMemory
 fn place_of(token: u32) -> Option<u32>
     ensures { result ≡ place_of token }
 {
-    token.checked_sub(0x0200_0001)
+    token.checked_sub(FIRST_TYPE_DEF)
 }
 
 /// Lets the type of a row of InterfaceImpl lead to the interface.

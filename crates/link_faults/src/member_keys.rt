@@ -11,7 +11,7 @@ use crate::codes::{add_count, add_text, add_type, bit};
 use crate::owners::{Member, owners};
 use crate::scope::Scope;
 use il_base::method_flags::COMPILER_CONTROLLED;
-use il_base::{AsmId, MethodSig, NoMemory, Seq, Sig};
+use il_base::{AsmId, MethodSig, NoMemory, Seq, Sig, access_of};
 use std::alloc::Global;
 use world_model::{AsmRec, FieldRow, Known, MethodDefRow};
 
@@ -19,7 +19,7 @@ use world_model::{AsmRec, FieldRow, Known, MethodDefRow};
 fn is_compiler_controlled(flags: u16) -> bool
     ensures { result ≡ is_compiler_controlled flags }
 {
-    flags % 8 == COMPILER_CONTROLLED
+    access_of(flags) == COMPILER_CONTROLLED
 }
 
 /// The numbers of a member of this type, name and signature, where it has all.

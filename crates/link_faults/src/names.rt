@@ -2,11 +2,12 @@
 
 ghost use Rattle.std.specs.Prelude.{◌≡◌, ◌||◌, Some, IfOk};
 ghost use Rattle.std.specs.HashSet.{contains_by};
+ghost use Rattle.il_base.specs.declared.reason.TheConstants.{DUPLICATE_ASSEMBLY};
 ghost use Rattle.world_model.specs.Core.{same_name, is_core_name};
 ghost use Rattle.link_rules.specs.declared.link_error.LinkError.TheVariants as fault;
 ghost use Rattle.link_rules.specs.Faults.{own_name, duplicate_assembly};
 
-use il_base::NoMemory;
+use il_base::{NoMemory, reason};
 use link_rules::LinkError;
 use std::alloc::Global;
 use std::collections::HashSet;
@@ -24,14 +25,14 @@ fn own_name(rec: &AsmRec) -> &[u8]
 
 /// The fault that the name of an assembly is taken.
 fn name_taken(file: usize) -> Result<Option<LinkError>, NoMemory>
-    ensures { IfOk result (λ found. found ≡ Some (fault.Bad file 14 0)) }
+    ensures { IfOk result (λ found. found ≡ Some (fault.Bad file DUPLICATE_ASSEMBLY 0)) }
 {
     let Ok(file) = u32::try_from(file) else {
         return Err(NoMemory);
     };
     Ok(Some(LinkError::Bad {
         file,
-        why: 14,
+        why: reason::DUPLICATE_ASSEMBLY,
         token: 0,
     }))
 }

@@ -4,6 +4,7 @@ ghost use Rattle.std.specs.Prelude.{◌≡◌, ℕ, suc, ◌<◌, ◌≤◌, ◌
 ghost use Rattle.link_rules.specs.Faults.{first_of, is_cyclic_around, cyclic_nesting_row, cyclic_nesting};
 ghost use Rattle.link_rules.specs.Types.{encloser};
 ghost use Rattle.link_rules.specs.Cycles.{listed};
+ghost use Rattle.il_base.specs.declared.table.TheConstants.{TYPE_DEF};
 ghost use Rattle.world_model.specs.Tokens.{index_in};
 ghost use Rattle.link_faults.specs.Graphs.{next_in, AreLevels};
 ghost use Rattle.link_faults.specs.Nesting.{IsAround};
@@ -12,10 +13,13 @@ use crate::found::row_fault;
 use crate::graph::{list_of, next_in};
 use crate::levels::{is_on_cycle, levels_of};
 use crate::ranks::is_acyclic;
-use il_base::{NoMemory, Seq};
+use il_base::{NoMemory, Seq, reason, table};
 use link_rules::LinkError;
 use std::alloc::Global;
 use world_model::{AsmRec, NestedClassRow, index_in};
+
+/// The greatest number of a row, from 1, in a token.
+const LAST_ROW: u32 = 0xff_ffff;
 
 /// Adds nodes that lead to nothing, until there are this many.
 #[tactic(auto, using(crate::proofs::Nexts::next_push))]
@@ -52,12 +56,12 @@ fn enclosers_by(alloc: Global, rows: &[NestedClassRow]) -> Result<Vec<Seq<u32>>,
     let mut graph = Vec::new(alloc);
     for at in (0..rows.len()).rev() {
         let row = &rows[at];
-        if let Some(nested) = index_in(0x02, row.nested_class) {
+        if let Some(nested) = index_in(table::TYPE_DEF, row.nested_class) {
             lead(
                 alloc,
                 &mut graph,
                 nested,
-                index_in(0x02, row.enclosing_class),
+                index_in(table::TYPE_DEF, row.enclosing_class),
             )?;
         }
     }
@@ -82,7 +86,7 @@ pub(crate) fn encloser<'a>(
 {
     match u32::try_from(at) {
         Ok(node) => {
-            if node < 0xff_ffff {
+            if node < LAST_ROW {
                 Ok(next_in(graph, node))
             } else {
                 Err(NoMemory)
@@ -102,9 +106,9 @@ fn is_cyclic_around(
 ) -> Result<bool, NoMemory>
     requires around { IsAround rec.now.nested_class graph.now }
     requires levels { AreLevels levels.now graph.now }
-    ensures { IfOk result (λ yes. yes ≡ is_cyclic_around rec.now (index_in 0x02 row.now.nested_class)) }
+    ensures { IfOk result (λ yes. yes ≡ is_cyclic_around rec.now (index_in TYPE_DEF row.now.nested_class)) }
 {
-    match index_in(0x02, row.nested_class) {
+    match index_in(table::TYPE_DEF, row.nested_class) {
         None => Ok(false),
         Some(nested) => is_on_cycle(alloc, graph, levels, rec.type_def.len(), nested),
     }
@@ -124,7 +128,7 @@ fn cyclic_row(
 {
     for (at, row) in rec.nested_class.as_slice().iter().enumerate() {
         if is_cyclic_around(alloc, rec, graph, levels, row)? {
-            return Ok(Some(row_fault(file, 16, 0x29, at)?));
+            return Ok(Some(row_fault(file, reason::CYCLIC_NESTING, table::NESTED_CLASS, at)?));
         }
     }
     Ok(None)

@@ -8,13 +8,13 @@ ghost use Rattle.link_faults.specs.Targets.{linked, id_below, target_of, target_
 use crate::scope::Scope;
 use core_table::ARRAY;
 use il_base::{AsmId, NoMemory, TypeId};
-use world_model::{AsmRec, Known, TypeExpr, prim_type, type_id, type_link_at};
+use world_model::{AsmRec, FIRST_TYPE_DEF, Known, TypeExpr, prim_type, type_id, type_link_at};
 
 /// The type `System.Array` of the core library, whether it is there or not.
 fn array_type(all: &[AsmRec]) -> Result<Option<TypeId>, NoMemory>
     ensures { IfOk result (λ id. id ≡ array_type all.now) }
 {
-    let row = (ARRAY - 0x0200_0001) as usize;
+    let row = (ARRAY - FIRST_TYPE_DEF) as usize;
     match type_id(all, all.len().saturating_sub(1), row) {
         None => Err(NoMemory),
         Some(id) => Ok(Some(id)),

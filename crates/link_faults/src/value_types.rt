@@ -1,6 +1,7 @@
 //! Which types are value types (II.13).
 
 ghost use Rattle.std.specs.Prelude.{◌≡◌, ◌≤◌, ◌++◌, IfOk, OnOk};
+ghost use Rattle.world_model.specs.declared.tokens.TheConstants.{FIRST_TYPE_DEF};
 ghost use Rattle.link_rules.specs.Faults.{numbered};
 ghost use Rattle.link_faults.specs.Values.{core_type, is_core_type, is_enum_itself, is_value, all_values};
 
@@ -9,17 +10,17 @@ use crate::scope::Scope;
 use core_table::{ENUM, VALUE_TYPE};
 use il_base::{AsmId, NoMemory, TypeId};
 use std::alloc::Global;
-use world_model::{AsmRec, TypeDefRow, type_id};
+use world_model::{AsmRec, FIRST_TYPE_DEF, TypeDefRow, type_id};
 
 /// The id of a type of the core library by its token, whether it is there or not.
 fn core_type(all: &[AsmRec], token: u32) -> Result<TypeId, NoMemory>
-    requires { 0x02000001 ≤ token }
+    requires { FIRST_TYPE_DEF ≤ token }
     ensures { IfOk result (λ id. id ≡ core_type all.now token) }
 {
     match type_id(
         all,
         all.len().saturating_sub(1),
-        (token - 0x0200_0001) as usize,
+        (token - FIRST_TYPE_DEF) as usize,
     ) {
         None => Err(NoMemory),
         Some(id) => Ok(id),
@@ -28,7 +29,7 @@ fn core_type(all: &[AsmRec], token: u32) -> Result<TypeId, NoMemory>
 
 /// Whether an id is there, and is that of a type of the core library.
 fn is_core_type(all: &[AsmRec], token: u32, id: Option<u32>) -> Result<bool, NoMemory>
-    requires { 0x02000001 ≤ token }
+    requires { FIRST_TYPE_DEF ≤ token }
     ensures { IfOk result (λ yes. yes ≡ is_core_type all.now token id) }
 {
     match id {
@@ -44,7 +45,7 @@ fn is_core_type(all: &[AsmRec], token: u32, id: Option<u32>) -> Result<bool, NoM
 fn is_enum_itself(all: &[AsmRec], asm: AsmId, at: usize) -> bool
     ensures { result ≡ is_enum_itself all.now asm.0 at }
 {
-    asm.0 as usize + 1 == all.len() && at == (ENUM - 0x0200_0001) as usize
+    asm.0 as usize + 1 == all.len() && at == (ENUM - FIRST_TYPE_DEF) as usize
 }
 
 /// Whether the type in this row of an assembly is a value type: its base is `System.Enum`, or `System.ValueType` and it

@@ -3,7 +3,7 @@ use Rattle.link_rules.specs.Types.{encloser}
 use Rattle.link_rules.specs.Cycles.{listed}
 use Rattle.link_faults.proofs.nesting.encloser.Goals as goal
 
-pub returns-then-node-lt16777215 : goal.returns-then-node-lt16777215
+pub returns-then-node-lt-LAST_ROW : goal.returns-then-node-lt-LAST_ROW
 unfolding encloser
-returns-then-node-lt16777215 c =
+returns-then-node-lt-LAST_ROW c =
     c.next_in.ensures ∙ c.requires c.in-Ok.node (omega arith) ∙ ap (λ (k : ℕ). listed (encloser c.args.rec.now k)) c.in-Ok.ensures.1
