@@ -6,11 +6,11 @@ ghost use Rattle.member_links.specs.Definitions.{OwnMethods};
 
 use crate::definitions::{Definitions, method_def_use};
 use crate::references::method_ref_use;
-use il_base::{NoMemory, Seq, Sig};
+use il_base::{NoMemory, Seq, Sig, table};
 use member_search::linked::Scope;
 use member_search::method_types::open_types;
 use std::alloc::Global;
-use world_model::{BadKind, Known, MethodSpecRow, MethodUse, TypeExpr, index_in};
+use world_model::{BadKind, Known, MethodSpecRow, MethodUse, TypeExpr, index_in, table_of};
 
 /// The method that a MethodDef or MemberRef token names.
 #[tactic(auto, unfolding(link_rules::specs::Members::generic_method))]
@@ -24,15 +24,15 @@ fn generic_method(
     requires own { OwnMethods scope.now.rec.now methods.now }
     ensures { IfOk result (λ u. u ≡ generic_method scope.now.linked.all.now scope.now.asm scope.now.rec.now token) }
 {
-    if token / 0x100_0000 == 0x06 {
-        return match index_in(0x06, token) {
+    if table_of(token) == table::METHOD_DEF {
+        return match index_in(table::METHOD_DEF, token) {
             Some(k) if (k as usize) < scope.rec.method_def.len() => {
                 method_def_use(alloc, scope, methods, k)
             }
             _ => Ok(Known::Bad(BadKind::Unresolved)),
         };
     }
-    let Some(k) = index_in(0x0a, token) else {
+    let Some(k) = index_in(table::MEMBER_REF, token) else {
         return Ok(Known::Bad(BadKind::Unresolved));
     };
     match scope.rec.member_ref.get(k as usize) {

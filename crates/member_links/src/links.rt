@@ -1,5 +1,6 @@
 ghost use Rattle.std.specs.Prelude.{◌≡◌, ◌++◌, length, map, IfOk, OnOk};
 ghost use Rattle.std.specs.List.{range_with_len};
+ghost use Rattle.il_base.specs.declared.table.TheConstants.{FIELD, METHOD_DEF, MEMBER_REF, METHOD_SPEC};
 ghost use Rattle.link_rules.specs.Faults.{numbered};
 ghost use Rattle.link_rules.specs.Members.{method_def_use, field_def_use, method_ref_use, field_ref_use, method_spec_use};
 ghost use Rattle.link_rules.specs.Linked.{method_link, field_link, methods_of, fields_of, links_from};
@@ -10,14 +11,13 @@ ghost use Rattle.member_links.specs.Definitions.{OwnMethods, OwnFields};
 use crate::definitions::{Definitions, field_def_use, method_def_use};
 use crate::instances::method_spec_use;
 use crate::references::{field_ref_use, method_ref_use};
-use il_base::{AsmId, NoMemory};
+use il_base::{AsmId, NoMemory, table};
 use link_laws::laws::links_tell;
 use member_search::counted::row_of;
 use member_search::linked::{Linked, Scope};
 use member_search::names::names_of;
-use member_search::params::token_of;
 use std::alloc::Global;
-use world_model::{AsmRec, FieldLink, FieldUse, Known, MethodLink, MethodUse, TypeLink};
+use world_model::{AsmRec, FieldLink, FieldUse, Known, MethodLink, MethodUse, TypeLink, token_of};
 
 /// The link of a row, from 0, of a table.
 fn method_link(asm: u32, table: u8, k: usize, to: Known<MethodUse>) -> Result<MethodLink, NoMemory>
@@ -46,11 +46,11 @@ fn push_method_defs(
 ) -> Result<(), NoMemory>
     requires { OwnMethods scope.now.rec.now methods.now }
     ensures { OnOk result (links.new.items ≡ links.old.items
-        ++ map (λ k. method_link scope.now.asm 0x06 k (method_def_use scope.now.linked.all.now scope.now.asm scope.now.rec.now k)) (range_with_len 0 (length scope.now.rec.now.method_def))) }
+        ++ map (λ k. method_link scope.now.asm METHOD_DEF k (method_def_use scope.now.linked.all.now scope.now.asm scope.now.rec.now k)) (range_with_len 0 (length scope.now.rec.now.method_def))) }
 {
     for k in 0..scope.rec.method_def.len() {
         let to = method_def_use(alloc, scope, methods, row_of(k)?)?;
-        links.push(method_link(scope.asm, 0x06, k, to)?)?;
+        links.push(method_link(scope.asm, table::METHOD_DEF, k, to)?)?;
     }
     Ok(())
 }
@@ -63,11 +63,11 @@ fn push_method_refs(
 ) -> Result<(), NoMemory>
     requires { IsScope scope.now }
     ensures { OnOk result (links.new.items ≡ links.old.items
-        ++ numbered (λ k row. method_link scope.now.asm 0x0a k (method_ref_use scope.now.linked.all.now scope.now.asm scope.now.rec.now row)) 0 scope.now.rec.now.member_ref) }
+        ++ numbered (λ k row. method_link scope.now.asm MEMBER_REF k (method_ref_use scope.now.linked.all.now scope.now.asm scope.now.rec.now row)) 0 scope.now.rec.now.member_ref) }
 {
     for (k, row) in scope.rec.member_ref.as_slice().iter().enumerate() {
         let to = method_ref_use(alloc, scope, row)?;
-        links.push(method_link(scope.asm, 0x0a, k, to)?)?;
+        links.push(method_link(scope.asm, table::MEMBER_REF, k, to)?)?;
     }
     Ok(())
 }
@@ -82,11 +82,11 @@ fn push_method_specs(
     requires scope { IsScope scope.now }
     requires own { OwnMethods scope.now.rec.now methods.now }
     ensures { OnOk result (links.new.items ≡ links.old.items
-        ++ numbered (λ k row. method_link scope.now.asm 0x2b k (method_spec_use scope.now.linked.all.now scope.now.asm scope.now.rec.now row)) 0 scope.now.rec.now.method_spec) }
+        ++ numbered (λ k row. method_link scope.now.asm METHOD_SPEC k (method_spec_use scope.now.linked.all.now scope.now.asm scope.now.rec.now row)) 0 scope.now.rec.now.method_spec) }
 {
     for (k, row) in scope.rec.method_spec.as_slice().iter().enumerate() {
         let to = method_spec_use(alloc, scope, methods, row)?;
-        links.push(method_link(scope.asm, 0x2b, k, to)?)?;
+        links.push(method_link(scope.asm, table::METHOD_SPEC, k, to)?)?;
     }
     Ok(())
 }
@@ -100,11 +100,11 @@ fn push_field_defs(
 ) -> Result<(), NoMemory>
     requires { OwnFields scope.now.rec.now fields.now }
     ensures { OnOk result (links.new.items ≡ links.old.items
-        ++ map (λ k. field_link scope.now.asm 0x04 k (field_def_use scope.now.linked.all.now scope.now.asm scope.now.rec.now k)) (range_with_len 0 (length scope.now.rec.now.field))) }
+        ++ map (λ k. field_link scope.now.asm FIELD k (field_def_use scope.now.linked.all.now scope.now.asm scope.now.rec.now k)) (range_with_len 0 (length scope.now.rec.now.field))) }
 {
     for k in 0..scope.rec.field.len() {
         let to = field_def_use(alloc, scope, fields, row_of(k)?)?;
-        links.push(field_link(scope.asm, 0x04, k, to)?)?;
+        links.push(field_link(scope.asm, table::FIELD, k, to)?)?;
     }
     Ok(())
 }
@@ -117,11 +117,11 @@ fn push_field_refs(
 ) -> Result<(), NoMemory>
     requires { IsScope scope.now }
     ensures { OnOk result (links.new.items ≡ links.old.items
-        ++ numbered (λ k row. field_link scope.now.asm 0x0a k (field_ref_use scope.now.linked.all.now scope.now.asm scope.now.rec.now row)) 0 scope.now.rec.now.member_ref) }
+        ++ numbered (λ k row. field_link scope.now.asm MEMBER_REF k (field_ref_use scope.now.linked.all.now scope.now.asm scope.now.rec.now row)) 0 scope.now.rec.now.member_ref) }
 {
     for (k, row) in scope.rec.member_ref.as_slice().iter().enumerate() {
         let to = field_ref_use(alloc, scope, row)?;
-        links.push(field_link(scope.asm, 0x0a, k, to)?)?;
+        links.push(field_link(scope.asm, table::MEMBER_REF, k, to)?)?;
     }
     Ok(())
 }

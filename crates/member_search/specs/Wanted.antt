@@ -1,6 +1,8 @@
 -- Members that are looked for in the definition of a type, methods and fields alike.
-use Rattle.std.specs.Prelude.{ℕ, ◌/◌, ◌%◌, ◌==◌, ◌&&◌, not, List, Bool, false, Option, Some, None, slice_get}
+use Rattle.std.specs.Prelude.{ℕ, ◌==◌, ◌&&◌, not, List, Bool, false, Option, Some, None, slice_get}
 use Rattle.std.specs.Option.{option_map, option_and_then}
+use Rattle.il_base.specs.declared.method_flags.TheConstants.{PUBLIC, VIRTUAL}
+use Rattle.il_base.specs.Flags.{has_flag, access_of}
 use Rattle.world_model.specs.declared.expr.TypeExpr.{TypeExpr}
 use Rattle.world_model.specs.declared.members.FieldRow.{FieldRow}
 use Rattle.world_model.specs.declared.members.MethodDefRow.{MethodDefRow}
@@ -25,8 +27,8 @@ use Rattle.member_search.specs.Owners.{method_run, field_run}
 -- which methods count, by their flags (II.23.1.10)
 abbrev pub allows : Among → MethodDefRow → Bool
 allows Named m = not (is_compiler_controlled m.flags)
-allows Virtual m = m.flags / 0x40 % 2 == 1
-allows PublicVirtual m = m.flags % 8 == 6 && m.flags / 0x40 % 2 == 1
+allows Virtual m = has_flag m.flags VIRTUAL
+allows PublicVirtual m = access_of m.flags == PUBLIC && has_flag m.flags VIRTUAL
 
 -- the run of such members of a type
 abbrev pub run_in : Wanted → TypeDefRow → Run

@@ -8,7 +8,7 @@ use crate::homes::type_home;
 use crate::linked::{Linked, Scope, assembly_at};
 use core_table::ARRAY;
 use il_base::type_flags::INTERFACE;
-use il_base::{NoMemory, TypeId};
+use il_base::{NoMemory, TypeId, has_type_flag, table};
 use link_rules::RowAt;
 use std::alloc::Global;
 use world_model::{AsmRec, TypeDefRow, TypeExpr, index_in, prim_type, type_id};
@@ -17,7 +17,7 @@ use world_model::{AsmRec, TypeDefRow, TypeExpr, index_in, prim_type, type_id};
 pub fn array_type(all: &[AsmRec]) -> Result<Option<TypeId>, NoMemory>
     ensures { IfOk result (λ id. id ≡ array_type all.now) }
 {
-    let Some(row) = index_in(0x02, ARRAY) else {
+    let Some(row) = index_in(table::TYPE_DEF, ARRAY) else {
         return Ok(None);
     };
     match type_id(all, all.len().saturating_sub(1), row as usize) {
@@ -78,7 +78,7 @@ pub fn definition(all: &[AsmRec], ty: &TypeExpr) -> Result<Option<RowAt>, NoMemo
 fn is_interface_row(row: &TypeDefRow) -> bool
     ensures { result ≡ is_interface_row row.now }
 {
-    row.flags / INTERFACE % 2 == 1
+    has_type_flag(row.flags, INTERFACE)
 }
 
 /// Whether a type definition is an interface.

@@ -11,8 +11,7 @@ use crate::linked::{Linked, Scope, assembly_at};
 use crate::method_types::{method_type, same_method_type, sig_type};
 use crate::names::{Names, first_from, rows_at};
 use crate::owners::Run;
-use il_base::method_flags::COMPILER_CONTROLLED;
-use il_base::{MethodSig, NoMemory, Sig};
+use il_base::{MethodSig, NoMemory, Sig, access_of, has_flag, method_flags};
 use link_rules::{MethodType, RowAt};
 use std::alloc::Global;
 use world_model::{Known, MethodDefRow, TypeDefRow, TypeExpr};
@@ -37,7 +36,7 @@ pub enum Wanted {
 fn is_compiler_controlled(flags: u16) -> bool
     ensures { result ≡ is_compiler_controlled flags }
 {
-    flags % 8 == COMPILER_CONTROLLED
+    access_of(flags) == method_flags::COMPILER_CONTROLLED
 }
 
 /// Whether a method counts.
@@ -46,8 +45,11 @@ fn allows(among: Among, row: &MethodDefRow) -> bool
 {
     match among {
         Among::Named => !is_compiler_controlled(row.flags),
-        Among::Virtual => row.flags / 0x40 % 2 == 1,
-        Among::PublicVirtual => row.flags % 8 == 6 && row.flags / 0x40 % 2 == 1,
+        Among::Virtual => has_flag(row.flags, method_flags::VIRTUAL),
+        Among::PublicVirtual => {
+            access_of(row.flags) == method_flags::PUBLIC
+                && has_flag(row.flags, method_flags::VIRTUAL)
+        }
     }
 }
 

@@ -1,20 +1,12 @@
-ghost use Rattle.std.specs.Prelude.{◌≡◌, suc, IfOk};
-ghost use Rattle.world_model.specs.Tokens.{token_of};
+ghost use Rattle.std.specs.Prelude.{◌≡◌, IfOk};
 ghost use Rattle.link_rules.specs.Members.{param_count};
 ghost use Rattle.member_search.specs.Params.{AreParamCounts};
 
 use crate::counted::sum;
-use il_base::NoMemory;
+use il_base::{NoMemory, table};
 use std::alloc::Global;
 use std::collections::HashMap;
-use world_model::AsmRec;
-
-/// The token of a row, from 0, of a table.
-pub fn token_of(table: u8, row: usize) -> Result<u32, NoMemory>
-    ensures { IfOk result (λ token. token ≡ token_of table (suc row)) }
-{
-    sum(u32::from(table) * 0x100_0000 + 1, row)
-}
+use world_model::{AsmRec, token_of};
 
 /// How many generic parameters each type or method of an assembly has, by its token (II.22.20).
 #[derive(Drop)]
@@ -44,7 +36,7 @@ pub fn param_count(rec: &AsmRec, params: &ParamCounts, row: u32) -> Result<u32, 
     requires { AreParamCounts rec.now params.now }
     ensures { IfOk result (λ count. count ≡ param_count rec.now row) }
 {
-    let token = token_of(0x02, row as usize)?;
+    let token = token_of(table::TYPE_DEF, row as usize)?;
     match params.counts.get(&token) {
         Some(count) => Ok(*count),
         None => Ok(0),

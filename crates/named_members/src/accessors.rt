@@ -9,11 +9,10 @@ ghost use Rattle.named_members.specs.Accessors.{table_of, owned_at, method_under
 use crate::kinds::Mapped;
 use il_base::NoMemory;
 use link_rules::RowAt;
-use member_search::params::token_of;
 use std::alloc::Global;
 use type_tables::methods::{has_owner, method_row_at};
 use type_tables::tables::{RowTables, Tables};
-use world_model::{AsmRec, index_in};
+use world_model::{AsmRec, index_in, token_of};
 
 /// The table of such rows (II.22).
 fn table_of(mapped: Mapped) -> u8

@@ -11,13 +11,12 @@ ghost use Rattle.named_members.specs.Impls.{names_body, says_so, says_so_at, has
 use il_base::NoMemory;
 use link_rules::RowAt;
 use member_search::bases::definition;
-use member_search::params::token_of;
 use std::alloc::Global;
 use type_tables::methods::{method_home, use_at};
 use type_tables::tables::Tables;
 use virtual_calls::impls::{body_at, same_row};
 use virtual_calls::slots::Slots;
-use world_model::{AsmRec, MethodImplRow, MethodUse, TypeExpr};
+use world_model::{AsmRec, MethodImplRow, MethodUse, TypeExpr, token_of};
 
 /// Whether two slots are there and the same.
 pub fn same_slot(x: Option<RowAt>, y: Option<RowAt>) -> bool

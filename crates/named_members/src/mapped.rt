@@ -9,10 +9,9 @@ use crate::kinds::Mapped;
 use il_base::NoMemory;
 use link_rules::RowAt;
 use member_search::owners::Run;
-use member_search::params::token_of;
 use std::alloc::Global;
 use type_tables::tables::RowTables;
-use world_model::AsmRec;
+use world_model::{AsmRec, token_of};
 
 /// How many such rows an assembly has.
 fn count_in(rec: &AsmRec, mapped: Mapped) -> usize

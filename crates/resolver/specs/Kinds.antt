@@ -1,5 +1,6 @@
 -- The kinds of items of a world: how many an assembly has, their ids, the table of their rows.
 use Rattle.std.specs.Prelude.{ℕ, length}
+use Rattle.il_base.specs.declared.table.TheConstants.{TYPE_DEF, FIELD, METHOD_DEF, INTERFACE_IMPL, EVENT, PROPERTY, ASSEMBLY}
 use Rattle.il_base.specs.declared.ids.Item.{Item}
 use Rattle.il_base.specs.declared.ids.Item.TheVariants as item
 use Rattle.world_model.specs.declared.record.AsmRec.{AsmRec}
@@ -25,10 +26,10 @@ item_of kind.Event n = item.Event (record { 0 = n })
 item_of kind.Impl n = item.Impl (record { 0 = n })
 
 abbrev pub table_of : Kind → ℕ
-table_of kind.Asm = 0x20
-table_of kind.Typ = 0x02
-table_of kind.Method = 0x06
-table_of kind.Field = 0x04
-table_of kind.Prop = 0x17
-table_of kind.Event = 0x14
-table_of kind.Impl = 0x09
+table_of kind.Asm = ASSEMBLY
+table_of kind.Typ = TYPE_DEF
+table_of kind.Method = METHOD_DEF
+table_of kind.Field = FIELD
+table_of kind.Prop = PROPERTY
+table_of kind.Event = EVENT
+table_of kind.Impl = INTERFACE_IMPL

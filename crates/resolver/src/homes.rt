@@ -1,6 +1,6 @@
 //! Where the items of a world stand.
 
-ghost use Rattle.std.specs.Prelude.{◌≡◌, ◌+◌, ◌*◌, ◌++◌, ℕ, suc, length, map, OnOk, IfOk};
+ghost use Rattle.std.specs.Prelude.{◌≡◌, ◌++◌, length, map, OnOk, IfOk};
 ghost use Rattle.std.specs.List.{range_with_len};
 ghost use Rattle.link_rules.specs.Linked.{home, homes_from, homes};
 ghost use Rattle.resolver.specs.Kinds.{count_in, item_of, table_of};
@@ -8,18 +8,7 @@ ghost use Rattle.resolver.specs.Kinds.{count_in, item_of, table_of};
 use crate::kind::{Kind, count_in, item_of, table_of};
 use il_base::{AsmId, NoMemory, Seq};
 use std::alloc::Global;
-use world_model::{AsmRec, Home};
-
-/// The token of a row, from 0.
-fn token_of(table: u8, row: u32) -> Result<u32, NoMemory>
-    ensures { IfOk result (λ token. token ≡ table * 16777216 + suc row) }
-{
-    let token = u64::from(table) * 0x100_0000 + u64::from(row) + 1;
-    match u32::try_from(token) {
-        Ok(token) => Ok(token),
-        Err(_) => Err(NoMemory),
-    }
-}
+use world_model::{AsmRec, Home, token_of};
 
 /// Adds those of one kind in one assembly, of which `before` stand in the assemblies before it.
 fn add_rows(
@@ -38,7 +27,7 @@ fn add_rows(
         homes.push(Home {
             item: item_of(kind, id),
             asm: AsmId(asm),
-            token: token_of(table_of(kind), row)?,
+            token: token_of(table_of(kind), row as usize)?,
         })?;
     }
     Ok(())

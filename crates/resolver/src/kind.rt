@@ -3,7 +3,7 @@
 ghost use Rattle.std.specs.Prelude.{◌≡◌};
 ghost use Rattle.resolver.specs.Kinds.{count_in, item_of, table_of};
 
-use il_base::{AsmId, EventId, FieldId, ImplId, Item, MethodId, PropId, TypeId};
+use il_base::{AsmId, EventId, FieldId, ImplId, Item, MethodId, PropId, TypeId, table};
 use world_model::AsmRec;
 
 /// A kind of items, in the order in which their places stand in a world.
@@ -52,12 +52,12 @@ pub(crate) fn table_of(kind: Kind) -> u8
     ensures { result ≡ table_of kind }
 {
     match kind {
-        Kind::Asm => 0x20,
-        Kind::Typ => 0x02,
-        Kind::Method => 0x06,
-        Kind::Field => 0x04,
-        Kind::Prop => 0x17,
-        Kind::Event => 0x14,
-        Kind::Impl => 0x09,
+        Kind::Asm => table::ASSEMBLY,
+        Kind::Typ => table::TYPE_DEF,
+        Kind::Method => table::METHOD_DEF,
+        Kind::Field => table::FIELD,
+        Kind::Prop => table::PROPERTY,
+        Kind::Event => table::EVENT,
+        Kind::Impl => table::INTERFACE_IMPL,
     }
 }

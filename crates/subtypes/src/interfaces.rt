@@ -13,10 +13,9 @@ use il_base::NoMemory;
 use link_rules::RowAt;
 use member_search::bases::{args_of, definition, is_interface};
 use member_search::linked::Scope;
-use member_search::params::token_of;
 use std::alloc::Global;
 use type_tables::tables::{Rows, Tables};
-use world_model::{AsmRec, TypeExpr};
+use world_model::{AsmRec, TypeExpr, token_of};
 
 /// Puts a type at the end, with these arguments put in.
 pub(crate) fn add_type(

@@ -17,11 +17,10 @@ use il_base::NoMemory;
 use link_rules::RowAt;
 use member_search::bases::definition;
 use member_search::own_types::open_parent;
-use member_search::params::token_of;
 use std::alloc::Global;
 use type_tables::methods::{method_home, type_of_method, use_at};
 use type_tables::tables::Tables;
-use world_model::{AsmRec, MethodImplRow, MethodUse, TypeExpr};
+use world_model::{AsmRec, MethodImplRow, MethodUse, TypeExpr, token_of};
 
 /// Which declarations of MethodImpl rows count.
 #[derive(Clone, Copy)]
