@@ -1,5 +1,5 @@
 -- A method's body with its references resolved (II.25.4, III.1.2).
-use Rattle.std.specs.Prelude.{ℕ, ◌+◌, List, [], length, map, Option, Some, None, slice_get, find, ◌==◌, Bool, if◌then◌else◌}
+use Rattle.std.specs.Prelude.{ℕ, ◌+◌, ◌%◌, List, [], length, map, Option, Some, None, slice_get, find, ◌==◌, Bool, if◌then◌else◌}
 use Rattle.std.specs.Option.{option_and_then}
 use Rattle.il_base.specs.declared.body.Form.{Form}
 use Rattle.il_base.specs.declared.body.Form.TheVariants as form
@@ -66,8 +66,9 @@ use_by recs a rec f (operand.Token token) = token_use recs a rec f token
 use_by recs a rec f (operand.Target at) = use_of.Target at
 use_by recs a rec f (operand.Targets ts) = use_of.Targets ts
 
+-- IL offsets have 32 bits
 unfoldable pub instruction_of : List AsmRec → ℕ → AsmRec → Instr → Instruction
-instruction_of recs a rec i = record { at = i.at; next = i.at + length (instr_bytes i); form = i.form; opcode = i.opcode; operand = use_by recs a rec i.form i.operand }
+instruction_of recs a rec i = record { at = i.at; next = (i.at + length (instr_bytes i)) % 4294967296; form = i.form; opcode = i.opcode; operand = use_by recs a rec i.form i.operand }
 
 -- ---- clauses (II.25.4.6)
 

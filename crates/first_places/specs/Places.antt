@@ -1,0 +1,12 @@
+-- Where each key stands first in a list.
+use Rattle.std.specs.Prelude.{◌≡◌, ℕ, List, Option, nat_eq}
+use Rattle.std.specs.HashMap.{get}
+use Rattle.std.specs.List.{position_from}
+use Rattle.first_places.specs.declared.places.Places.{Places}
+
+abbrev pub place_in : Places → ℕ → Option ℕ
+place_in p key = get nat_eq p.map key
+
+-- the first place of each key
+abbrev pub AreFirst : List ℕ → Places → Type 0
+AreFirst keys p = (key : ℕ) → place_in p key ≡ position_from (nat_eq key) 0 keys
