@@ -20,6 +20,7 @@ use world_model::{BadKind, Known, StandAloneSigRow, TypeExpr, index_in};
 
 /// The kinds of handlers that aren't faults (II.25.4.6).
 const CATCH: u8 = 0;
+
 const FINALLY: u8 = 2;
 
 /// The IL offset after an instruction, modulo 2^32.
@@ -31,7 +32,12 @@ fn next_at(i: &Instr) -> u32
 
 /// An instruction.
 #[tactic(auto, unfolding(view_rules::specs::Code::instruction_of))]
-fn instruction(alloc: Global, asm: &Assembly<'_>, texts: &Texts, i: &Instr) -> Result<Instruction, NoMemory>
+fn instruction(
+    alloc: Global,
+    asm: &Assembly<'_>,
+    texts: &Texts,
+    i: &Instr,
+) -> Result<Instruction, NoMemory>
     requires is { IsAssembly asm.now }
     requires texts { AreTexts (rec_of asm.now) texts.now }
     ensures { IfOk result (λ r. r ≡ instruction_of (recs_of asm.now) (place_of asm.now) (rec_of asm.now) i.now) }
@@ -137,7 +143,11 @@ fn locals_row(
 }
 
 /// The types of the locals that a token names; 0 names none.
-fn locals_of(alloc: Global, asm: &Assembly<'_>, token: u32) -> Result<Known<Seq<TypeExpr>>, NoMemory>
+fn locals_of(
+    alloc: Global,
+    asm: &Assembly<'_>,
+    token: u32,
+) -> Result<Known<Seq<TypeExpr>>, NoMemory>
     requires { IsAssembly asm.now }
     ensures { IfOk result (λ types. types ≡ locals_of (recs_of asm.now) (place_of asm.now) (rec_of asm.now) token) }
 {
@@ -153,7 +163,12 @@ fn locals_of(alloc: Global, asm: &Assembly<'_>, token: u32) -> Result<Known<Seq<
 
 /// A body of an assembly with its references resolved. `texts` are those of the assembly.
 #[tactic(auto, unfolding(view_rules::specs::Code::code_of))]
-pub fn code_of(alloc: Global, asm: &Assembly<'_>, texts: &Texts, body: &Body) -> Result<Code, NoMemory>
+pub fn code_of(
+    alloc: Global,
+    asm: &Assembly<'_>,
+    texts: &Texts,
+    body: &Body,
+) -> Result<Code, NoMemory>
     requires is { IsAssembly asm.now }
     requires texts { AreTexts (rec_of asm.now) texts.now }
     ensures { IfOk result (λ c. c ≡ code_of (recs_of asm.now) (place_of asm.now) (rec_of asm.now) body.now) }
