@@ -16,7 +16,7 @@ use world_model::{AsmRec, type_id};
 
 /// How many rows of a kind the first `a` assemblies have.
 #[tactic(auto, unfolding(world_model::specs::Worlds::rows_before))]
-fn rows_before(all: &[AsmRec], kind: Kind, a: usize) -> Result<u32, NoMemory>
+pub fn rows_before(all: &[AsmRec], kind: Kind, a: usize) -> Result<u32, NoMemory>
     ensures { IfOk result (λ n. n ≡ rows_before (count_in kind) all.now a) }
 {
     let mut before = 0u32;

@@ -1,0 +1,5 @@
+pub mod Owners
+pub mod Accessors
+pub mod Forms
+pub mod Codes
+pub mod Enclosing
