@@ -1,0 +1,12 @@
+use Rattle.std.proofs.Common.{List, map, ap, ◌∙◌}
+use Rattle.merge_rules.specs.Rows as rows
+use Rattle.merge_plan.proofs.Ranging.{all_end}
+use Rattle.kept_tables.specs.Order.{sorted_of}
+use Rattle.kept_tables.specs.Tables.{params_in}
+use Rattle.kept_tables.proofs.generics.kept_generic_params.Goals as goal
+
+pub returns : goal.returns
+returns c =
+    c.in_ok-sorted.ensures
+    ∙ ap (λ (xs : List rows.SortedRow). rows.in_order xs)
+    (all_end (params_in c.args.types.now c.args.methods.now) c.args.recs.now c.inputs-rec-items.result.now c.loop-a.a (map sorted_of c.loop-a.rows.items) c.inputs-rec-items.ensures c.loop-a-test.false c.loop-a.invariant)
