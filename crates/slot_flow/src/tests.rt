@@ -25,7 +25,7 @@ const HANDLE: u32 = 2;
 
 const TYPE: u32 = 3;
 
-fn is_reached(r: &Reached, at: u32, slot: u32, sources: &[u32]) -> bool {
+fn is_reached(r: &Reached, at: usize, slot: u32, sources: &[u32]) -> bool {
     (0..4u32).all(|s| r.has(at, slot, s) == sources.contains(&s))
 }
 

@@ -140,11 +140,12 @@ impl Reached {
     }
 
     /// Whether a source is carried to a slot at an instruction.
-    pub fn has(&self, at: u32, slot: u32, source: u32) -> bool
+    pub fn has(&self, at: usize, slot: u32, source: u32) -> bool
         ensures { result ≡ is_found self.now at slot source }
     {
-        if at < self.places && slot < self.slots && source < self.count {
-            let n = number_in(self.places, self.slots, self.count, at, slot, source);
+        if at < self.places as usize && slot < self.slots && source < self.count {
+            let place = at as u32;
+            let n = number_in(self.places, self.slots, self.count, place, slot, source);
             self.bits.has(n)
         } else {
             false
