@@ -22,3 +22,8 @@ pub mod Sizes
 pub mod TablesRead
 pub mod RecordRead
 pub mod DemandsHeld
+pub mod FileCells
+pub mod FileDemands
+pub mod FileParts
+pub mod FileTables
+pub mod FileRecord

@@ -1,3 +1,4 @@
 pub mod Columns
 pub mod Parts
+pub mod OfFile
 pub mod CanBeLaid

@@ -1,12 +1,15 @@
-ghost use Rattle.std.specs.Prelude.{◌≡◌, None};
+ghost use Rattle.std.specs.Prelude.{◌≡◌, ℕ, List, None};
+ghost use Rattle.blob_grammar.specs.Laws.{AreBytes};
 ghost use Rattle.world_model.specs.declared.record.AsmRec.{AsmRec};
 ghost use Rattle.record_format.specs.Record.{HasRecord};
 ghost use Rattle.record_layout.specs.Laid.{laid};
 ghost use Rattle.record_layout.specs.Limits.{limit_of};
 ghost use Rattle.layout_laws.specs.CanBeLaid.{CanBeLaid};
+ghost use Rattle.layout_laws.specs.OfFile.{AsLaid};
 
 use blob_grammar::laws::{fields, instances, locals, methods, properties, types, values};
 use body_grammar::written_body_is_read;
+use record_laws::laws::file_has_record;
 use written_image::laws::{images, metadata};
 use written_tables::laws::{each_once, heaps, tables};
 
@@ -28,4 +31,19 @@ pub fn reads_back()
     instances();
     values();
     written_body_is_read();
+}
+
+/// The record of a file can be laid out where nothing in it is without a meaning, and its descriptor, addresses and texts are as the
+/// layout has them.
+pub fn file_can_be_laid()
+    ensures { (bs : List ℕ) (rec : AsmRec) → AreBytes bs → HasRecord bs rec → AsLaid rec → CanBeLaid rec }
+{
+    types();
+    methods();
+    properties();
+    fields();
+    locals();
+    instances();
+    values();
+    file_has_record();
 }
