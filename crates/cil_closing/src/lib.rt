@@ -7,6 +7,7 @@ mod callee;
 mod closed_types;
 mod closed_uses;
 mod plain;
+mod running;
 mod standing;
 
 pub use accessed::{Accessed, accessed_use};
@@ -14,3 +15,4 @@ pub use callee::{Callee, callee_of};
 pub use closed_types::{closed_cell, closed_return, closed_slot};
 pub use closed_uses::closed_use;
 pub use plain::{args_of, is_void, without_modifiers};
+pub use running::body_of;
