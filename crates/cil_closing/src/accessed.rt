@@ -6,6 +6,8 @@ ghost use Rattle.step_rules.specs.Closing.{accessed_use};
 ghost use Rattle.cil_closing.specs.Callees.{accessed_by};
 ghost use Rattle.cil_words.specs.Steps.{here_by};
 
+use crate::closed_types::closed_cell;
+use crate::plain::args_of;
 use cil_queries::Answers;
 use cil_values::{FieldDef, State};
 use cil_words::Body;
@@ -34,5 +36,17 @@ pub fn accessed_use<'a, Q: Answers>(
 ) -> Result<Option<Accessed<'a>>, NoMemory>
     ensures { IfOk result (λ found. option_map accessed_by found ≡ accessed_use (Q.queries q.now) (here_by body.now st.now) used.now) }
 {
-    Err(NoMemory)
+    let targs = args_of(&st.top.method.owner);
+    let margs = st.top.method.args.as_slice();
+    let Some(owner) = closed_cell(alloc, q, targs, margs, &used.owner)? else {
+        return Ok(None);
+    };
+    let Some(field) = q.field(used.field.0) else {
+        return Ok(None);
+    };
+    Ok(Some(Accessed {
+        id: used.field.0,
+        owner,
+        field,
+    }))
 }
