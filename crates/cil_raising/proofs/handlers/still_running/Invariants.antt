@@ -6,4 +6,4 @@ use Rattle.step_rules.specs.Raising.{is_in}
 use Rattle.cil_raising.proofs.handlers.still_running.Given as goal
 
 abbrev pub invariant-loop-r : goal.invariant-loop-r
-invariant-loop-r l = l.left ≡ reverse (filter (λ (r : Running). is_in (slice_get l.code.clauses r.clause) l.at) l.yielded)
+invariant-loop-r l = l.left ≡ filter (λ (r : Running). is_in (slice_get l.code.clauses r.clause) l.at) (reverse l.yielded)
