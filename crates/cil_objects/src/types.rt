@@ -2,12 +2,12 @@
 
 ghost use Rattle.std.specs.Prelude.{◌≡◌, Some, IfOk};
 ghost use Rattle.step_rules.specs.Words.{object_at};
-ghost use Rattle.step_rules.specs.Objects.{core_type, type_of, is_a};
+ghost use Rattle.step_rules.specs.Objects.{core_type, member_name, type_of, is_a};
 
 use cil_queries::Answers;
 use cil_values::{Obj, State};
 use core_table::CoreName;
-use il_base::{NoMemory, TypeId};
+use il_base::{Boxed, Item, NoMemory, TypeId, element};
 use std::alloc::Global;
 use world_model::TypeExpr;
 
@@ -18,11 +18,38 @@ pub fn core_type<Q: Answers>(q: &Q, name: CoreName) -> TypeExpr
     TypeExpr::Def(TypeId(q.known(name)))
 }
 
+/// The class of the object of a member.
+fn member_name(of: Item) -> CoreName
+    ensures { result ≡ member_name of }
+{
+    match of {
+        Item::Method(_) => CoreName::MethodInfo,
+        Item::Field(_) => CoreName::FieldInfo,
+        Item::Prop(_) => CoreName::PropertyInfo,
+        Item::Asm(_) => CoreName::MemberInfo,
+        Item::Typ(_) => CoreName::MemberInfo,
+        Item::Event(_) => CoreName::MemberInfo,
+        Item::Impl(_) => CoreName::MemberInfo,
+    }
+}
+
 /// The type of an object.
+#[tactic(auto, unfolding(step_rules::specs::Objects::type_of))]
 pub fn type_of<Q: Answers>(alloc: Global, q: &Q, o: &Obj) -> Result<TypeExpr, NoMemory>
     ensures { IfOk result (λ ty. ty ≡ type_of (Q.queries q.now) o.now) }
 {
-    Err(NoMemory)
+    match o {
+        Obj::Instance { of, .. } => of.copy(alloc),
+        Obj::Boxed { of, .. } => of.copy(alloc),
+        Obj::Array { of, .. } => {
+            let of = of.copy(alloc)?;
+            let of = Boxed::new(alloc, of)?;
+            Ok(TypeExpr::Array(of))
+        }
+        Obj::Str(_) => Ok(TypeExpr::Prim(element::STRING)),
+        Obj::TypeOf(_) => Ok(core_type(q, CoreName::Type)),
+        Obj::Member(of, _) => Ok(core_type(q, member_name(*of))),
+    }
 }
 
 /// Whether an object is of a closed type (I.8.7).
@@ -34,7 +61,8 @@ pub fn object_is_a<Q: Answers>(
 ) -> Result<bool, NoMemory>
     ensures { IfOk result (λ yes. yes ≡ is_a (Q.queries q.now) ty.now (Some o.now)) }
 {
-    Err(NoMemory)
+    let of = type_of(alloc, q, o)?;
+    q.below(alloc, &of, ty)
 }
 
 /// Whether the object with a number is of a closed type. False where there is no such object.
@@ -47,5 +75,8 @@ pub fn is_a<Q: Answers>(
 ) -> Result<bool, NoMemory>
     ensures { IfOk result (λ yes. yes ≡ is_a (Q.queries q.now) ty.now (object_at st.now at)) }
 {
-    Err(NoMemory)
+    match st.heap.get(at) {
+        None => Ok(false),
+        Some(o) => object_is_a(alloc, q, ty, o),
+    }
 }

@@ -1,10 +1,11 @@
 //! Cells of instances of classes.
 
-ghost use Rattle.std.specs.Prelude.{◌≡◌, IfOk};
-ghost use Rattle.step_rules.specs.Places.{same_cell, cell_place, cell_of, with_cell};
+ghost use Rattle.std.specs.Prelude.{◌≡◌, Some, None, IfOk, MatchBool};
+ghost use Rattle.std.specs.Option.{option_copied};
+ghost use Rattle.step_rules.specs.Places.{same_cell, cell_place, cell_of, set_if, with_cell, cell_in};
 
 use cil_queries::Answers;
-use cil_values::{Cell, Layout, Value};
+use cil_values::{Cell, Layout, Obj, Value};
 use il_base::{NoMemory, Seq};
 use std::alloc::Global;
 use world_model::TypeExpr;
@@ -34,28 +35,77 @@ pub fn cell_place(c: Cell, cells: &[Layout]) -> Option<usize>
 }
 
 /// The value in a cell of an instance of a class, whose closed type and cells these are.
-pub fn cell_of<Q: Answers>(
+#[tactic(auto, unfolding(step_rules::specs::Places::cell_of))]
+pub fn cell_of<'a, Q: Answers>(
     alloc: Global,
     q: &Q,
     ty: &TypeExpr,
-    cells: &[Value],
+    cells: &'a [Value],
     c: Cell,
-) -> Result<Option<Value>, NoMemory>
-    ensures { IfOk result (λ v. v ≡ cell_of (Q.queries q.now) ty.now cells.now c) }
+) -> Result<Option<&'a Value>, NoMemory>
+    ensures { IfOk result (λ v. option_copied v ≡ cell_of (Q.queries q.now) ty.now cells.now c) }
 {
-    Err(NoMemory)
+    let layouts = q.cells(alloc, ty)?;
+    match cell_place(c, layouts.as_slice()) {
+        None => Ok(None),
+        Some(at) => Ok(cells.get(at)),
+    }
 }
 
-/// The cells of an instance with another value in one of them. None where the type has no such cell.
+/// Puts a value into a cell of an instance of a class, whose closed type and cells these are. False where there is no such
+/// cell: then nothing is changed.
+#[tactic(auto, unfolding(step_rules::specs::Places::with_cell))]
 pub fn with_cell<Q: Answers>(
     alloc: Global,
     q: &Q,
     ty: &TypeExpr,
-    cells: Seq<Value>,
+    cells: &mut Seq<Value>,
     c: Cell,
-    v: Value,
-) -> Result<Option<Seq<Value>>, NoMemory>
-    ensures { IfOk result (λ new. new ≡ with_cell (Q.queries q.now) ty.now cells c v) }
+    v: &Value,
+) -> Result<bool, NoMemory>
+    ensures { IfOk result (λ done. MatchBool done (with_cell (Q.queries q.now) ty.now cells.old c v.now ≡ Some cells.new) ((with_cell (Q.queries q.now) ty.now cells.old c v.now ≡ None) × (cells.new ≡ cells.old))) }
 {
-    Err(NoMemory)
+    let layouts = q.cells(alloc, ty)?;
+    match cell_place(c, layouts.as_slice()) {
+        None => Ok(false),
+        Some(at) => set_if(alloc, cells, at, v),
+    }
+}
+
+/// Puts a value into a list, if the list has such a place.
+pub(crate) fn set_if(
+    alloc: Global,
+    cells: &mut Seq<Value>,
+    at: usize,
+    v: &Value,
+) -> Result<bool, NoMemory>
+    ensures { IfOk result (λ done. MatchBool done (set_if cells.old v.now at ≡ Some cells.new) ((set_if cells.old v.now at ≡ None) × (cells.new ≡ cells.old))) }
+{
+    match cells.get(at) {
+        None => Ok(false),
+        Some(_) => {
+            let v = v.copy(alloc)?;
+            cells.set(at, v);
+            Ok(true)
+        }
+    }
+}
+
+/// The value in a cell of an object. None for an object that is no instance, and where its type has no such cell.
+pub fn cell_in<'a, Q: Answers>(
+    alloc: Global,
+    q: &Q,
+    c: Cell,
+    o: &'a Obj,
+) -> Result<Option<&'a Value>, NoMemory>
+    ensures { IfOk result (λ v. option_copied v ≡ cell_in (Q.queries q.now) c o.now) }
+{
+    match o {
+        Obj::Instance { of, cells } => cell_of(alloc, q, of, cells.as_slice(), c),
+        Obj::Boxed { .. } => Ok(None),
+        Obj::Array { .. } => Ok(None),
+        Obj::Str(_) => Ok(None),
+        Obj::TypeOf(_) => Ok(None),
+        Obj::Member(_, _) => Ok(None),
+    }
 }

@@ -5,11 +5,12 @@
 mod cells;
 mod frames;
 mod globals;
+mod objects;
 mod places;
 mod structs;
 
-pub use cells::{cell_of, cell_place, with_cell};
+pub use cells::{cell_in, cell_of, cell_place, with_cell};
 pub use frames::{frame_with, has_ended};
 pub use globals::{global_of, with_global};
 pub use places::{place_value, put_place};
-pub use structs::{put_in, value_in};
+pub use structs::{part_of, put_in, value_in};

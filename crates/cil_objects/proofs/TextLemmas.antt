@@ -1,0 +1,34 @@
+-- New strings, and the strings of `ldstr`.
+use Rattle.std.proofs.Common.{◌≡◌, refl, sym, ℕ, ◌<◌, ◌≤◌, List, [], ◌∷◌, ◌++◌, length}
+use Rattle.std.specs.Prelude.{Option, Some, None, find, slice_get}
+use Rattle.std.proofs.lemmas.Bool.{le-leb, lt-leb}
+use Rattle.cil_values.specs.declared.object.Obj.{Obj}
+use Rattle.cil_values.specs.declared.object.Obj.TheVariants as object
+use Rattle.cil_values.specs.declared.state.State.{State}
+use Rattle.step_rules.specs.Objects.{text_limit, made_text, holds_text, text_object, interned}
+use Rattle.cil_objects.specs.Made.{GoesOn, new_text}
+
+pub too_long : (units : List ℕ) (s t : State) → text_limit < length units → GoesOn (made_text units s) s None t
+unfolding made_text
+too_long units s t h f = rw (lt-leb (length units) text_limit h) refl
+
+pub is_made : (units : List ℕ) (s : State) (heap : List Obj) (a : ℕ) → length units ≤ text_limit → heap ≡ s.heap ++ object.Str units ∷ [] → a ≡ length s.heap
+    → GoesOn (made_text units s) s (Some a) (record s { heap = heap })
+unfolding made_text
+is_made units s heap a h e k f = rw (le-leb (length units) text_limit h, e, k) refl
+
+pub none_made : (units copy : List ℕ) (s t : State) → copy ≡ units → GoesOn (made_text copy s) s None t → GoesOn (new_text units s) s None t
+none_made units copy s t e h f = rw (sym e) (h (λ a t. f a (record t { texts = t.texts ++ a ∷ [] })))
+
+pub one_made : (units copy : List ℕ) (s t : State) (a : ℕ) (texts : List ℕ) → copy ≡ units → texts ≡ t.texts ++ a ∷ [] → GoesOn (made_text copy s) s (Some a) t
+    → GoesOn (new_text units s) s (Some a) (record t { texts = texts })
+one_made units copy s t a texts e k h f = rw (sym e, k) (h (λ a t. f a (record t { texts = t.texts ++ a ∷ [] })))
+
+pub was_there : (units : List ℕ) (s : State) (a : ℕ) → Some a ≡ find (λ at. holds_text units (slice_get s.heap at)) s.texts → GoesOn (interned units s) s (Some a) s
+unfolding interned text_object
+was_there units s a e f = rw (sym e) refl
+
+pub is_new : (units : List ℕ) (s t : State) (answer : Option ℕ) → None ≡ find (λ at. holds_text units (slice_get s.heap at)) s.texts → GoesOn (new_text units s) s answer t
+    → GoesOn (interned units s) s answer t
+unfolding interned text_object
+is_new units s t answer e h f = rw (sym e) (h f)

@@ -1,0 +1,4 @@
+pub mod Backs
+pub mod Held
+pub mod Mixed
+pub mod Ways
