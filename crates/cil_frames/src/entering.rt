@@ -24,7 +24,8 @@ fn has_room(st: &State) -> bool
     st.below.len() < FRAME_LIMIT - 1
 }
 
-fn copy_use(alloc: Global, used: &MethodUse) -> Result<MethodUse, NoMemory>
+/// A copy of a use.
+pub fn copy_use(alloc: Global, used: &MethodUse) -> Result<MethodUse, NoMemory>
     ensures { IfOk result (λ u. u ≡ used.now) }
 {
     let owner = used.owner.copy(alloc)?;

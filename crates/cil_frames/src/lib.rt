@@ -7,7 +7,7 @@ mod heads;
 mod locals;
 mod starting;
 
-pub use entering::enter;
+pub use entering::{copy_use, enter};
 pub use heads::{definition_of, head_has, head_of};
 pub use locals::zero_locals;
 pub use starting::{initializer, started};
