@@ -3,10 +3,13 @@
 #![tactic(auto)]
 
 mod branches;
+mod compare;
 mod constants;
 mod numbers;
 mod operands;
+mod places;
 mod slots;
+mod test;
 
 pub use branches::{branch, branch_if, switch};
 pub use constants::{duplicate, load_int32, load_int64, load_null, nop, pop};

@@ -3,9 +3,11 @@
 ghost use Rattle.std.specs.Prelude.{◌≡◌, true, if◌then◌else◌};
 ghost use Rattle.std.specs.Int.{w32, w64};
 ghost use Rattle.step_rules.specs.Integers.{fits_signed};
-ghost use Rattle.cil_numbers.specs.Operands.{number_in, slot_in, target_in};
+ghost use Rattle.cil_numbers.specs.Operands.{number_in, slot_in, target_in, targets_in};
+ghost use Rattle.std.specs.Option.{option_copied};
 
 use cil_values::Use;
+use il_base::Seq;
 
 /// The constant.
 pub(crate) fn number_in(operand: &Use) -> Option<i64>
@@ -13,14 +15,7 @@ pub(crate) fn number_in(operand: &Use) -> Option<i64>
 {
     match operand {
         Use::Number(n) => Some(*n),
-        Use::Nothing => None,
-        Use::Slot(_) => None,
-        Use::Target(_) => None,
-        Use::Targets(_) => None,
-        Use::Typ(_) => None,
-        Use::Method(_) => None,
-        Use::Field(_) => None,
-        Use::Text(_) => None,
+        _ => None,
     }
 }
 
@@ -40,6 +35,16 @@ pub(crate) fn target_in(operand: &Use) -> Option<u32>
 {
     match operand {
         Use::Target(to) => Some(*to),
+        _ => None,
+    }
+}
+
+/// The IL offsets of a `switch`.
+pub(crate) fn targets_in(operand: &Use) -> Option<&Seq<u32>>
+    ensures { option_copied result ≡ targets_in operand.now }
+{
+    match operand {
+        Use::Targets(tos) => Some(tos),
         _ => None,
     }
 }
