@@ -1,15 +1,16 @@
-ghost use Rattle.std.specs.Prelude.{◌≡◌, [], ◌∷◌, ◌++◌, ◌<◌, length, slice_get, slice_set, IfOk, OnOk, OnErr, OnSome};
+ghost use Rattle.std.specs.Prelude.{◌≡◌, [], ◌∷◌, ◌++◌, ◌<◌, length, slice_get, slice_set, IfOk, Some, OnOk, OnErr, OnSome};
 ghost use Rattle.std.specs.Option.{option_copied};
 
 use crate::object::Obj;
-use il_base::{NoMemory, Seq};
+use il_base::NoMemory;
 use std::alloc::Global;
 use std::marker::Model;
+use std::mem;
 
 /// The objects that were made, each with a number: the first is 0. No object is ever removed.
 #[derive(Drop)]
 pub struct Heap {
-    objects: Seq<Obj>,
+    objects: Vec<Obj>,
 }
 
 impl Model for Heap {
@@ -22,7 +23,7 @@ impl Model for Heap {
 
     ghost coded = { Prim.hlevel (codes, object.the_row.coded) };
 
-    ghost view = { λ h. h.objects };
+    ghost view = { λ h. h.objects.items };
 }
 
 impl Heap {
@@ -31,7 +32,7 @@ impl Heap {
         ensures { result ≡ [] }
     {
         Heap {
-            objects: Seq::new(alloc),
+            objects: Vec::new(alloc),
         }
     }
 
@@ -58,11 +59,20 @@ impl Heap {
         self.objects.get(at as usize)
     }
 
+    /// Takes an object out and puts another in its place.
+    pub fn replace(&mut self, at: u32, o: Obj) -> Obj
+        requires { at < length self.old }
+        ensures taken { slice_get self.old at ≡ Some result }
+        ensures rest { self.new ≡ slice_set self.old at o }
+    {
+        mem::replace(&mut self.objects[at as usize], o)
+    }
+
     /// Puts an object in the place of another.
     pub fn set(&mut self, at: u32, o: Obj)
         requires { at < length self.old }
         ensures { self.new ≡ slice_set self.old at o }
     {
-        self.objects.set(at as usize, o);
+        self.objects[at as usize] = o;
     }
 }

@@ -1,4 +1,4 @@
-ghost use Rattle.std.specs.Prelude.{◌≡◌, [], ◌∷◌, length, MatchOption, OnOk, OnErr};
+ghost use Rattle.std.specs.Prelude.{◌≡◌, [], ◌∷◌, length, reverse, MatchOption, OnOk, OnErr};
 
 use il_base::NoMemory;
 use std::alloc::Global;
@@ -36,6 +36,28 @@ impl<T> Stack<T> {
         ensures { result ≡ length self.now }
     {
         self.items.len()
+    }
+
+    /// The stack of these elements, the top last. It takes no memory.
+    pub fn from_vec(items: Vec<T>) -> Stack<T>
+        ensures { result ≡ reverse items.items }
+    {
+        Stack { items }
+    }
+
+    /// The elements, the top last, without taking memory.
+    pub fn into_vec(self) -> Vec<T>
+        ensures { result.items ≡ reverse self }
+    {
+        let Stack { items } = self;
+        items
+    }
+
+    /// The elements, the top last.
+    pub fn as_slice(&self) -> &[T]
+        ensures { result.now ≡ reverse self.now }
+    {
+        self.items.as_slice()
     }
 
     /// Takes the top off.

@@ -3,7 +3,7 @@
 use Rattle.std.specs.Prelude.{ℕ, ◌-◌, ◌*◌, ◌^◌, ◌==◌, nat_lt, ℤ, pos, negsuc, unsigned_abs, Bool, ◌||◌, Option, Some, None, if◌then◌else◌}
 use Rattle.std.specs.Int.{Width, w8, w16, w32, w64, int_wrap, int_rem_euclid, byte_len, cast_unsigned}
 use Rattle.std.specs.Option.{option_map}
-use Rattle.il_base.specs.declared.element.TheConstants.{BOOLEAN, CHAR, I1, U1, I2, U2, I4, U4, I8, U8, I, U}
+use Rattle.il_base.specs.declared.element.TheConstants.{BOOLEAN, CHAR, I1, U1, I2, U2, I8, U8, I, U}
 use Rattle.cil_values.specs.declared.value.Value.{Value}
 use Rattle.cil_values.specs.declared.value.Value.TheVariants as value
 
@@ -33,16 +33,19 @@ fits_unsigned w n = nat_lt n (2 ^ bits w)
 
 -- ---- types
 
+abbrev pub is_native : ℕ → Bool
+is_native code = code == I || code == U
+
+abbrev pub is_long : ℕ → Bool
+is_long code = code == I8 || code == U8
+
 -- in bytes
 unfoldable pub width_of : ℕ → ℕ
 width_of code =
     if code == BOOLEAN || code == I1 || code == U1 then 1
     else if code == CHAR || code == I2 || code == U2 then 2
-    else if code == I4 || code == U4 then 4
-    else 8
-
-abbrev pub is_native : ℕ → Bool
-is_native code = code == I || code == U
+    else if is_long code || is_native code then 8
+    else 4
 
 -- the number as a cell of the type keeps it: short ones are cut, and then extended by their sign or by zeros
 unfoldable pub cut : ℕ → ℤ → ℤ
@@ -51,22 +54,19 @@ cut code n =
     else if code == BOOLEAN || code == U1 then pos (low w8 n)
     else if code == I2 then wrap w16 n
     else if code == CHAR || code == U2 then pos (low w16 n)
-    else if code == I4 || code == U4 then wrap w32 n
-    else wrap w64 n
+    else if is_long code || is_native code then wrap w64 n
+    else wrap w32 n
 
 -- a number of the type on the stack
 unfoldable pub number : ℕ → ℤ → Value
 number code n =
     if is_native code then value.Native (cut code n)
-    else if code == I8 || code == U8 then value.I8 (cut code n)
+    else if is_long code then value.I8 (cut code n)
     else value.I4 (cut code n)
 
 -- a native unsigned integer takes an int32 as unsigned
 abbrev pub widened : ℕ → ℤ → ℤ
 widened code n = if code == U then pos (cast_unsigned w32 n) else n
-
-abbrev pub is_long : ℕ → Bool
-is_long code = code == I8 || code == U8
 
 abbrev pub if_not : Bool → ℤ → Option ℤ
 if_not b n = if b then None else Some n
