@@ -1,0 +1,40 @@
+//! The definitions that types are of.
+
+ghost use Rattle.std.specs.Prelude.{◌≡◌};
+ghost use Rattle.step_rules.specs.Frames.{definition_of, head_of};
+
+use cil_queries::Answers;
+use cil_values::Head;
+use world_model::TypeExpr;
+
+/// The definition that a type is of, alone or with arguments, by its place in the world.
+#[tactic(auto, unfolding(step_rules::specs::Frames::definition_of))]
+pub fn definition_of(ty: &TypeExpr) -> Option<u32>
+    ensures { result ≡ definition_of ty.now }
+{
+    match ty {
+        TypeExpr::Def(id) => Some(id.0),
+        TypeExpr::Inst(id, _) => Some(id.0),
+        TypeExpr::Prim(_) => None,
+        TypeExpr::Array(_) => None,
+        TypeExpr::ByRef(_) => None,
+        TypeExpr::Var(_) => None,
+        TypeExpr::MVar(_) => None,
+        TypeExpr::Mod {
+            required: _,
+            by: _,
+            inner: _,
+        } => None,
+    }
+}
+
+/// The flags and the number of parameters of the definition that a type is of.
+#[tactic(auto, unfolding(step_rules::specs::Frames::head_of))]
+pub fn head_of<Q: Answers>(q: &Q, ty: &TypeExpr) -> Option<Head>
+    ensures { result ≡ head_of (Q.queries q.now) ty.now }
+{
+    match definition_of(ty) {
+        None => None,
+        Some(id) => q.head(id),
+    }
+}

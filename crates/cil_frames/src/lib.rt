@@ -1,0 +1,13 @@
+//! Methods are entered (I.12.4.1), and initializers begin (II.10.5.3). In goes a state at the instruction that calls or
+//! accesses; out comes what the step comes to, as `step_rules/specs/Frames` has it.
+#![tactic(auto)]
+
+mod entering;
+mod heads;
+mod locals;
+mod starting;
+
+pub use entering::enter;
+pub use heads::{definition_of, head_of};
+pub use locals::zero_locals;
+pub use starting::{initializer, started};

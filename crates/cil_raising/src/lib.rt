@@ -1,0 +1,15 @@
+//! Exceptions (I.12.4.2): the search for a handler over all frames, and the way there through finally and fault handlers. In
+//! goes a state at the instruction that raises; out comes what the step comes to, as `step_rules/specs/Raising` has it.
+#![tactic(auto)]
+
+mod clauses;
+mod handlers;
+mod inits;
+mod search;
+mod unwinding;
+
+pub use clauses::{is_catch, is_fault, is_finally, is_in_handler, is_in_try};
+pub use handlers::{handler_begins, still_running};
+pub use inits::set_init;
+pub use search::{raise, throw};
+pub use unwinding::unwind;
