@@ -8,5 +8,5 @@ use Rattle.cil_numbers.proofs.test.compares32.Goals as goal
 pub returns : goal.returns
 returns c =
     let e : c.order32.result ≡ order w32 c.args.a c.args.b =
-        rw (to_z-of_z w32 c.args.a c.ranges.a, to_z-of_z w32 c.args.b c.ranges.b) at c.order32.ensures in
+    rw (to_z-of_z w32 c.args.a c.ranges.a, to_z-of_z w32 c.args.b c.ranges.b) at c.order32.ensures in
     c.holds.ensures ∙ ap (holds c.args.t) e ∙ sym (compares_by c.args.t w32 c.args.a c.args.b)

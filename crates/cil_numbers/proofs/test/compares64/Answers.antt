@@ -8,5 +8,5 @@ use Rattle.cil_numbers.proofs.test.compares64.Goals as goal
 pub returns : goal.returns
 returns c =
     let e : c.order64.result ≡ order w64 c.args.a c.args.b =
-        rw (to_z-of_z w64 c.args.a c.ranges.a, to_z-of_z w64 c.args.b c.ranges.b) at c.order64.ensures in
+    rw (to_z-of_z w64 c.args.a c.ranges.a, to_z-of_z w64 c.args.b c.ranges.b) at c.order64.ensures in
     c.holds.ensures ∙ ap (holds c.args.t) e ∙ sym (compares_by c.args.t w64 c.args.a c.args.b)
