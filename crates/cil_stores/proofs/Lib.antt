@@ -1,1 +1,2 @@
+pub mod AllFit
 pub mod Wrapping
