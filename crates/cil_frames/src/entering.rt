@@ -1,18 +1,56 @@
 //! Frames.
 
-ghost use Rattle.std.specs.Prelude.{◌≡◌, [], IfOk};
-ghost use Rattle.step_rules.specs.Frames.{enter};
+ghost use Rattle.std.specs.Prelude.{◌≡◌, ◌+◌, [], ◌∷◌, IfOk, OnOk};
+ghost use Rattle.step_rules.specs.Frames.{has_room, enter};
 ghost use Rattle.cil_closing.specs.Callees.{callee_by};
 ghost use Rattle.cil_words.specs.Steps.{next_of};
 
+use crate::locals::zero_locals;
 use cil_closing::Callee;
 use cil_queries::Answers;
-use cil_values::{State, Value, Waits};
-use cil_words::StepOut;
+use cil_values::{Frame, Prefix, Stack, State, Value, Waits};
+use cil_words::{StepOut, stopped, stuck};
 use il_base::{NoMemory, Seq};
 use std::alloc::Global;
+use std::mem;
+use world_model::{Known, MethodUse, TypeExpr};
+
+/// The most frames at a time.
+const FRAME_LIMIT: usize = 65536;
+
+fn has_room(st: &State) -> bool
+    ensures { result ≡ has_room st.now }
+{
+    st.below.len() < FRAME_LIMIT - 1
+}
+
+fn copy_use(alloc: Global, used: &MethodUse) -> Result<MethodUse, NoMemory>
+    ensures { IfOk result (λ u. u ≡ used.now) }
+{
+    let owner = used.owner.copy(alloc)?;
+    let args = TypeExpr::copy_all(alloc, used.args.as_slice())?;
+    Ok(MethodUse {
+        method: used.method,
+        owner,
+        args,
+    })
+}
+
+/// A frame on top of the others. One that would be the 18446744073709551616th is answered as want of memory.
+fn push_frame(st: &mut State, f: Frame) -> Result<(), NoMemory>
+    ensures { OnOk result (st.new ≡ record st.old { top = f; below = st.old.top ∷ st.old.below; entered = st.old.entered + 1 }) }
+{
+    if st.entered == u64::MAX {
+        return Err(NoMemory);
+    }
+    let caller = mem::replace(&mut st.top, f);
+    st.below.push(caller)?;
+    st.entered += 1;
+    Ok(())
+}
 
 /// Enters a method with these arguments, as its slots keep them. The top frame waits.
+#[tactic(auto, unfolding(step_rules::specs::Frames::enter))]
 pub fn enter<Q: Answers>(
     alloc: Global,
     q: &Q,
@@ -23,5 +61,30 @@ pub fn enter<Q: Answers>(
 ) -> Result<StepOut, NoMemory>
     ensures { IfOk result (λ out. next_of out st.new [] ≡ enter (Q.queries q.now) (callee_by c.now) args waits st.old) }
 {
-    Err(NoMemory)
+    let Some(body) = &c.method.body else {
+        return Ok(stuck(st));
+    };
+    let Known::Good(code) = body else {
+        return Ok(stopped(st));
+    };
+    let Some(locals) = zero_locals(alloc, q, &c.called, code)? else {
+        return Ok(stopped(st));
+    };
+    if !has_room(st) {
+        return Ok(stopped(st));
+    }
+    let method = copy_use(alloc, &c.called)?;
+    let frame = Frame {
+        number: st.entered,
+        method,
+        args,
+        locals,
+        stack: Stack::new(alloc),
+        at: 0,
+        prefix: Prefix::None,
+        running: Stack::new(alloc),
+        waits,
+    };
+    push_frame(st, frame)?;
+    Ok(StepOut::Went)
 }

@@ -1,7 +1,7 @@
 //! The definitions that types are of.
 
-ghost use Rattle.std.specs.Prelude.{◌≡◌};
-ghost use Rattle.step_rules.specs.Frames.{definition_of, head_of};
+ghost use Rattle.std.specs.Prelude.{◌≡◌, ◌<◌};
+ghost use Rattle.step_rules.specs.Frames.{definition_of, head_has, head_of};
 
 use cil_queries::Answers;
 use cil_values::Head;
@@ -36,5 +36,16 @@ pub fn head_of<Q: Answers>(q: &Q, ty: &TypeExpr) -> Option<Head>
     match definition_of(ty) {
         None => None,
         Some(id) => q.head(id),
+    }
+}
+
+/// Whether there is a definition, and it has a flag of one bit (II.23.1.15).
+pub fn head_has(flag: u32, head: Option<Head>) -> bool
+    requires { 0 < flag }
+    ensures { result ≡ head_has flag head }
+{
+    match head {
+        None => false,
+        Some(head) => head.flags / flag % 2 == 1,
     }
 }

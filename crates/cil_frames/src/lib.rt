@@ -8,6 +8,6 @@ mod locals;
 mod starting;
 
 pub use entering::enter;
-pub use heads::{definition_of, head_of};
+pub use heads::{definition_of, head_has, head_of};
 pub use locals::zero_locals;
 pub use starting::{initializer, started};

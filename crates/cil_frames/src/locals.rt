@@ -1,15 +1,54 @@
 //! What locals hold at first (II.25.4.4).
 
 ghost use Rattle.std.specs.Prelude.{◌≡◌, IfOk};
-ghost use Rattle.step_rules.specs.Frames.{zero_locals};
+ghost use Rattle.step_rules.specs.Closing.{all_of};
+ghost use Rattle.step_rules.specs.Frames.{zero_local, zero_locals};
 
+use cil_closing::{args_of, closed_slot};
 use cil_queries::Answers;
+use cil_stores::zero_of;
 use cil_values::{Code, Value};
 use il_base::{NoMemory, Seq};
 use std::alloc::Global;
-use world_model::MethodUse;
+use world_model::{Known, MethodUse, TypeExpr};
+
+/// What a local of an open type holds at first, in a closed method.
+fn zero_local<Q: Answers>(
+    alloc: Global,
+    q: &Q,
+    called: &MethodUse,
+    ty: &TypeExpr,
+) -> Result<Option<Value>, NoMemory>
+    ensures { IfOk result (λ value. value ≡ zero_local (Q.queries q.now) called.now ty.now) }
+{
+    let targs = args_of(&called.owner);
+    let Some(closed) = closed_slot(alloc, q, targs, called.args.as_slice(), ty)? else {
+        return Ok(None);
+    };
+    zero_of(alloc, q, &closed)
+}
+
+fn zeros<Q: Answers>(
+    alloc: Global,
+    q: &Q,
+    called: &MethodUse,
+    types: &[TypeExpr],
+) -> Result<Option<Seq<Value>>, NoMemory>
+    ensures { IfOk result (λ values. values ≡ all_of (zero_local (Q.queries q.now) called.now) types.now) }
+{
+    let mut values = Seq::new(alloc);
+    for ty in types {
+        match zero_local(alloc, q, called, ty) {
+            Err(error) => return Err(error),
+            Ok(None) => return Ok(None),
+            Ok(Some(value)) => values.push(value)?,
+        }
+    }
+    Ok(Some(values))
+}
 
 /// What the locals of a closed method hold at first. None where the type of one has no meaning or no zero value.
+#[tactic(auto, unfolding(step_rules::specs::Frames::zero_locals))]
 pub fn zero_locals<Q: Answers>(
     alloc: Global,
     q: &Q,
@@ -18,5 +57,8 @@ pub fn zero_locals<Q: Answers>(
 ) -> Result<Option<Seq<Value>>, NoMemory>
     ensures { IfOk result (λ values. values ≡ zero_locals (Q.queries q.now) called.now code.now) }
 {
-    Err(NoMemory)
+    match &code.locals {
+        Known::Bad(_) => Ok(None),
+        Known::Good(types) => zeros(alloc, q, called, types.as_slice()),
+    }
 }

@@ -1,21 +1,35 @@
 //! How far initializers have come.
 
-ghost use Rattle.std.specs.Prelude.{◌≡◌};
-ghost use Rattle.step_rules.specs.Raising.{set_init};
+ghost use Rattle.std.specs.Prelude.{◌≡◌, IfOk};
+ghost use Rattle.step_rules.specs.Raising.{change_init, set_init};
 
 use cil_values::{Init, Started};
-use il_base::Seq;
+use il_base::{NoMemory, Seq};
+use std::alloc::Global;
 use world_model::TypeExpr;
 
-/// Notes how far the initializer of a closed type has come, where it was begun.
-pub fn set_init(ty: &TypeExpr, init: Init, inits: Seq<Started>) -> Seq<Started>
-    ensures { result ≡ set_init ty.now init inits }
+fn changed(ty: &TypeExpr, init: Init, x: Started) -> Started
+    ensures { result ≡ change_init ty.now init x }
 {
-    let mut items = inits.into_vec();
-    for x in items.iter_mut() {
-        if x.typ.is_same(ty) {
-            x.init = init;
-        }
+    if !x.typ.is_same(ty) {
+        return x;
     }
-    Seq::from_vec(items)
+    Started { typ: x.typ, init }
+}
+
+/// Notes how far the initializer of a closed type has come, where it was begun.
+pub fn set_init(
+    alloc: Global,
+    ty: &TypeExpr,
+    init: Init,
+    inits: Seq<Started>,
+) -> Result<Seq<Started>, NoMemory>
+    ensures { IfOk result (λ noted. noted ≡ set_init ty.now init inits) }
+{
+    let mut noted = Seq::new(alloc);
+    for x in inits.into_vec() {
+        let x = changed(ty, init, x);
+        noted.push(x)?;
+    }
+    Ok(noted)
 }

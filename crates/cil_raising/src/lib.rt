@@ -8,7 +8,7 @@ mod inits;
 mod search;
 mod unwinding;
 
-pub use clauses::{is_catch, is_fault, is_finally, is_in_handler, is_in_try};
+pub use clauses::{is_catch, is_finally, is_in_handler, is_in_try};
 pub use handlers::{handler_begins, still_running};
 pub use inits::set_init;
 pub use search::{raise, throw};

@@ -1,0 +1,4 @@
+pub mod Searching
+pub mod Placing
+pub mod Ways
+pub mod Catching
