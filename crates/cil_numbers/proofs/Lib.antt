@@ -1,0 +1,5 @@
+pub mod Comparing
+pub mod Exact
+pub mod Opcodes
+pub mod Outcomes
+pub mod Conversions

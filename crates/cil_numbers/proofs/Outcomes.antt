@@ -1,0 +1,63 @@
+-- The forms by what their instructions come to.
+use Rattle.std.proofs.Common.{◌≡◌, ℕ, ℤ, List, ◌∷◌, Bool, true, false, Option, Some, None, refl, sym, ap, ◌∙◌, if◌then◌else◌, option_map, option_and_then}
+use Rattle.cil_values.specs.declared.value.Value.{Value}
+use Rattle.cil_values.specs.declared.resolved.Instruction.{Instruction}
+use Rattle.cil_values.specs.declared.state.State.{State}
+use Rattle.cil_numbers.specs.declared.outcome.Outcome.{Outcome}
+use Rattle.cil_numbers.specs.Outcomes.{binary_of, convert_of, converted_by, binary_by, shifted_by, compared_to, computed, gives, finished, outcome_by}
+use Rattle.step_rules.specs.Queries.{Queries}
+use Rattle.step_rules.specs.Next.{Next}
+use Rattle.step_rules.specs.Words.{Here, given, goes, truth_value}
+use Rattle.step_rules.specs.Comparisons.{Numbers, Test, numbers, test}
+use Rattle.step_rules.specs.Numbers as rules
+use Rattle.step_rules.specs.Numbers.{Answer, is, raises, arithmetic, comparison, is_shift, shift, shift_count, compute_values, answered, Conversion, conversion, converted, operand_of, convert_by}
+use Rattle.step_rules.specs.Integers.{number}
+
+one_by : (q : Queries) (here : Here) (i : Instruction) (stack : List Value) (s : State) (back : ℤ → Value) (a : Answer) → answered q here i stack s back a ≡ finished q here i stack s (outcome_by back a)
+one_by q here i stack s back (is x) = refl
+one_by q here i stack s back (raises name) = refl
+
+answer_by : (q : Queries) (here : Here) (i : Instruction) (stack : List Value) (s : State) (n : Numbers) (a : Option Answer) → given a s (answered q here i stack s n.back) ≡ given (option_map (outcome_by n.back) a) s (finished q here i stack s)
+answer_by q here i stack s n None = refl
+answer_by q here i stack s n (Some (is x)) = refl
+answer_by q here i stack s n (Some (raises name)) = refl
+
+numbers_by : (q : Queries) (here : Here) (i : Instruction) (stack : List Value) (s : State) (n : Option Numbers) → given n s (rules.arithmetic_of q here i stack s) ≡ given (option_and_then (computed i.opcode) n) s (finished q here i stack s)
+numbers_by q here i stack s None = refl
+numbers_by q here i stack s (Some n) = answer_by q here i stack s n (arithmetic i.opcode n.width n.left n.right)
+
+pushed_by : (q : Queries) (here : Here) (i : Instruction) (stack : List Value) (s : State) (v : Option Value) → given v s (λ v. goes here i (v ∷ stack) s) ≡ given (option_map gives v) s (finished q here i stack s)
+pushed_by q here i stack s None = refl
+pushed_by q here i stack s (Some v) = refl
+
+shifts_by : (q : Queries) (here : Here) (i : Instruction) (stack : List Value) (s : State) (a : Value) (n : Option ℕ) → given n s (λ count. given (shift i.opcode a count) s (λ v. goes here i (v ∷ stack) s)) ≡ given (option_and_then (λ count. option_map gives (shift i.opcode a count)) n) s (finished q here i stack s)
+shifts_by q here i stack s a None = refl
+shifts_by q here i stack s a (Some n) = pushed_by q here i stack s (shift i.opcode a n)
+
+truth_by : (q : Queries) (here : Here) (i : Instruction) (stack : List Value) (s : State) (b : Option Bool) → given b s (λ v. goes here i (truth_value v ∷ stack) s) ≡ given (option_map (λ yes. gives (truth_value yes)) b) s (finished q here i stack s)
+truth_by q here i stack s None = refl
+truth_by q here i stack s (Some b) = refl
+
+either_by : (q : Queries) (here : Here) (i : Instruction) (stack : List Value) (s : State) (b : Bool) (x y : Next) (o p : Option Outcome) → x ≡ given o s (finished q here i stack s) → y ≡ given p s (finished q here i stack s) → (if b then x else y) ≡ given (if b then o else p) s (finished q here i stack s)
+either_by q here i stack s true x y o p e f = e
+either_by q here i stack s false x y o p e f = f
+
+computed_by : (q : Queries) (here : Here) (i : Instruction) (stack : List Value) (s : State) (a b : Value) (t : Option Test) → compute_values q here i stack s a b t ≡ given (binary_by i.opcode a b t) s (finished q here i stack s)
+computed_by q here i stack s a b (Some t) = truth_by q here i stack s (test t a b)
+computed_by q here i stack s a b None = either_by q here i stack s (is_shift i.opcode) _ _ _ _ (shifts_by q here i stack s a (shift_count b)) (numbers_by q here i stack s (numbers a b))
+
+-- `binary`, by what the instruction comes to
+pub binary_at : (q : Queries) (here : Here) (i : Instruction) (stack : List Value) (s : State) (a b : Value) (o : Option Outcome) → o ≡ binary_of i.opcode a b → compute_values q here i stack s a b (comparison i.opcode) ≡ given o s (finished q here i stack s)
+binary_at q here i stack s a b o e = computed_by q here i stack s a b (comparison i.opcode) ∙ ap (λ (x : Option Outcome). given x s (finished q here i stack s)) (sym e)
+
+operand_by : (q : Queries) (here : Here) (i : Instruction) (stack : List Value) (s : State) (c : Conversion) (n : Option ℤ) → given n s (λ n. answered q here i stack s (number c.to) (converted c n)) ≡ given (option_map (λ n. outcome_by (number c.to) (converted c n)) n) s (finished q here i stack s)
+operand_by q here i stack s c None = refl
+operand_by q here i stack s c (Some n) = one_by q here i stack s (number c.to) (converted c n)
+
+conversion_by : (q : Queries) (here : Here) (i : Instruction) (stack : List Value) (s : State) (v : Value) (c : Option Conversion) → given c s (convert_by q here i stack s v) ≡ given (option_and_then (converted_by v) c) s (finished q here i stack s)
+conversion_by q here i stack s v None = refl
+conversion_by q here i stack s v (Some c) = operand_by q here i stack s c (operand_of c.unsigned v)
+
+-- `convert`, by what the instruction comes to
+pub convert_at : (q : Queries) (here : Here) (i : Instruction) (stack : List Value) (s : State) (v : Value) (o : Option Outcome) → o ≡ convert_of i.opcode v → given (conversion i.opcode) s (convert_by q here i stack s v) ≡ given o s (finished q here i stack s)
+convert_at q here i stack s v o e = conversion_by q here i stack s v (conversion i.opcode) ∙ ap (λ (x : Option Outcome). given x s (finished q here i stack s)) (sym e)

@@ -1,0 +1,5 @@
+pub mod Operands
+pub mod Tests
+pub mod Answers
+pub mod Outcomes
+pub mod Conversions
