@@ -9,13 +9,13 @@ ghost use Rattle.kept_tables.specs.Places.{token_in, owner_in};
 use il_base::table;
 use link_rules::RowAt;
 use merge_plan::Numbers;
-use world_model::index_in;
+use world_model::{index_in, table_of};
 
 /// The row, from 0, that a token of this table names; None for a token of another table or row 0.
 pub(crate) fn row_in(table: u32, token: u32) -> Option<u32>
     ensures { result ≡ index_in table token }
 {
-    let of = token / 0x100_0000;
+    let of = table_of(token);
     if of != table {
         return None;
     }
@@ -64,7 +64,7 @@ pub(crate) fn token_in(table: u32, rows: &Numbers, asm: u32, token: u32) -> Opti
 pub(crate) fn owner_in(types: &Numbers, methods: &Numbers, asm: u32, token: u32) -> Option<u32>
     ensures { result ≡ owner_in types.now methods.now asm token }
 {
-    if token / 0x100_0000 == table::TYPE_DEF {
+    if table_of(token) == table::TYPE_DEF {
         token_in(table::TYPE_DEF, types, asm, token)
     } else {
         token_in(table::METHOD_DEF, methods, asm, token)

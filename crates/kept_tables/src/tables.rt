@@ -16,7 +16,7 @@ use il_base::{NoMemory, table};
 use link_rules::RowAt;
 use merge_plan::{KeptItems, Kind, Numbers, kept_rows};
 use std::alloc::Global;
-use world_model::AsmRec;
+use world_model::{AsmRec, table_of};
 
 /// The rows of the output by the rows that they were: those of items, and the parameters of methods.
 #[derive(Drop)]
@@ -145,7 +145,7 @@ impl KeptTables {
     pub fn token(&self, asm: u32, token: u32) -> Option<u32>
         ensures { result ≡ token_by self.now asm token }
     {
-        let of = token / 0x100_0000;
+        let of = table_of(token);
         match row_in(of, token) {
             None => None,
             Some(row) => self.place(of, RowAt { asm, row }),

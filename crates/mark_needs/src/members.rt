@@ -8,7 +8,7 @@ ghost use Rattle.mark_tables.specs.Assemblies.{all_of, IsMarker};
 ghost use Rattle.mark_needs.specs.Accessors.{property_facts, event_facts, association_facts};
 
 use crate::types::mark_owner;
-use il_base::NoMemory;
+use il_base::{NoMemory, table};
 use link_rules::RowAt;
 use mark_facts::facts::Facts;
 use mark_facts::kinds::Kind;
@@ -16,10 +16,9 @@ use mark_facts::parts::Parts;
 use mark_parts::items::{add_parts_of_event, add_parts_of_property};
 use mark_rows::rows::{event_owner, property_owner};
 use mark_tables::marker::Marker;
-use member_search::params::token_of;
 use std::alloc::Global;
 use type_tables::methods::has_owner;
-use world_model::{AsmRec, index_in};
+use world_model::{AsmRec, index_in, token_of};
 
 /// Marks the type of a property.
 fn add_property_owner(marker: &Marker<'_>, at: RowAt, facts: &mut Facts) -> Result<(), NoMemory>
@@ -89,7 +88,7 @@ fn mark_property(
 ) -> Result<(), NoMemory>
     ensures { OnOk result (facts.new ≡ facts.old ++ property_facts all.now rec.now asm association) }
 {
-    let Some(row) = index_in(0x17, association) else {
+    let Some(row) = index_in(table::PROPERTY, association) else {
         return Ok(());
     };
     match property_owner(rec, row) {
@@ -108,7 +107,7 @@ fn mark_event(
 ) -> Result<(), NoMemory>
     ensures { OnOk result (facts.new ≡ facts.old ++ event_facts all.now rec.now asm association) }
 {
-    let Some(row) = index_in(0x14, association) else {
+    let Some(row) = index_in(table::EVENT, association) else {
         return Ok(());
     };
     match event_owner(rec, row) {
@@ -166,7 +165,7 @@ pub fn add_accessed(marker: &Marker<'_>, at: RowAt, facts: &mut Facts) -> Result
     if !owned {
         return Ok(());
     }
-    let token = token_of(0x06, at.row as usize)?;
+    let token = token_of(table::METHOD_DEF, at.row as usize)?;
     let rows = asm.owners.accessors.rows_with(token);
     let all = marker.tables.world.recs.as_slice();
     mark_associations(all, rec, at.asm, rows, facts)?;
