@@ -3,6 +3,7 @@
 ghost use Rattle.std.specs.Prelude.{◌≡◌, slice_get, IfOk};
 ghost use Rattle.std.specs.List.{list_any};
 ghost use Rattle.std.specs.Option.{option_and_then, option_copied};
+ghost use Rattle.il_base.specs.declared.table.TheConstants.{MEMBER_REF};
 ghost use Rattle.world_model.specs.Tokens.{index_in};
 ghost use Rattle.link_rules.specs.Signatures.{token_type};
 ghost use Rattle.mark_rules.specs.Naming.{method_named, field_named};
@@ -17,7 +18,7 @@ use il_base::{AsmId, Form, NoMemory, Operand, table};
 use std::alloc::Global;
 use world_laws::laws::tokens_named;
 use world_model::{
-    AsmRec, FieldUse, Known, MemberRefRow, MemberSig, MethodUse, TypeExpr, index_in,
+    AsmRec, FieldUse, Known, MemberRefRow, MemberSig, MethodUse, TypeExpr, index_in, table_of,
 };
 
 /// The method that a MethodDef, MemberRef or MethodSpec token names, if any.
@@ -73,9 +74,9 @@ fn is_field_row(row: Option<&MemberRefRow>) -> bool
 }
 
 fn member_row(rec: &AsmRec, token: u32) -> Option<&MemberRefRow>
-    ensures { option_copied result ≡ option_and_then (slice_get rec.now.member_ref) (index_in 10 token) }
+    ensures { option_copied result ≡ option_and_then (slice_get rec.now.member_ref) (index_in MEMBER_REF token) }
 {
-    match index_in(table::MEMBER_REF as u8, token) {
+    match index_in(table::MEMBER_REF, token) {
         None => None,
         Some(at) => rec.member_ref.get(at as usize),
     }
@@ -85,7 +86,7 @@ fn member_row(rec: &AsmRec, token: u32) -> Option<&MemberRefRow>
 pub fn is_field_token(rec: &AsmRec, token: u32) -> bool
     ensures { result ≡ is_field_token rec.now token }
 {
-    let of = token / 0x100_0000;
+    let of = table_of(token);
     of == table::FIELD || of == table::MEMBER_REF && is_field_row(member_row(rec, token))
 }
 
@@ -93,7 +94,7 @@ pub fn is_field_token(rec: &AsmRec, token: u32) -> bool
 pub fn is_method_token(token: u32) -> bool
     ensures { result ≡ is_method_token token }
 {
-    let of = token / 0x100_0000;
+    let of = table_of(token);
     of == table::METHOD_DEF || of == table::MEMBER_REF || of == table::METHOD_SPEC
 }
 

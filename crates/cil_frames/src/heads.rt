@@ -5,6 +5,7 @@ ghost use Rattle.step_rules.specs.Frames.{definition_of, head_has, head_of};
 
 use cil_queries::Answers;
 use cil_values::Head;
+use il_base::has_type_flag;
 use world_model::TypeExpr;
 
 /// The definition that a type is of, alone or with arguments, by its place in the world.
@@ -46,6 +47,6 @@ pub fn head_has(flag: u32, head: Option<Head>) -> bool
 {
     match head {
         None => false,
-        Some(head) => head.flags / flag % 2 == 1,
+        Some(head) => has_type_flag(head.flags, flag),
     }
 }

@@ -5,7 +5,7 @@ ghost use Rattle.link_rules.specs.Cycles.{is_static_field};
 ghost use Rattle.mark_rules.specs.Calls.{owner_facts, method_needs, initializer_of, method_starts, field_starts};
 ghost use Rattle.mark_tables.specs.Assemblies.{all_of, IsMarker};
 
-use il_base::NoMemory;
+use il_base::{NoMemory, field_flags, has_flag};
 use link_rules::RowAt;
 use mark_facts::facts::Facts;
 use mark_facts::kinds::Kind;
@@ -85,7 +85,7 @@ pub fn add_method_starts(
 fn is_static_field(f: &FieldRow) -> bool
     ensures { result ≡ is_static_field f.now }
 {
-    f.flags / 0x10 % 2 == 1
+    has_flag(f.flags, field_flags::STATIC)
 }
 
 /// Puts the initializer of a marked static field's type at the end.
