@@ -1,10 +1,12 @@
 -- The members of a kind and name are those that the definitions collect type by type.
 use Rattle.std.proofs.Common.{◌≡◌, ℕ, ◌<◌, ◌≤◌, ◌-◌, length, take, drop, length-drop, get_or, arith, List, [], ◌∷◌, ◌++◌, Bool, true, false, not, cond, ◌&&◌, Option, Some, None, refl, sym, ap, ◌∙◌}
-use Rattle.std.specs.Prelude.{◌||◌, ◌%◌, ◌/◌, ◌==◌, slice_get}
+use Rattle.std.specs.Prelude.{◌||◌, ◌==◌, slice_get}
 use Rattle.std.specs.List.{list_any, filter}
 use Rattle.std.proofs.Math.Bool.{and_assoc}
 use Rattle.std.proofs.lemmas.List.{take_all}
 use Rattle.std.proofs.lemmas.List.Elements.{filter_agree}
+use Rattle.il_base.specs.declared.field_flags.TheConstants.{PUBLIC, STATIC}
+use Rattle.il_base.specs.Flags.{has_flag, access_of}
 use Rattle.world_model.specs.declared.expr.TypeExpr.{TypeExpr}
 use Rattle.world_model.specs.declared.members.FieldRow.{FieldRow}
 use Rattle.world_model.specs.declared.members.MethodDefRow.{MethodDefRow}
