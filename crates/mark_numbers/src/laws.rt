@@ -1,0 +1,14 @@
+//! Laws on the numbers of facts: the contract of a function with an empty body.
+
+ghost use Rattle.mark_numbers.specs.Numbers.{FactsFound, NumbersFound};
+
+use world_laws::laws::homes_told;
+
+/// In a world that a link gave each fact that is there has a number of its own below the bound, and each number of a fact is
+/// that of a fact that is there.
+pub fn numbers_told()
+    ensures facts { FactsFound }
+    ensures numbers { NumbersFound }
+{
+    homes_told();
+}
