@@ -5,8 +5,6 @@
 mod facts;
 mod moves;
 mod pairs;
-#[cfg(test)]
-mod tests;
 mod walks;
 
 pub use moves::{Flowing, Move, Turning};
