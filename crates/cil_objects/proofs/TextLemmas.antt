@@ -1,12 +1,13 @@
 -- New strings, and the strings of `ldstr`.
-use Rattle.std.proofs.Common.{◌≡◌, refl, sym, ℕ, ◌<◌, ◌≤◌, List, [], ◌∷◌, ◌++◌, length}
+use Rattle.std.proofs.Common.{◌≡◌, ◌∙◌, refl, sym, ap, ℕ, ◌<◌, ◌≤◌, List, [], ◌∷◌, ◌++◌, length}
 use Rattle.std.specs.Prelude.{Option, Some, None, find, slice_get}
 use Rattle.std.proofs.lemmas.Bool.{le-leb, lt-leb}
 use Rattle.cil_values.specs.declared.object.Obj.{Obj}
 use Rattle.cil_values.specs.declared.object.Obj.TheVariants as object
 use Rattle.cil_values.specs.declared.state.State.{State}
+use Rattle.step_rules.specs.Next.{Next}
 use Rattle.step_rules.specs.Objects.{text_limit, made_text, holds_text, text_object, interned}
-use Rattle.cil_objects.specs.Made.{GoesOn, new_text}
+use Rattle.cil_objects.specs.Made.{goes_on, GoesOn, new_text}
 
 pub too_long : (units : List ℕ) (s t : State) → text_limit < length units → GoesOn (made_text units s) s None t
 unfolding made_text
@@ -17,12 +18,16 @@ pub is_made : (units : List ℕ) (s : State) (heap : List Obj) (a : ℕ) → len
 unfolding made_text
 is_made units s heap a h e k f = rw (le-leb (length units) text_limit h, e, k) refl
 
-pub none_made : (units copy : List ℕ) (s t : State) → copy ≡ units → GoesOn (made_text copy s) s None t → GoesOn (new_text units s) s None t
-none_made units copy s t e h f = rw (sym e) (h (λ a t. f a (record t { texts = t.texts ++ a ∷ [] })))
+pub none_made : (units copy : List ℕ) (s t : State) (answer : Option ℕ) → copy ≡ units → answer ≡ None → GoesOn (made_text copy s) s answer t → GoesOn (new_text units s) s None t
+none_made units copy s t answer e k h f =
+    let next : ℕ → State → Next = λ a t. f a (record t { texts = t.texts ++ a ∷ [] }) in
+    rw (sym e) (h next ∙ ap (λ (o : Option ℕ). goes_on o s t next) k)
 
-pub one_made : (units copy : List ℕ) (s t : State) (a : ℕ) (texts : List ℕ) → copy ≡ units → texts ≡ t.texts ++ a ∷ [] → GoesOn (made_text copy s) s (Some a) t
-    → GoesOn (new_text units s) s (Some a) (record t { texts = texts })
-one_made units copy s t a texts e k h f = rw (sym e, k) (h (λ a t. f a (record t { texts = t.texts ++ a ∷ [] })))
+pub one_made : (units copy : List ℕ) (s t : State) (answer : Option ℕ) (a : ℕ) (texts : List ℕ) → copy ≡ units → answer ≡ Some a → texts ≡ t.texts ++ a ∷ []
+    → GoesOn (made_text copy s) s answer t → GoesOn (new_text units s) s (Some a) (record t { texts = texts })
+one_made units copy s t answer a texts e k g h f =
+    let next : ℕ → State → Next = λ a t. f a (record t { texts = t.texts ++ a ∷ [] }) in
+    rw (sym e, g) (h next ∙ ap (λ (o : Option ℕ). goes_on o s t next) k)
 
 pub was_there : (units : List ℕ) (s : State) (a : ℕ) → Some a ≡ find (λ at. holds_text units (slice_get s.heap at)) s.texts → GoesOn (interned units s) s (Some a) s
 unfolding interned text_object

@@ -2,8 +2,8 @@ use Rattle.cil_objects.proofs.TextLemmas.{too_long, is_made}
 use Rattle.std.proofs.Common.{arith}
 use Rattle.cil_objects.proofs.texts.made_text.Goals as goal
 
-pub returns-then-units-len : goal.returns-then-units-len
-returns-then-units-len c = too_long c.args.units c.args.st.now c.args.st.now (omega (arith, c.if-units-len.true, c.len.ensures))
+pub returns-then-len-gt-TEXT_LIMIT : goal.returns-then-len-gt-TEXT_LIMIT
+returns-then-len-gt-TEXT_LIMIT c = too_long c.args.units c.args.st.now c.args.st.now (omega (arith, c.if-len-gt-TEXT_LIMIT.true, c.len.ensures))
 
 pub returns : goal.returns
-returns c = is_made c.args.units c.args.st.now c.add.new.self c.in_ok-at.at (omega (arith, c.if-units-len.false, c.len.ensures)) c.in_ok-at.ensures.ok c.in_ok-at.ensures.place
+returns c = is_made c.args.units c.args.st.now c.add.new.self c.in_ok-at.at (omega (arith, c.if-len-gt-TEXT_LIMIT.false, c.len.ensures)) c.in_ok-at.ensures.ok c.in_ok-at.ensures.place
