@@ -16,7 +16,9 @@ use il_base::{Body, Form, Handler, Instr, NoMemory, Operand, table};
 use mark_facts::parts::Parts;
 use mark_tables::assembly::Assembly;
 use std::alloc::Global;
-use world_model::{AsmRec, BadKind, Known, MemberRefRow, MemberSig, StandAloneSigRow, index_in, table_of};
+use world_model::{
+    AsmRec, BadKind, Known, MemberRefRow, MemberSig, StandAloneSigRow, index_in, table_of,
+};
 
 /// Whether a row of MemberRef is a field's.
 fn is_field_row(row: &MemberRefRow) -> bool

@@ -10,12 +10,12 @@ ghost use Rattle.type_rules.specs.Rows.{each_row};
 ghost use Rattle.mark_tables.specs.Assemblies.{recs_of, place_of, rec_of, IsAssembly};
 ghost use Rattle.mark_parts.specs.Constraints.{constraint_part, param_part};
 
-use world_model::token_of;
 use crate::tokens::add_type_token;
 use il_base::{NoMemory, table};
 use mark_facts::parts::Parts;
 use mark_tables::assembly::Assembly;
 use std::alloc::Global;
+use world_model::token_of;
 
 /// Puts what a row of GenericParamConstraint, from 0, names at the end.
 fn add_constraint(

@@ -6,7 +6,6 @@ ghost use Rattle.mark_rules.specs.Properties.{parts_of_property, parts_of_event}
 ghost use Rattle.mark_tables.specs.Assemblies.{recs_of, place_of, rec_of, all_of, IsAssembly, IsMarker};
 ghost use Rattle.mark_parts.specs.Items.{extends_parts};
 
-use world_model::token_of;
 use crate::constraints::add_constraints;
 use crate::sigs::{add_method_sig, add_sig};
 use crate::tokens::add_type_token;
@@ -16,6 +15,7 @@ use mark_facts::parts::Parts;
 use mark_tables::assembly::Assembly;
 use mark_tables::marker::Marker;
 use std::alloc::Global;
+use world_model::token_of;
 
 /// Puts what the Extends of a type names at the end, by the type's row from 0 and its token.
 fn add_extends(

@@ -18,7 +18,8 @@ use world_model::{AsmRec, FIRST_TYPE_DEF, FieldRow, index_in};
 fn is_enum_row(all: &[AsmRec], at: RowAt) -> bool
     ensures { result ≡ is_core_row_at all.now ENUM at }
 {
-    at.asm as usize + 1 == all.len() && u64::from(FIRST_TYPE_DEF) + u64::from(at.row) == u64::from(ENUM)
+    at.asm as usize + 1 == all.len()
+        && u64::from(FIRST_TYPE_DEF) + u64::from(at.row) == u64::from(ENUM)
 }
 
 /// Whether the base of a type is System.Enum (II.14.3).

@@ -24,7 +24,10 @@ impl Enclosers {
         let mut rows = HashMap::new(alloc);
         for row in rec.nested_class.as_slice() {
             if !rows.contains_key(&row.nested_class) {
-                rows.insert(row.nested_class, index_in(table::TYPE_DEF, row.enclosing_class))?;
+                rows.insert(
+                    row.nested_class,
+                    index_in(table::TYPE_DEF, row.enclosing_class),
+                )?;
             }
         }
         Ok(Enclosers { rows })

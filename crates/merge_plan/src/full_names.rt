@@ -4,6 +4,7 @@ ghost use Rattle.std.specs.Prelude.{◌≡◌, IfOk};
 ghost use Rattle.std.specs.Option.{option_copied};
 ghost use Rattle.type_rules.specs.Texts.{full_name_of};
 ghost use Rattle.type_rules.specs.Rows.{type_row_at};
+ghost use Rattle.il_base.specs.Flags.{access_of};
 ghost use Rattle.type_links.specs.Index.{IsIndex};
 ghost use Rattle.merge_plan.specs.OldNames.{types_of, AreOldNames};
 ghost use Rattle.merge_rules.specs.Names.{assembly_name, is_public, is_top_level, name_of, namespace_of, old_name};
@@ -72,13 +73,20 @@ pub(crate) fn assembly_name(recs: &[AsmRec], at: RowAt) -> &[u8]
     }
 }
 
+/// The visibility of a type: its low three flags (II.23.1.15).
+fn visibility_of(word: u32) -> u32
+    ensures { result ≡ access_of word }
+{
+    word % 8
+}
+
 /// Whether a type that isn't nested is public (II.23.1.15).
 pub(crate) fn is_public(recs: &[AsmRec], at: RowAt) -> bool
     ensures { result ≡ is_public recs.now at }
 {
     match type_row(recs, at) {
         None => false,
-        Some(row) => row.flags % 8 == type_flags::PUBLIC,
+        Some(row) => visibility_of(row.flags) == type_flags::PUBLIC,
     }
 }
 

@@ -1,7 +1,7 @@
 //! Rows of members with new tokens, without the flags that say that a row is named in a table that isn't written.
 
 ghost use Rattle.std.specs.Prelude.{◌≡◌, IfOk};
-ghost use Rattle.merge_rules.specs.Moved.{moved_param_row};
+ghost use Rattle.merge_rules.specs.Moved.{moved_param_row, without};
 ghost use Rattle.moved_parts.specs.Moves.{event_by, field_by, method_by, property_by};
 
 use crate::code::moved_known_body;
@@ -11,6 +11,13 @@ use il_base::{NoMemory, Seq, field_flags, method_flags, param_flags};
 use std::alloc::Global;
 use world_model::{AsmRec, EventRow, FieldRow, MethodDefRow, ParamRow, PropertyRow};
 
+/// A word of flags without one of them.
+fn without(bit: u16, word: u16) -> u16
+    ensures { result ≡ without bit word }
+{
+    word.saturating_sub(word & bit)
+}
+
 /// A Field row (II.22.15).
 pub fn moved_field(alloc: Global, tokens: &NewTokens, row: &FieldRow) -> Result<FieldRow, NoMemory>
     ensures { IfOk result (λ f. f ≡ field_by tokens.now row.now) }
@@ -18,9 +25,7 @@ pub fn moved_field(alloc: Global, tokens: &NewTokens, row: &FieldRow) -> Result<
     let name = Seq::from_slice(alloc, row.name.as_slice())?;
     let signature = moved_known_sig(alloc, tokens, &row.signature)?;
     Ok(FieldRow {
-        flags: row
-            .flags
-            .saturating_sub(row.flags & field_flags::HAS_FIELD_MARSHAL),
+        flags: without(field_flags::HAS_FIELD_MARSHAL, row.flags),
         name,
         signature,
     })
@@ -44,9 +49,7 @@ pub fn moved_method(
     Ok(MethodDefRow {
         rva: 0,
         impl_flags: row.impl_flags,
-        flags: row
-            .flags
-            .saturating_sub(row.flags & method_flags::HAS_SECURITY),
+        flags: without(method_flags::HAS_SECURITY, row.flags),
         name,
         signature,
         param_list_first: first,
@@ -62,9 +65,7 @@ pub fn moved_param(alloc: Global, row: &ParamRow) -> Result<ParamRow, NoMemory>
 {
     let name = Seq::from_slice(alloc, row.name.as_slice())?;
     Ok(ParamRow {
-        flags: row
-            .flags
-            .saturating_sub(row.flags & param_flags::HAS_FIELD_MARSHAL),
+        flags: without(param_flags::HAS_FIELD_MARSHAL, row.flags),
         sequence: row.sequence,
         name,
     })

@@ -70,7 +70,7 @@ pub struct NewTokens {
 fn member_row(rec: &AsmRec, token: u32) -> Option<&MemberRefRow>
     ensures { option_copied result ≡ option_and_then (slice_get rec.now.member_ref) (index_in MEMBER_REF token) }
 {
-    match index_in(table::MEMBER_REF as u8, token) {
+    match index_in(table::MEMBER_REF, token) {
         None => None,
         Some(at) => rec.member_ref.get(at as usize),
     }

@@ -1,10 +1,11 @@
 -- What a row has in its columns, and the cells that it has there. A token is its row's number where a column is of one table,
 -- and a coded index where it is of several (II.24.2.6).
-use Rattle.std.specs.Prelude.{ℕ, suc, ◌%◌, List, [], ◌∷◌, map}
+use Rattle.std.specs.Prelude.{ℕ, suc, List, [], ◌∷◌, map}
 use Rattle.cli_format.specs.declared.column.Column.{Column}
 use Rattle.cli_format.specs.declared.column.Column.TheVariants.{Index, IndexOrNone, Coded, CodedOrNone}
 use Rattle.cli_format.specs.Columns.{columns_of}
 use Rattle.cli_format.specs.Tokens.{coded_of}
+use Rattle.world_model.specs.Tokens.{row_of}
 use Rattle.file_layout.specs.declared.cell.Cell.{Cell}
 use Rattle.file_layout.specs.declared.cell.Cell.TheVariants as cell
 use Rattle.file_layout.specs.Cells.{CellTables}
@@ -13,8 +14,8 @@ use Rattle.record_layout.specs.declared.value.Value.TheVariants as value
 
 -- the number of a token in a column; the row is in its three low bytes
 abbrev pub token_number : Column → ℕ → ℕ
-token_number (Index t) token = token % 16777216
-token_number (IndexOrNone t) token = token % 16777216
+token_number (Index t) token = row_of token
+token_number (IndexOrNone t) token = row_of token
 token_number (Coded index) token = coded_of index token
 token_number (CodedOrNone index) token = coded_of index token
 token_number _ token = token

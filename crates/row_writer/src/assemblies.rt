@@ -14,7 +14,7 @@ use world_model::{
 
 /// ModuleRef (II.22.31).
 impl Row for ModuleRefRow {
-    const TABLE: u8 = table::MODULE_REF as u8;
+    const TABLE: u8 = table::MODULE_REF;
 
     ghost TABLE = { MODULE_REF };
 
@@ -30,7 +30,7 @@ impl Row for ModuleRefRow {
 
 /// Assembly (II.22.2).
 impl Row for AssemblyRow {
-    const TABLE: u8 = table::ASSEMBLY as u8;
+    const TABLE: u8 = table::ASSEMBLY;
 
     ghost TABLE = { ASSEMBLY };
 
@@ -61,7 +61,7 @@ impl Row for AssemblyRow {
 
 /// AssemblyProcessor (II.22.4).
 impl Row for AssemblyProcessorRow {
-    const TABLE: u8 = table::ASSEMBLY_PROCESSOR as u8;
+    const TABLE: u8 = table::ASSEMBLY_PROCESSOR;
 
     ghost TABLE = { ASSEMBLY_PROCESSOR };
 
@@ -76,7 +76,7 @@ impl Row for AssemblyProcessorRow {
 
 /// AssemblyOS (II.22.3).
 impl Row for AssemblyOsRow {
-    const TABLE: u8 = table::ASSEMBLY_OS as u8;
+    const TABLE: u8 = table::ASSEMBLY_OS;
 
     ghost TABLE = { ASSEMBLY_OS };
 
@@ -98,7 +98,7 @@ impl Row for AssemblyOsRow {
 
 /// AssemblyRef (II.22.5).
 impl Row for AssemblyRefRow {
-    const TABLE: u8 = table::ASSEMBLY_REF as u8;
+    const TABLE: u8 = table::ASSEMBLY_REF;
 
     ghost TABLE = { ASSEMBLY_REF };
 
@@ -130,7 +130,7 @@ impl Row for AssemblyRefRow {
 
 /// AssemblyRefProcessor (II.22.7).
 impl Row for AssemblyRefProcessorRow {
-    const TABLE: u8 = table::ASSEMBLY_REF_PROCESSOR as u8;
+    const TABLE: u8 = table::ASSEMBLY_REF_PROCESSOR;
 
     ghost TABLE = { ASSEMBLY_REF_PROCESSOR };
 
@@ -151,7 +151,7 @@ impl Row for AssemblyRefProcessorRow {
 
 /// AssemblyRefOS (II.22.6).
 impl Row for AssemblyRefOsRow {
-    const TABLE: u8 = table::ASSEMBLY_REF_OS as u8;
+    const TABLE: u8 = table::ASSEMBLY_REF_OS;
 
     ghost TABLE = { ASSEMBLY_REF_OS };
 

@@ -9,14 +9,15 @@ use file_layout::Cell;
 use il_base::{NoMemory, Seq};
 use record_layout::Value;
 use std::alloc::Global;
+use world_model::row_of;
 
 /// The number of a token in a column: its row, or the coded index (II.24.2.6).
 fn token_number(column: Column, token: u32) -> u32
     ensures { result ≡ layout.token_number column token }
 {
     match column {
-        Column::Index(_) => token % 0x100_0000,
-        Column::IndexOrNone(_) => token % 0x100_0000,
+        Column::Index(_) => row_of(token),
+        Column::IndexOrNone(_) => row_of(token),
         Column::Coded(index) => coded(index, token),
         Column::CodedOrNone(index) => coded(index, token),
         Column::U8 => token,

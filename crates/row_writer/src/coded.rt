@@ -5,6 +5,7 @@ ghost use Rattle.cli_format.specs.Coded.{tag_bits_of, targets_of};
 ghost use Rattle.cli_format.specs.Tokens.{tag_of, coded_of};
 
 use cli_format::{CodedIndex, first_tag, tag_bits, targets};
+use world_model::{row_of, table_of};
 
 /// Where a table stands among some, counted from 0.
 fn position_in(tables: &[u8], table: u8) -> Option<usize>
@@ -64,5 +65,5 @@ pub fn coded(index: CodedIndex, token: u32) -> u32
     if token == 0 {
         return 0;
     }
-    above_tag(index, token % 0x100_0000) + tag(index, (token / 0x100_0000) as u8)
+    above_tag(index, row_of(token)) + tag(index, table_of(token))
 }

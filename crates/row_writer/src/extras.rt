@@ -15,7 +15,7 @@ use world_model::{
 
 /// Constant (II.22.9).
 impl Row for ConstantRow {
-    const TABLE: u8 = table::CONSTANT as u8;
+    const TABLE: u8 = table::CONSTANT;
 
     ghost TABLE = { CONSTANT };
 
@@ -39,7 +39,7 @@ impl Row for ConstantRow {
 
 /// CustomAttribute (II.22.10).
 impl Row for CustomAttributeRow {
-    const TABLE: u8 = table::CUSTOM_ATTRIBUTE as u8;
+    const TABLE: u8 = table::CUSTOM_ATTRIBUTE;
 
     ghost TABLE = { CUSTOM_ATTRIBUTE };
 
@@ -58,7 +58,7 @@ impl Row for CustomAttributeRow {
 
 /// FieldMarshal (II.22.17).
 impl Row for FieldMarshalRow {
-    const TABLE: u8 = table::FIELD_MARSHAL as u8;
+    const TABLE: u8 = table::FIELD_MARSHAL;
 
     ghost TABLE = { FIELD_MARSHAL };
 
@@ -74,7 +74,7 @@ impl Row for FieldMarshalRow {
 
 /// DeclSecurity (II.22.11).
 impl Row for DeclSecurityRow {
-    const TABLE: u8 = table::DECL_SECURITY as u8;
+    const TABLE: u8 = table::DECL_SECURITY;
 
     ghost TABLE = { DECL_SECURITY };
 
@@ -97,7 +97,7 @@ impl Row for DeclSecurityRow {
 
 /// FieldLayout (II.22.16).
 impl Row for FieldLayoutRow {
-    const TABLE: u8 = table::FIELD_LAYOUT as u8;
+    const TABLE: u8 = table::FIELD_LAYOUT;
 
     ghost TABLE = { FIELD_LAYOUT };
 
@@ -115,7 +115,7 @@ impl Row for FieldLayoutRow {
 
 /// ImplMap (II.22.22).
 impl Row for ImplMapRow {
-    const TABLE: u8 = table::IMPL_MAP as u8;
+    const TABLE: u8 = table::IMPL_MAP;
 
     ghost TABLE = { IMPL_MAP };
 
@@ -139,7 +139,7 @@ impl Row for ImplMapRow {
 
 /// FieldRVA (II.22.18).
 impl Placed for FieldRvaRow {
-    const TABLE: u8 = table::FIELD_RVA as u8;
+    const TABLE: u8 = table::FIELD_RVA;
 
     ghost TABLE = { FIELD_RVA };
 
@@ -154,7 +154,7 @@ impl Placed for FieldRvaRow {
 
 /// File (II.22.19).
 impl Row for FileRow {
-    const TABLE: u8 = table::FILE as u8;
+    const TABLE: u8 = table::FILE;
 
     ghost TABLE = { FILE };
 
@@ -171,7 +171,7 @@ impl Row for FileRow {
 
 /// ManifestResource (II.22.24).
 impl Row for ManifestResourceRow {
-    const TABLE: u8 = table::MANIFEST_RESOURCE as u8;
+    const TABLE: u8 = table::MANIFEST_RESOURCE;
 
     ghost TABLE = { MANIFEST_RESOURCE };
 

@@ -18,7 +18,7 @@ use world_model::{
 
 /// Field (II.22.15).
 impl Row for FieldRow {
-    const TABLE: u8 = table::FIELD as u8;
+    const TABLE: u8 = table::FIELD;
 
     ghost TABLE = { FIELD };
 
@@ -38,7 +38,7 @@ impl Row for FieldRow {
 
 /// MethodDef (II.22.26).
 impl Placed for MethodDefRow {
-    const TABLE: u8 = table::METHOD_DEF as u8;
+    const TABLE: u8 = table::METHOD_DEF;
 
     ghost TABLE = { METHOD_DEF };
 
@@ -65,7 +65,7 @@ impl Placed for MethodDefRow {
 
 /// Param (II.22.33).
 impl Row for ParamRow {
-    const TABLE: u8 = table::PARAM as u8;
+    const TABLE: u8 = table::PARAM;
 
     ghost TABLE = { PARAM };
 
@@ -88,7 +88,7 @@ impl Row for ParamRow {
 
 /// MemberRef (II.22.25).
 impl Row for MemberRefRow {
-    const TABLE: u8 = table::MEMBER_REF as u8;
+    const TABLE: u8 = table::MEMBER_REF;
 
     ghost TABLE = { MEMBER_REF };
 
@@ -105,7 +105,7 @@ impl Row for MemberRefRow {
 
 /// StandAloneSig (II.22.36).
 impl Row for StandAloneSigRow {
-    const TABLE: u8 = table::STAND_ALONE_SIG as u8;
+    const TABLE: u8 = table::STAND_ALONE_SIG;
 
     ghost TABLE = { STAND_ALONE_SIG };
 
@@ -121,7 +121,7 @@ impl Row for StandAloneSigRow {
 
 /// EventMap (II.22.12).
 impl Row for EventMapRow {
-    const TABLE: u8 = table::EVENT_MAP as u8;
+    const TABLE: u8 = table::EVENT_MAP;
 
     ghost TABLE = { EVENT_MAP };
 
@@ -142,7 +142,7 @@ impl Row for EventMapRow {
 
 /// Event (II.22.13).
 impl Row for EventRow {
-    const TABLE: u8 = table::EVENT as u8;
+    const TABLE: u8 = table::EVENT;
 
     ghost TABLE = { EVENT };
 
@@ -165,7 +165,7 @@ impl Row for EventRow {
 
 /// PropertyMap (II.22.35).
 impl Row for PropertyMapRow {
-    const TABLE: u8 = table::PROPERTY_MAP as u8;
+    const TABLE: u8 = table::PROPERTY_MAP;
 
     ghost TABLE = { PROPERTY_MAP };
 
@@ -186,7 +186,7 @@ impl Row for PropertyMapRow {
 
 /// Property (II.22.34).
 impl Row for PropertyRow {
-    const TABLE: u8 = table::PROPERTY as u8;
+    const TABLE: u8 = table::PROPERTY;
 
     ghost TABLE = { PROPERTY };
 
@@ -206,7 +206,7 @@ impl Row for PropertyRow {
 
 /// MethodSemantics (II.22.28).
 impl Row for MethodSemanticsRow {
-    const TABLE: u8 = table::METHOD_SEMANTICS as u8;
+    const TABLE: u8 = table::METHOD_SEMANTICS;
 
     ghost TABLE = { METHOD_SEMANTICS };
 
@@ -228,7 +228,7 @@ impl Row for MethodSemanticsRow {
 
 /// MethodImpl (II.22.27).
 impl Row for MethodImplRow {
-    const TABLE: u8 = table::METHOD_IMPL as u8;
+    const TABLE: u8 = table::METHOD_IMPL;
 
     ghost TABLE = { METHOD_IMPL };
 
@@ -250,7 +250,7 @@ impl Row for MethodImplRow {
 
 /// MethodSpec (II.22.29).
 impl Row for MethodSpecRow {
-    const TABLE: u8 = table::METHOD_SPEC as u8;
+    const TABLE: u8 = table::METHOD_SPEC;
 
     ghost TABLE = { METHOD_SPEC };
 

@@ -17,7 +17,7 @@ use world_model::{
 
 /// Module (II.22.30).
 impl Row for ModuleRow {
-    const TABLE: u8 = table::MODULE as u8;
+    const TABLE: u8 = table::MODULE;
 
     ghost TABLE = { MODULE };
 
@@ -45,7 +45,7 @@ impl Row for ModuleRow {
 
 /// TypeRef (II.22.38).
 impl Row for TypeRefRow {
-    const TABLE: u8 = table::TYPE_REF as u8;
+    const TABLE: u8 = table::TYPE_REF;
 
     ghost TABLE = { TYPE_REF };
 
@@ -65,7 +65,7 @@ impl Row for TypeRefRow {
 
 /// TypeDef (II.22.37).
 impl Row for TypeDefRow {
-    const TABLE: u8 = table::TYPE_DEF as u8;
+    const TABLE: u8 = table::TYPE_DEF;
 
     ghost TABLE = { TYPE_DEF };
 
@@ -92,7 +92,7 @@ impl Row for TypeDefRow {
 
 /// InterfaceImpl (II.22.23).
 impl Row for InterfaceImplRow {
-    const TABLE: u8 = table::INTERFACE_IMPL as u8;
+    const TABLE: u8 = table::INTERFACE_IMPL;
 
     ghost TABLE = { INTERFACE_IMPL };
 
@@ -110,7 +110,7 @@ impl Row for InterfaceImplRow {
 
 /// ClassLayout (II.22.8).
 impl Row for ClassLayoutRow {
-    const TABLE: u8 = table::CLASS_LAYOUT as u8;
+    const TABLE: u8 = table::CLASS_LAYOUT;
 
     ghost TABLE = { CLASS_LAYOUT };
 
@@ -132,7 +132,7 @@ impl Row for ClassLayoutRow {
 
 /// TypeSpec (II.22.39).
 impl Row for TypeSpecRow {
-    const TABLE: u8 = table::TYPE_SPEC as u8;
+    const TABLE: u8 = table::TYPE_SPEC;
 
     ghost TABLE = { TYPE_SPEC };
 
@@ -148,7 +148,7 @@ impl Row for TypeSpecRow {
 
 /// ExportedType (II.22.14).
 impl Row for ExportedTypeRow {
-    const TABLE: u8 = table::EXPORTED_TYPE as u8;
+    const TABLE: u8 = table::EXPORTED_TYPE;
 
     ghost TABLE = { EXPORTED_TYPE };
 
@@ -174,7 +174,7 @@ impl Row for ExportedTypeRow {
 
 /// NestedClass (II.22.32).
 impl Row for NestedClassRow {
-    const TABLE: u8 = table::NESTED_CLASS as u8;
+    const TABLE: u8 = table::NESTED_CLASS;
 
     ghost TABLE = { NESTED_CLASS };
 
@@ -195,7 +195,7 @@ impl Row for NestedClassRow {
 
 /// GenericParam (II.22.20).
 impl Row for GenericParamRow {
-    const TABLE: u8 = table::GENERIC_PARAM as u8;
+    const TABLE: u8 = table::GENERIC_PARAM;
 
     ghost TABLE = { GENERIC_PARAM };
 
@@ -219,7 +219,7 @@ impl Row for GenericParamRow {
 
 /// GenericParamConstraint (II.22.21).
 impl Row for GenericParamConstraintRow {
-    const TABLE: u8 = table::GENERIC_PARAM_CONSTRAINT as u8;
+    const TABLE: u8 = table::GENERIC_PARAM_CONSTRAINT;
 
     ghost TABLE = { GENERIC_PARAM_CONSTRAINT };
 
