@@ -12,14 +12,14 @@ use il_base::{NoMemory, method_flags};
 pub fn is_abstract(m: &Method) -> bool
     ensures { result ≡ is_abstract m.now }
 {
-    m.flags / method_flags::ABSTRACT % 2 == 1
+    has_flag(m.flags, method_flags::ABSTRACT)
 }
 
 /// Whether a type below can have another method in its slot (II.15.4.2.4).
 pub fn is_virtual(m: &Method) -> bool
     ensures { result ≡ is_virtual m.now }
 {
-    m.flags / method_flags::VIRTUAL % 2 == 1
+    has_flag(m.flags, method_flags::VIRTUAL)
 }
 
 /// How many arguments a method takes, `this` among them. 18446744073709551616 are answered as want of memory.
