@@ -6,7 +6,7 @@ ghost use Rattle.step_rules.specs.Dispatch.{is_abstract, is_called_alike, is_vir
 
 use cil_closing::is_void;
 use cil_values::{Method, Signature};
-use il_base::{NoMemory, method_flags};
+use il_base::{NoMemory, has_flag, method_flags};
 
 /// Whether the method has no body of its own (II.15.4.2.4).
 pub fn is_abstract(m: &Method) -> bool
