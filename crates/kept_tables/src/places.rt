@@ -12,25 +12,25 @@ use merge_plan::Numbers;
 use world_model::{index_in, table_of};
 
 /// The row, from 0, that a token of this table names; None for a token of another table or row 0.
-pub(crate) fn row_in(table: u32, token: u32) -> Option<u32>
+pub(crate) fn row_in(table: u8, token: u32) -> Option<u32>
     ensures { result ≡ index_in table token }
 {
     let of = table_of(token);
     if of != table {
         return None;
     }
-    index_in(of as u8, token)
+    index_in(of, token)
 }
 
 /// The token of the row after `k` others, modulo 2^32.
-fn token_32(table: u32, k: u32) -> u32
+fn token_32(table: u8, k: u32) -> u32
     ensures { result ≡ token_32 table k }
 {
     ((u64::from(table) * 0x100_0000 + u64::from(k) + 1) % 0x1_0000_0000) as u32
 }
 
 /// The token of a row among the rows of a table of the output; None where it goes.
-pub(crate) fn place_token(table: u32, rows: &Numbers, at: RowAt) -> Option<u32>
+pub(crate) fn place_token(table: u8, rows: &Numbers, at: RowAt) -> Option<u32>
     ensures { result ≡ place_token table rows.now at }
 {
     match rows.new_row(at) {
@@ -40,7 +40,7 @@ pub(crate) fn place_token(table: u32, rows: &Numbers, at: RowAt) -> Option<u32>
 }
 
 /// The token of the first row of the first input; None for another row.
-pub(crate) fn first_token(table: u32, at: RowAt) -> Option<u32>
+pub(crate) fn first_token(table: u8, at: RowAt) -> Option<u32>
     ensures { result ≡ place_token table (at_row 0 0 ∷ []) at }
 {
     if at.asm == 0 && at.row == 0 {
@@ -51,7 +51,7 @@ pub(crate) fn first_token(table: u32, at: RowAt) -> Option<u32>
 }
 
 /// What a token of this table of an assembly becomes; None where its row goes, or where it is of another table.
-pub(crate) fn token_in(table: u32, rows: &Numbers, asm: u32, token: u32) -> Option<u32>
+pub(crate) fn token_in(table: u8, rows: &Numbers, asm: u32, token: u32) -> Option<u32>
     ensures { result ≡ token_in table rows.now asm token }
 {
     match row_in(table, token) {

@@ -122,7 +122,7 @@ impl KeptTables {
     }
 
     /// The token of a row among the rows of a table; None where it goes, or where no row of the table is kept.
-    fn place(&self, of: u32, at: RowAt) -> Option<u32>
+    fn place(&self, of: u8, at: RowAt) -> Option<u32>
         ensures { result ≡ place_token of (rows_in self.now of) at }
     {
         match of {
