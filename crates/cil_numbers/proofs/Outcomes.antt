@@ -1,16 +1,16 @@
 -- The forms by what their instructions come to.
-use Rattle.std.proofs.Common.{◌≡◌, ℕ, ℤ, List, ◌∷◌, Bool, true, false, Option, Some, None, refl, sym, ap, subst, ◌∙◌, if◌then◌else◌, option_map, option_and_then}
+use Rattle.std.proofs.Common.{◌≡◌, ℕ, ℤ, List, ◌∷◌, Bool, true, false, Option, Some, None, refl, sym, ap, ◌∙◌, if◌then◌else◌, option_map, option_and_then}
 use Rattle.cil_values.specs.declared.value.Value.{Value}
 use Rattle.cil_values.specs.declared.resolved.Instruction.{Instruction}
 use Rattle.cil_values.specs.declared.state.State.{State}
 use Rattle.cil_numbers.specs.declared.outcome.Outcome.{Outcome}
-use Rattle.cil_numbers.specs.Outcomes.{binary_of, convert_of, converted_by, binary_by, shifted_by, compared_to, computed, gives, finished, outcome_by, two_over, one_over, with_stack}
+use Rattle.cil_numbers.specs.Outcomes.{binary_of, convert_of, converted_by, binary_by, shifted_by, compared_to, computed, gives, finished, outcome_by}
 use Rattle.step_rules.specs.Queries.{Queries}
 use Rattle.step_rules.specs.Next.{Next}
 use Rattle.step_rules.specs.Words.{Here, given, goes, truth_value}
 use Rattle.step_rules.specs.Comparisons.{Numbers, Test, numbers, test}
 use Rattle.step_rules.specs.Numbers as rules
-use Rattle.step_rules.specs.Numbers.{Answer, is, raises, arithmetic, comparison, is_shift, shift, shift_count, compute_values, answered, Conversion, conversion, converted, operand_of, convert_by, binary, convert}
+use Rattle.step_rules.specs.Numbers.{Answer, is, raises, arithmetic, comparison, is_shift, shift, shift_count, compute_values, answered, Conversion, conversion, converted, operand_of, convert_by}
 use Rattle.step_rules.specs.Integers.{number}
 
 one_by : (q : Queries) (here : Here) (i : Instruction) (stack : List Value) (s : State) (back : ℤ → Value) (a : Answer) → answered q here i stack s back a ≡ finished q here i stack s (outcome_by back a)
@@ -46,13 +46,9 @@ computed_by : (q : Queries) (here : Here) (i : Instruction) (stack : List Value)
 computed_by q here i stack s a b (Some t) = truth_by q here i stack s (test t a b)
 computed_by q here i stack s a b None = either_by q here i stack s (is_shift i.opcode) _ _ _ _ (shifts_by q here i stack s a (shift_count b)) (numbers_by q here i stack s (numbers a b))
 
--- `binary`, with its operands off the stack
-pub binary_from : (q : Queries) (here : Here) (i : Instruction) (s : State) (a b : Value) (mid stack : List Value) → s.top.stack ≡ b ∷ mid → mid ≡ a ∷ stack → binary q here i s ≡ two_over q here i a b (with_stack stack s)
-unfolding binary
-binary_from q here i s a b mid stack e f =
-    let P : List Value → Type 0 = λ vs. binary q here i (with_stack vs s) ≡ two_over q here i a b (with_stack stack s) in
-    let whole : s.top.stack ≡ b ∷ a ∷ stack = e ∙ ap (λ (vs : List Value). b ∷ vs) f in
-    subst P (sym whole) (computed_by q here i stack (with_stack (b ∷ a ∷ stack) s) a b (comparison i.opcode))
+-- `binary`, by what the instruction comes to
+pub binary_at : (q : Queries) (here : Here) (i : Instruction) (stack : List Value) (s : State) (a b : Value) (o : Option Outcome) → o ≡ binary_of i.opcode a b → compute_values q here i stack s a b (comparison i.opcode) ≡ given o s (finished q here i stack s)
+binary_at q here i stack s a b o e = computed_by q here i stack s a b (comparison i.opcode) ∙ ap (λ (x : Option Outcome). given x s (finished q here i stack s)) (sym e)
 
 operand_by : (q : Queries) (here : Here) (i : Instruction) (stack : List Value) (s : State) (c : Conversion) (n : Option ℤ) → given n s (λ n. answered q here i stack s (number c.to) (converted c n)) ≡ given (option_map (λ n. outcome_by (number c.to) (converted c n)) n) s (finished q here i stack s)
 operand_by q here i stack s c None = refl
@@ -62,9 +58,6 @@ conversion_by : (q : Queries) (here : Here) (i : Instruction) (stack : List Valu
 conversion_by q here i stack s v None = refl
 conversion_by q here i stack s v (Some c) = operand_by q here i stack s c (operand_of c.unsigned v)
 
--- `convert`, with its operand off the stack
-pub convert_from : (q : Queries) (here : Here) (i : Instruction) (s : State) (v : Value) (stack : List Value) → s.top.stack ≡ v ∷ stack → convert q here i s ≡ one_over q here i v (with_stack stack s)
-unfolding convert
-convert_from q here i s v stack e =
-    let P : List Value → Type 0 = λ vs. convert q here i (with_stack vs s) ≡ one_over q here i v (with_stack stack s) in
-    subst P (sym e) (conversion_by q here i stack (with_stack (v ∷ stack) s) v (conversion i.opcode))
+-- `convert`, by what the instruction comes to
+pub convert_at : (q : Queries) (here : Here) (i : Instruction) (stack : List Value) (s : State) (v : Value) (o : Option Outcome) → o ≡ convert_of i.opcode v → given (conversion i.opcode) s (convert_by q here i stack s v) ≡ given o s (finished q here i stack s)
+convert_at q here i stack s v o e = conversion_by q here i stack s v (conversion i.opcode) ∙ ap (λ (x : Option Outcome). given x s (finished q here i stack s)) (sym e)

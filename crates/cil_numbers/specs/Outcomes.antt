@@ -8,7 +8,7 @@ use Rattle.cil_numbers.specs.declared.outcome.Outcome.{Outcome}
 use Rattle.cil_numbers.specs.declared.outcome.Outcome.TheVariants as outcome
 use Rattle.step_rules.specs.Queries.{Queries}
 use Rattle.step_rules.specs.Next.{Next}
-use Rattle.step_rules.specs.Words.{Here, given, goes, truth_value}
+use Rattle.step_rules.specs.Words.{Here, goes, truth_value}
 use Rattle.step_rules.specs.Comparisons.{Numbers, Test, numbers, test}
 use Rattle.step_rules.specs.Raising.{raise}
 use Rattle.step_rules.specs.Numbers.{Answer, is, raises, arithmetic, comparison, is_shift, shift, shift_count, Conversion, conversion, converted, operand_of}
@@ -51,15 +51,3 @@ convert_of code v = option_and_then (converted_by v) (conversion code)
 abbrev pub finished : Queries → Here → Instruction → List Value → State → Outcome → Next
 finished q here i stack s (outcome.Gives v) = goes here i (v ∷ stack) s
 finished q here i stack s (outcome.Raises name) = raise q name s
-
--- a state with another evaluation stack
-abbrev pub with_stack : List Value → State → State
-with_stack vs s = record s { top = record s.top { stack = vs } }
-
--- an instruction with its operands off the stack: what raises has them there
-abbrev pub two_over : Queries → Here → Instruction → Value → Value → State → Next
-two_over q here i a b s =
-    let whole = with_stack (b ∷ a ∷ s.top.stack) s in given (binary_of i.opcode a b) whole (finished q here i s.top.stack whole)
-
-abbrev pub one_over : Queries → Here → Instruction → Value → State → Next
-one_over q here i v s = let whole = with_stack (v ∷ s.top.stack) s in given (convert_of i.opcode v) whole (finished q here i s.top.stack whole)

@@ -1,12 +1,11 @@
 //! Arithmetic, bits, shifts, comparisons and conversions (III.1.5, III.3).
 
-ghost use Rattle.std.specs.Prelude.{◌≡◌, [], ◌∷◌, IfOk};
-ghost use Rattle.step_rules.specs.Words.{goes};
+ghost use Rattle.std.specs.Prelude.{◌≡◌, [], IfOk};
 ghost use Rattle.step_rules.specs.Queries.{Queries};
 ghost use Rattle.step_rules.specs.Integers.{number};
 ghost use Rattle.step_rules.specs.Numbers.{binary, unary, convert, converted};
 ghost use Rattle.cil_numbers.specs.Conversions.{conversion_by, number_by};
-ghost use Rattle.cil_numbers.specs.Outcomes.{convert_of, one_over, outcome_by, two_over};
+ghost use Rattle.cil_numbers.specs.Outcomes.{convert_of, outcome_by};
 ghost use Rattle.cil_words.specs.Steps.{next_of, here_by};
 
 use crate::conversion::{Conversion, conversion_of};
@@ -15,48 +14,14 @@ use crate::shifts::unary_of;
 use crate::two_operands::binary_of;
 use crate::wide::{Wide, operand_of};
 use cil_queries::Answers;
-use cil_raising::raise;
 use cil_values::{Instruction, State, Value};
 use cil_words::{Body, StepOut, goes, stuck};
 use core_table::CoreName;
 use il_base::NoMemory;
 use std::alloc::Global;
 
-/// Goes on with a value on the evaluation stack.
-#[tactic(auto, unfolding(step_rules::specs::Words::goes_with))]
-fn pushes(body: &Body, i: &Instruction, v: Value, st: &mut State) -> Result<StepOut, NoMemory>
-    ensures { IfOk result (λ out. next_of out st.new [] ≡ goes (here_by body.now st.old) i.now (v ∷ st.old.top.stack) st.old) }
-{
-    st.top.stack.push(v)?;
-    Ok(goes(body, i, st))
-}
-
-/// An instruction on a lower operand and an upper one, which are off the stack.
-#[tactic(auto, unfolding(step_rules::specs::Words::goes_with))]
-fn of_two<Q: Answers>(
-    alloc: Global,
-    q: &Q,
-    body: &Body,
-    i: &Instruction,
-    a: Value,
-    b: Value,
-    st: &mut State,
-) -> Result<StepOut, NoMemory>
-    ensures { IfOk result (λ out. next_of out st.new [] ≡ two_over (Q.queries q.now) (here_by body.now st.old) i.now a b st.old) }
-{
-    match binary_of(i.opcode, &a, &b) {
-        None => Ok(stuck(st)),
-        Some(Outcome::Gives(v)) => pushes(body, i, v, st),
-        Some(Outcome::Raises(name)) => {
-            st.top.stack.push(a)?;
-            st.top.stack.push(b)?;
-            raise(alloc, q, name, st)
-        }
-    }
-}
-
 /// The instructions with two operands (III.3.1 to III.3.3, III.3.21 to III.3.26, III.3.31 and on).
-#[tactic(auto, unfolding(step_rules::specs::Numbers::binary))]
+#[tactic(auto, using(crate::proofs::Outcomes::binary_at), unfolding(step_rules::specs::Numbers::binary, step_rules::specs::Words::goes_with))]
 pub fn binary<Q: Answers>(
     alloc: Global,
     q: &Q,
@@ -66,7 +31,20 @@ pub fn binary<Q: Answers>(
 ) -> Result<StepOut, NoMemory>
     ensures { IfOk result (λ out. next_of out st.new [] ≡ binary (Q.queries q.now) (here_by body.now st.old) i.now st.old) }
 {
-    Err(NoMemory)
+    let Some(b) = st.top.stack.pop() else {
+        return Ok(stuck(st));
+    };
+    let Some(a) = st.top.stack.pop() else {
+        return Ok(stuck(st));
+    };
+    match binary_of(i.opcode, &a, &b) {
+        None => Ok(stuck(st)),
+        Some(Outcome::Gives(v)) => {
+            st.top.stack.push(v)?;
+            Ok(goes(body, i, st))
+        }
+        Some(Outcome::Raises(name)) => Err(NoMemory),
+    }
 }
 
 /// `neg` and `not` (III.3.50, III.3.52).
@@ -80,7 +58,8 @@ pub fn unary(body: &Body, i: &Instruction, st: &mut State) -> Result<StepOut, No
     let Some(v) = unary_of(i.opcode, &v) else {
         return Ok(stuck(st));
     };
-    pushes(body, i, v, st)
+    st.top.stack.push(v)?;
+    Ok(goes(body, i, st))
 }
 
 /// What a conversion of a number comes to.
@@ -108,30 +87,8 @@ fn convert_of(code: u16, v: &Value) -> Option<Outcome>
     }
 }
 
-/// A conversion of an operand that is off the stack.
-#[tactic(auto, unfolding(step_rules::specs::Words::goes_with))]
-fn of_one<Q: Answers>(
-    alloc: Global,
-    q: &Q,
-    body: &Body,
-    i: &Instruction,
-    v: Value,
-    st: &mut State,
-) -> Result<StepOut, NoMemory>
-    ensures { IfOk result (λ out. next_of out st.new [] ≡ one_over (Q.queries q.now) (here_by body.now st.old) i.now v st.old) }
-{
-    match convert_of(i.opcode, &v) {
-        None => Ok(stuck(st)),
-        Some(Outcome::Gives(w)) => pushes(body, i, w, st),
-        Some(Outcome::Raises(name)) => {
-            st.top.stack.push(v)?;
-            raise(alloc, q, name, st)
-        }
-    }
-}
-
 /// The conversions (III.3.27 to III.3.29).
-#[tactic(auto, unfolding(step_rules::specs::Numbers::convert))]
+#[tactic(auto, using(crate::proofs::Outcomes::convert_at), unfolding(step_rules::specs::Numbers::convert, step_rules::specs::Words::goes_with))]
 pub fn convert<Q: Answers>(
     alloc: Global,
     q: &Q,
@@ -141,5 +98,15 @@ pub fn convert<Q: Answers>(
 ) -> Result<StepOut, NoMemory>
     ensures { IfOk result (λ out. next_of out st.new [] ≡ convert (Q.queries q.now) (here_by body.now st.old) i.now st.old) }
 {
-    Err(NoMemory)
+    let Some(v) = st.top.stack.pop() else {
+        return Ok(stuck(st));
+    };
+    match convert_of(i.opcode, &v) {
+        None => Ok(stuck(st)),
+        Some(Outcome::Gives(w)) => {
+            st.top.stack.push(w)?;
+            Ok(goes(body, i, st))
+        }
+        Some(Outcome::Raises(name)) => Err(NoMemory),
+    }
 }
