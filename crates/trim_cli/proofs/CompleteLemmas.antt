@@ -1,19 +1,20 @@
 -- Each status but the wanted one, and want of memory, has a cause that doesn't hold.
-use Rattle.std.proofs.Common.{◌≡◌, ◌⊎◌, ℕ, List, [], Option, Some, None, Result, Ok, Err, refl, sym, ap, subst, ◌∙◌, inl, inr}
+use Rattle.std.proofs.Common.{◌≡◌, ◌⊎◌, ℕ, List, [], map, Option, Some, None, Result, Ok, Err, refl, sym, subst, ◌∙◌, inl, inr}
 use Rattle.il_outside.specs.Folder.{Files, FolderState, Tells}
-use Rattle.il_outside.specs.Streams.{SinkState}
-use Rattle.world_model.specs.declared.record.AsmRec.{AsmRec}
+use Rattle.il_outside.specs.Streams.{SourceState, SinkState}
 use Rattle.trim_core.specs.declared.answers.Refusal.{Refusal}
 use Rattle.trim_core.specs.declared.answers.Trimmed.{Trimmed}
 use Rattle.trim_core.specs.Told.{told_alone}
 use Rattle.trim_core.specs.Trim.{Trims}
+use Rattle.status_lines.specs.declared.status.Status.{Status}
+use Rattle.status_lines.specs.declared.status.Status.TheVariants.{BadWords, WriteFault, NoMemory}
+use Rattle.status_lines.specs.Lines.{line_of}
+use Rattle.status_lines.specs.Reports.{SinkFailed, starved_status, Reports}
+use Rattle.exec_command.proofs.Completing.{is_answered as exec_answered}
 use Rattle.trim_cli.specs.declared.command.Command.{Command}
 use Rattle.trim_cli.specs.declared.command.Command.TheVariants.{Exec, Trim}
-use Rattle.trim_cli.specs.declared.status.Status.{Status}
-use Rattle.trim_cli.specs.declared.status.Status.TheVariants.{BadWords, WriteFault, NoMemory}
-use Rattle.trim_cli.specs.Answer.{SinkFailed, starved_status, Reports, IsDue, FileAnswer, ExecCaused, IsTrimDue, TrimAnswer, TrimCaused, CausedBy, word_at, capped, assembly_of}
-use Rattle.trim_cli.specs.Lines.{line_of}
-use Rattle.trim_cli.specs.Complete.{IsQuiet, file_status, trim_status, WantsRun, WantsTrim, IsAnswered}
+use Rattle.trim_cli.specs.Answer.{IsTrimDue, TrimAnswer, TrimCaused, CausedBy, word_at, capped, assembly_of}
+use Rattle.trim_cli.specs.Complete.{IsQuiet, IsSourceQuiet, trim_status, WantsTrim, IsAnswered}
 
 starved_is : (s : Status) → (starved_status s ≡ s) ⊎ (starved_status s ≡ NoMemory)
 starved_is WriteFault = inl refl
@@ -42,32 +43,6 @@ told_bytes : (name : List ℕ) (files : Option Files) (f : Files) (read bytes : 
 told_bytes name files f read bytes known held tells =
     let told : f name ≡ Some read = subst (λ (fs : Option Files). Tells fs name read) known tells in
     same_bytes read bytes (sym told ∙ held)
-
--- ---- `exec`
-
-due_answered : (bytes : List ℕ) (steps : ℕ) (out0 out1 err0 err1 : SinkState) (due status : Status) → (SinkFailed out0 out1 err0 err1 → ⊥)
-    → IsDue bytes steps out0 out1 due → (status ≡ due) ⊎ (status ≡ NoMemory) → (status ≡ file_status steps (told_alone bytes)) ⊎ (status ≡ NoMemory)
-due_answered bytes steps out0 out1 err0 err1 due status quiet (inl h) r =
-    instead (file_status steps (told_alone bytes)) due status (h.answer ∙ ap (λ (o : Result AsmRec Refusal). file_status steps o) (sym h.told)) r
-due_answered bytes steps out0 out1 err0 err1 due status quiet (inr (inl h)) r =
-    instead (file_status steps (told_alone bytes)) due status (h.answer ∙ ap (λ (o : Result AsmRec Refusal). file_status steps o) (sym h.told)) r
-due_answered bytes steps out0 out1 err0 err1 due status quiet (inr (inr (inl h))) r = absurd (quiet (inl h.2))
-due_answered bytes steps out0 out1 err0 err1 due status quiet (inr (inr (inr h))) r = inr (only_memory status (instead NoMemory due status h.0 r))
-
-run_answered : (name : List ℕ) (steps : ℕ) (was now : FolderState) (f : Files) (o : Option (List ℕ)) (out0 out1 err0 err1 : SinkState) (status : Status) → was.files ≡ Some f → f name ≡ o → (SinkFailed out0 out1 err0 err1 → ⊥)
-    → FileAnswer name steps was now out0 out1 err0 err1 status → WantsRun steps o status ⊎ (status ≡ NoMemory)
-run_answered name steps was now f None out0 out1 err0 err1 status known held quiet h = inl tt
-run_answered name steps was now f (Some bytes) out0 out1 err0 err1 status known held quiet h =
-    subst (λ (b : List ℕ). (status ≡ file_status steps (told_alone b)) ⊎ (status ≡ NoMemory)) (told_bytes name was.files f h.bytes bytes known held h.told)
-    (due_answered h.bytes steps out0 out1 err0 err1 h.caused.due status quiet h.caused.cause
-    (reported (line_of (assembly_of h.bytes) name h.caused.due) h.caused.due out0 out1 err0 err1 status quiet h.caused.reported))
-
-exec_answered : (name : List ℕ) (steps : ℕ) (was now : FolderState) (f : Files) (out0 out1 err0 err1 : SinkState) (status : Status) → was.files ≡ Some f → IsQuiet was now out0 out1 err0 err1
-    → ExecCaused name steps was now out0 out1 err0 err1 status → WantsRun steps (f name) status ⊎ (status ≡ NoMemory)
-exec_answered name steps was now f out0 out1 err0 err1 status known quiet (inl h) = run_answered name steps was now f (f name) out0 out1 err0 err1 status known refl quiet.sinks h
-exec_answered name steps was now f out0 out1 err0 err1 status known quiet (inr (inl h)) = absurd (quiet.reads h.rose)
-exec_answered name steps was now f out0 out1 err0 err1 status known quiet (inr (inr h)) =
-    inr (only_memory status (reported (line_of [] [] NoMemory) NoMemory out0 out1 err0 err1 status quiet.sinks h.reported))
 
 -- ---- `trim`
 
@@ -100,8 +75,12 @@ trim_answered output name was now f out0 out1 err0 err1 status known quiet (inr 
 
 -- ---- all words
 
-pub is_answered : (r : Result Command ℕ) (words : List (List ℕ)) (was now : FolderState) (f : Files) (out0 out1 err0 err1 : SinkState) (status : Status) → CausedBy r words was now out0 out1 err0 err1 status
-    → was.files ≡ Some f → IsQuiet was now out0 out1 err0 err1 → IsAnswered r words f status
-is_answered (Err at) words was now f out0 out1 err0 err1 status h known quiet = reported (line_of [] [] (BadWords (capped at))) (BadWords (capped at)) out0 out1 err0 err1 status quiet.sinks h.reported
-is_answered (Ok (Exec at steps)) words was now f out0 out1 err0 err1 status h known quiet = exec_answered (word_at words at) steps was now f out0 out1 err0 err1 status known quiet h
-is_answered (Ok (Trim output at)) words was now f out0 out1 err0 err1 status h known quiet = trim_answered (word_at words output) (word_at words at) was now f out0 out1 err0 err1 status known quiet h
+pub is_answered : (r : Result Command ℕ) (words : List (List ℕ)) (was now : FolderState) (f : Files) (in0 in1 : SourceState) (out0 out1 err0 err1 : SinkState) (status : Status)
+    → CausedBy r words was now in0 in1 out0 out1 err0 err1 status → was.files ≡ Some f → IsQuiet was now out0 out1 err0 err1 → IsSourceQuiet r in0 in1 → IsAnswered r words f in0.left status
+is_answered (Err at) words was now f in0 in1 out0 out1 err0 err1 status (inl h) known quiet source =
+    reported (line_of [] [] (BadWords (capped at))) (BadWords (capped at)) out0 out1 err0 err1 status quiet.sinks h.reported
+is_answered (Err at) words was now f in0 in1 out0 out1 err0 err1 status (inr h) known quiet source =
+    inr (only_memory status (reported (line_of [] [] NoMemory) NoMemory out0 out1 err0 err1 status quiet.sinks h.reported))
+is_answered (Ok (Exec inputs steps)) words was now f in0 in1 out0 out1 err0 err1 status h known quiet source =
+    exec_answered (map (word_at words) inputs) steps was now f in0 in1 out0 out1 err0 err1 status h known (record { reads = quiet.reads; input = source; sinks = quiet.sinks })
+is_answered (Ok (Trim output at)) words was now f in0 in1 out0 out1 err0 err1 status h known quiet source = trim_answered (word_at words output) (word_at words at) was now f out0 out1 err0 err1 status known quiet h

@@ -9,10 +9,11 @@ use Rattle.trim_core.specs.declared.answers.Refusal.{Refusal}
 use Rattle.trim_core.specs.declared.answers.Trimmed.{Trimmed}
 use Rattle.trim_core.specs.Told.{told_alone}
 use Rattle.trim_core.specs.Trim.{Trims}
-use Rattle.trim_cli.specs.declared.status.Status.{Status}
-use Rattle.trim_cli.specs.declared.status.Status.TheVariants.{Done, ReadFault, WriteFault, NoMemory}
-use Rattle.trim_cli.specs.Lines.{line_of}
-use Rattle.trim_cli.specs.Answer.{refused, Reports, RefusalReported, IsTrimDue, TrimFileCaused, TrimCaused, KeepsOthers}
+use Rattle.status_lines.specs.declared.status.Status.{Status}
+use Rattle.status_lines.specs.declared.status.Status.TheVariants.{Done, ReadFault, WriteFault, NoMemory}
+use Rattle.status_lines.specs.Lines.{line_of}
+use Rattle.status_lines.specs.Reports.{Reports}
+use Rattle.trim_cli.specs.Answer.{refused, RefusalReported, IsTrimDue, TrimFileCaused, TrimCaused, KeepsOthers}
 use Rattle.trim_cli.proofs.AnswerLemmas.{untouched, same_refusal, read_fault_of, read_starved_of}
 
 -- ---- folders

@@ -1,36 +1,25 @@
 -- When each answer of the program comes, and what it leaves. A call of the outside that fails is never hidden: the first one
--- that fails is the last of its kind, and the answer tells of it.
-use Rattle.std.specs.Prelude.{◌≡◌, ◌⊎◌, ℕ, List, [], Option, Some, None, Result, Ok, Err, slice_get, unwrap_or, min, ⊤}
-use Rattle.std.specs.Io.KnownBytes.{Appends}
+-- that fails is the last of its kind, a read failed only where ReadFault was due, and a write of OUT only where WriteFault was.
+-- What `exec` answers is in `exec_command/specs/Answer`.
+use Rattle.std.specs.Prelude.{◌≡◌, ◌⊎◌, ℕ, List, [], Option, Some, None, Result, Ok, Err, slice_get, map, unwrap_or, min, ⊤}
 use Rattle.il_outside.specs.Faults.{Rose}
 use Rattle.il_outside.specs.declared.folder.FolderError.TheVariants as folder
 use Rattle.il_outside.specs.Folder.{Files, FolderState, Tells, KeepsFiles, WritesFile, SameOthers, NoFault}
-use Rattle.il_outside.specs.Streams.{SinkState, AppendsPrefix}
-use Rattle.world_model.specs.declared.record.AsmRec.{AsmRec}
-use Rattle.trim_core.specs.declared.answers.EndKind.{EndKind}
-use Rattle.trim_core.specs.declared.answers.EndKind.TheVariants as run_end
+use Rattle.il_outside.specs.Streams.{SourceState, SinkState}
 use Rattle.trim_core.specs.declared.answers.Refusal.{Refusal}
 use Rattle.trim_core.specs.declared.answers.Refusal.TheVariants as refusal
 use Rattle.trim_core.specs.declared.answers.Trimmed.{Trimmed}
-use Rattle.trim_core.specs.declared.answers.ExecFault.{ExecFault}
-use Rattle.trim_core.specs.declared.answers.ExecFault.TheVariants as fault
 use Rattle.trim_core.specs.Told.{told_alone, name_of}
-use Rattle.thin_values.specs.Program.{run_of}
-use Rattle.trim_core.specs.Exec.{end_of}
 use Rattle.trim_core.specs.Trim.{Trims}
+use Rattle.status_lines.specs.declared.status.Status.{Status}
+use Rattle.status_lines.specs.declared.status.Status.TheVariants.{Done, BadWords, BadFile, Unresolved, Limit, ReadFault, WriteFault, NoMemory, NotYet}
+use Rattle.status_lines.specs.Lines.{line_of}
+use Rattle.status_lines.specs.Reports.{Prints, Reports}
+use Rattle.exec_command.specs.Input.{TakesSome}
+use Rattle.exec_command.specs.Answer.{ExecCaused}
 use Rattle.trim_cli.specs.declared.command.Command.{Command}
 use Rattle.trim_cli.specs.declared.command.Command.TheVariants.{Exec, Trim}
-use Rattle.trim_cli.specs.declared.status.Status.{Status}
-use Rattle.trim_cli.specs.declared.status.Status.TheVariants.{Done, Ended, BadWords, BadFile, Unresolved, Limit, ReadFault, WriteFault, NoMemory, Spent, Stopped, Stuck, NotYet}
 use Rattle.trim_cli.specs.Words.{read_words}
-use Rattle.trim_cli.specs.Lines.{line_of}
-
--- how a run stands, as a status
-abbrev pub status_of : ℕ → EndKind → Status
-status_of steps (run_end.Ended code) = Ended code
-status_of steps run_end.Spent = Spent steps
-status_of steps (run_end.Stopped place) = Stopped place
-status_of steps (run_end.Stuck place) = Stuck place
 
 -- a refusal as a status
 abbrev pub refused : Refusal → Status
@@ -44,73 +33,9 @@ refused refusal.NoMemory = NoMemory
 abbrev pub assembly_of : List ℕ → List ℕ
 assembly_of bytes = unwrap_or (name_of (told_alone bytes)) []
 
--- ---- a status and its line
-
--- the answer where memory ran out before the line of a status was written: a write that failed stays one
-abbrev pub starved_status : Status → Status
-starved_status WriteFault = WriteFault
-starved_status s = NoMemory
-
--- these bytes were printed, and no write of them failed
-abbrev pub Prints : List ℕ → SinkState → SinkState → Type 0
-Prints bytes old new = Appends old.held new.held bytes × (new.faults ≡ old.faults)
-
--- The line of a status was written; or the writing failed, or memory ran out, and a prefix of it was.
-abbrev pub Reports : List ℕ → Status → SinkState → SinkState → Status → Type 0
-Reports line status old new answer =
-    ((answer ≡ status) × Prints line old new)
-    ⊎ ((answer ≡ WriteFault) × AppendsPrefix old.held new.held line × Rose old.faults new.faults)
-    ⊎ ((answer ≡ starved_status status) × AppendsPrefix old.held new.held line × (new.faults ≡ old.faults))
-
--- a sink failed in this call
-abbrev pub SinkFailed : SinkState → SinkState → SinkState → SinkState → Type 0
-SinkFailed old_out new_out old_err new_err = Rose old_out.faults new_out.faults ⊎ Rose old_err.faults new_err.faults
-
--- ---- `exec`: a file
-
--- the run of the file printed its whole output, and stands so
-pub record Ran (bytes : List ℕ) (steps : ℕ) (out0 out1 : SinkState) (due : Status) : Type 0 where
-  pub rec : AsmRec
-  pub told : told_alone bytes ≡ Ok rec
-  pub answer : due ≡ status_of steps (end_of (run_of rec steps).end)
-  pub printed : Prints (run_of rec steps).output out0 out1
-
--- the file can't be taken, and nothing was printed
-pub record Refused (bytes : List ℕ) (out0 out1 : SinkState) (due : Status) : Type 0 where
-  pub why : Refusal
-  pub told : told_alone bytes ≡ Err why
-  pub answer : due ≡ refused why
-  pub printed : Prints [] out0 out1
-
--- a prefix of what the file's run prints
-abbrev pub PrintsPrefix : List ℕ → ℕ → SinkState → SinkState → Type 0
-PrintsPrefix bytes steps out0 out1 =
-    Appends out0.held out1.held [] ⊎ ((rec : AsmRec) × (told_alone bytes ≡ Ok rec) × AppendsPrefix out0.held out1.held (run_of rec steps).output)
-
--- Which status is due for the bytes of a file, with what was printed: the run's, the refusal's, WriteFault where one write to
--- `out` failed, or NoMemory. But for WriteFault none failed.
-abbrev pub IsDue : List ℕ → ℕ → SinkState → SinkState → Status → Type 0
-IsDue bytes steps out0 out1 due =
-    Ran bytes steps out0 out1 due
-    ⊎ (Refused bytes out0 out1 due
-    ⊎ (((due ≡ WriteFault) × PrintsPrefix bytes steps out0 out1 × Rose out0.faults out1.faults)
-    ⊎ ((due ≡ NoMemory) × PrintsPrefix bytes steps out0 out1 × (out1.faults ≡ out0.faults))))
-
--- the status that was due, and its line
-pub record FileCaused (bytes : List ℕ) (steps : ℕ) (word : List ℕ) (out0 out1 err0 err1 : SinkState) (answer : Status) : Type 0 where
-  pub due : Status
-  pub cause : IsDue bytes steps out0 out1 due
-  pub reported : Reports (line_of (assembly_of bytes) word due) due err0 err1 answer
-
 -- ---- the status lines
 
 -- the assembly's name, for an answer that has a place in it
-abbrev pub named : List ℕ → EndKind → List ℕ
-named bytes (run_end.Ended code) = []
-named bytes run_end.Spent = []
-named bytes (run_end.Stopped place) = assembly_of bytes
-named bytes (run_end.Stuck place) = assembly_of bytes
-
 abbrev pub refusal_named : List ℕ → Refusal → List ℕ
 refusal_named bytes (refusal.Unresolved place) = assembly_of bytes
 refusal_named bytes _ = []
@@ -120,20 +45,7 @@ abbrev pub RefusalReported : List ℕ → List ℕ → Refusal → SinkState →
 RefusalReported bytes word why old new answer =
     Reports (line_of (refusal_named bytes why) word (refused why)) (refused why) old new answer ⊎ Reports (line_of [] word NoMemory) NoMemory old new answer
 
-abbrev pub RunReported : List ℕ → List ℕ → ℕ → Result EndKind ExecFault → SinkState → SinkState → Status → Type 0
-RunReported bytes word steps (Ok end) old new answer =
-    Reports (line_of (named bytes end) word (status_of steps end)) (status_of steps end) old new answer ⊎ Reports (line_of [] word NoMemory) NoMemory old new answer
-RunReported bytes word steps (Err fault.Write) old new answer = Reports (line_of [] word WriteFault) WriteFault old new answer
-RunReported bytes word steps (Err (fault.Refused why)) old new answer = RefusalReported bytes word why old new answer
-
--- ---- `exec`: a name in a folder
-
--- the bytes that were read under the name, and the answer for them; no call of the folder failed
-pub record FileAnswer (name : List ℕ) (steps : ℕ) (was now : FolderState) (out0 out1 err0 err1 : SinkState) (answer : Status) : Type 0 where
-  pub bytes : List ℕ
-  pub told : Tells was.files name bytes
-  pub quiet : NoFault was now
-  pub caused : FileCaused bytes steps name out0 out1 err0 err1 answer
+-- ---- `trim`: the read of IN
 
 -- one read failed in this call, that of the name, and no write of the folder: nothing is printed but the status line
 pub record ReadFailed (name : List ℕ) (was now : FolderState) (out0 out1 err0 err1 : SinkState) (answer : Status) : Type 0 where
@@ -148,12 +60,6 @@ pub record ReadStarved (was now : FolderState) (out0 out1 err0 err1 : SinkState)
   pub quiet : NoFault was now
   pub printed : Prints [] out0 out1
   pub reported : Reports (line_of [] [] NoMemory) NoMemory err0 err1 answer
-
--- the answer for a name
-abbrev pub ExecCaused : List ℕ → ℕ → FolderState → FolderState → SinkState → SinkState → SinkState → SinkState → Status → Type 0
-ExecCaused name steps was now out0 out1 err0 err1 answer =
-    FileAnswer name steps was now out0 out1 err0 err1 answer
-    ⊎ (ReadFailed name was now out0 out1 err0 err1 answer ⊎ ReadStarved was now out0 out1 err0 err1 answer)
 
 -- ---- `trim`: OUT and IN
 
@@ -228,14 +134,22 @@ pub record WordsRefused (at : ℕ) (was now : FolderState) (out0 out1 err0 err1 
   pub printed : Prints [] out0 out1
   pub reported : Reports (line_of [] [] (BadWords (capped at))) (BadWords (capped at)) err0 err1 status
 
--- When each status comes for the program's words, and what it leaves.
-abbrev pub CausedBy : Result Command ℕ → List (List ℕ) → FolderState → FolderState → SinkState → SinkState → SinkState → SinkState → Status → Type 0
-CausedBy (Err at) words was now out0 out1 err0 err1 status = WordsRefused at was now out0 out1 err0 err1 status
-CausedBy (Ok (Exec at steps)) words was now out0 out1 err0 err1 status = ExecCaused (word_at words at) steps was now out0 out1 err0 err1 status
-CausedBy (Ok (Trim output at)) words was now out0 out1 err0 err1 status = TrimCaused (word_at words output) (word_at words at) was now out0 out1 err0 err1 status
+-- Memory ran out before the words were read: nothing is printed but the status line. No call of the folder failed.
+pub record WordsStarved (was now : FolderState) (out0 out1 err0 err1 : SinkState) (status : Status) : Type 0 where
+  pub quiet : NoFault was now
+  pub printed : Prints [] out0 out1
+  pub reported : Reports (line_of [] [] NoMemory) NoMemory err0 err1 status
 
-abbrev pub Caused : List (List ℕ) → FolderState → FolderState → SinkState → SinkState → SinkState → SinkState → Status → Type 0
-Caused words was now out0 out1 err0 err1 status = CausedBy (read_words words) words was now out0 out1 err0 err1 status
+-- When each status comes for the program's words, and what it leaves.
+abbrev pub CausedBy : Result Command ℕ → List (List ℕ) → FolderState → FolderState → SourceState → SourceState → SinkState → SinkState → SinkState → SinkState → Status → Type 0
+CausedBy (Err at) words was now in0 in1 out0 out1 err0 err1 status =
+    WordsRefused at was now out0 out1 err0 err1 status ⊎ WordsStarved was now out0 out1 err0 err1 status
+CausedBy (Ok (Exec inputs steps)) words was now in0 in1 out0 out1 err0 err1 status =
+    ExecCaused (map (word_at words) inputs) steps was now in0 in1 out0 out1 err0 err1 status
+CausedBy (Ok (Trim output at)) words was now in0 in1 out0 out1 err0 err1 status = TrimCaused (word_at words output) (word_at words at) was now out0 out1 err0 err1 status
+
+abbrev pub Caused : List (List ℕ) → FolderState → FolderState → SourceState → SourceState → SinkState → SinkState → SinkState → SinkState → Status → Type 0
+Caused words was now in0 in1 out0 out1 err0 err1 status = CausedBy (read_words words) words was now in0 in1 out0 out1 err0 err1 status
 
 -- ---- the folder
 
@@ -248,5 +162,13 @@ KeepsOthers name (Some f) (Some g) = SameOthers f g name
 -- `trim` changes OUT alone, and every other call nothing
 abbrev pub KeepsBy : Result Command ℕ → List (List ℕ) → Option Files → Option Files → Type 0
 KeepsBy (Ok (Trim output at)) words old new = KeepsOthers (word_at words output) old new
-KeepsBy (Ok (Exec at steps)) words old new = KeepsFiles old new
+KeepsBy (Ok (Exec inputs steps)) words old new = KeepsFiles old new
 KeepsBy (Err at) words old new = KeepsFiles old new
+
+-- ---- the source
+
+-- `exec` takes bytes of the source, and every other call none
+abbrev pub TakesBy : Result Command ℕ → SourceState → SourceState → Type 0
+TakesBy (Ok (Exec inputs steps)) old new = TakesSome old new
+TakesBy (Ok (Trim output at)) old new = new ≡ old
+TakesBy (Err at) old new = new ≡ old

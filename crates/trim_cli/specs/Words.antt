@@ -1,7 +1,7 @@
--- The program's words: `exec IN [--steps N]` and `trim OUT IN`. The first word is the command. Behind it a word that begins
+-- The program's words: `exec IN.. [--steps N]` and `trim OUT IN`. The first word is the command. Behind it a word that begins
 -- with `-` is an option until the word `--` was read; an option's value is the next word, whatever it is; other words are
 -- names.
-use Rattle.std.specs.Prelude.{ℕ, ◌+◌, ◌-◌, ◌*◌, List, [], ◌∷◌, length, Bool, true, false, Option, Some, None, Result, Ok, Err, codes, nat_le, nat_eq, is_none, not, ◌==◌, ◌&&◌, ◌||◌, if◌then◌else◌}
+use Rattle.std.specs.Prelude.{ℕ, ◌+◌, ◌-◌, ◌*◌, List, [], ◌∷◌, ◌++◌, length, Bool, true, false, Option, Some, None, Result, Ok, Err, codes, nat_le, nat_eq, is_none, not, ◌==◌, ◌&&◌, ◌||◌, if◌then◌else◌}
 use Rattle.std.specs.List.{list_all}
 use Rattle.std.specs.Cmp.Lexicographic.{pointwise}
 use Rattle.trim_cli.specs.declared.command.Command.{Command}
@@ -41,7 +41,7 @@ number_of w = if nat_eq (length w) 0 || not (nat_le (length w) 12) || not (list_
 -- ---- the words of `exec`
 
 abbrev pub begin : Progress
-begin = record { names_only = false; expects = false; steps = None; input = None }
+begin = record { names_only = false; expects = false; steps = None; inputs = [] }
 
 abbrev pub take_value : Progress → Option ℕ → Option Progress
 take_value p None = None
@@ -54,7 +54,7 @@ take_option p w =
     else None
 
 abbrev pub take_name : Progress → ℕ → List ℕ → Option Progress
-take_name p at w = if is_empty w || not (is_none p.input) then None else Some (record p { input = Some at })
+take_name p at w = if is_empty w then None else Some (record p { inputs = p.inputs ++ (at ∷ []) })
 
 -- one word, at its place; None where it is bad
 unfoldable pub word_step : Progress → ℕ → List ℕ → Option Progress
@@ -72,13 +72,13 @@ abbrev pub steps_of : Option ℕ → ℕ
 steps_of None = 100000000
 steps_of (Some n) = n
 
-abbrev pub with_input : ℕ → Option ℕ → Option ℕ → Result Command ℕ
-with_input words steps None = Err words
-with_input words steps (Some at) = Ok (Exec at (steps_of steps))
+-- at least one name
+abbrev pub with_inputs : ℕ → Option ℕ → List ℕ → Result Command ℕ
+with_inputs words steps inputs = if is_empty inputs then Err words else Ok (Exec inputs (steps_of steps))
 
 -- a word that is missing stands behind the last one
 unfoldable pub finish : ℕ → Progress → Result Command ℕ
-finish words p = if p.expects then Err words else with_input words p.steps p.input
+finish words p = if p.expects then Err words else with_inputs words p.steps p.inputs
 
 abbrev pub finished : ℕ → Result Progress ℕ → Result Command ℕ
 finished words (Err at) = Err at

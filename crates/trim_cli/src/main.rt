@@ -2,12 +2,8 @@
 #![tactic(auto)]
 
 mod command;
-mod execute;
-mod lines;
 mod refusals;
-mod report;
 mod run;
-mod status;
 mod trim_words;
 mod trimming;
 mod words;
@@ -19,7 +15,7 @@ use il_outside::{DiskFolder, StdSink, StdSource, write_all};
 mod tests;
 
 pub use run::run;
-pub use status::Status;
+use status_lines::Status;
 use std::env;
 use std::process::ExitCode;
 

@@ -1,12 +1,11 @@
-//! What both commands need: a file as a list, and the status line of a refusal.
+//! What `trim` needs besides: a file as a list, and the status line of a refusal.
 
 ghost use Rattle.std.specs.Prelude.{◌≡◌, [], ◌∷◌, IfOk};
 ghost use Rattle.trim_cli.specs.Answer.{refused, assembly_of, refusal_named, RefusalReported};
 
-use crate::report::report;
-use crate::status::Status;
 use il_base::{NoMemory, Seq, Text};
 use il_outside::Sink;
+use status_lines::{Status, report};
 use std::alloc::Global;
 use trim_core::{Refusal, assembly_name};
 
@@ -20,7 +19,7 @@ pub(crate) fn one_file(alloc: Global, file: Text) -> Result<Seq<Text>, NoMemory>
 }
 
 /// The name of the assembly that a file is; none where its record can't be taken.
-pub(crate) fn name_of(alloc: Global, file: &[u8]) -> Result<Text, NoMemory>
+fn name_of(alloc: Global, file: &[u8]) -> Result<Text, NoMemory>
     ensures { IfOk result (λ name. name ≡ assembly_of file.now) }
 {
     match assembly_name(alloc, file)? {

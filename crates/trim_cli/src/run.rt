@@ -1,19 +1,20 @@
 //! The program over a folder, a source and two sinks.
 
-ghost use Rattle.std.specs.Prelude.{◌≡◌, Some, map};
+ghost use Rattle.std.specs.Prelude.{◌≡◌, Ok, IfOk, Some, map};
 ghost use Rattle.std.specs.String.{string_bytes};
-ghost use Rattle.il_outside.specs.Folder.{Files};
+ghost use Rattle.il_outside.specs.Folder.{Files, KeepsFiles};
+ghost use Rattle.exec_command.specs.Input.{TakesSome};
 ghost use Rattle.trim_cli.specs.Words.{read_words};
-ghost use Rattle.trim_cli.specs.Complete.{IsQuiet, IsAnswered};
-ghost use Rattle.trim_cli.specs.Answer.{capped, word_at, Caused, KeepsBy};
+ghost use Rattle.trim_cli.specs.Complete.{IsQuiet, IsSourceQuiet, IsAnswered};
+ghost use Rattle.trim_cli.specs.Answer.{capped, word_at, Caused, CausedBy, KeepsBy, TakesBy};
 
 use crate::command::Command;
-use crate::execute::exec_word;
-use crate::report::report;
-use crate::status::Status;
 use crate::trimming::trim_word;
 use crate::words::read_words;
+use exec_command::exec_files;
+use il_base::NoMemory;
 use il_outside::{Folder, Sink, Source};
+use status_lines::{Status, report};
 use std::alloc::Global;
 
 /// A place as a status carries it: a number past 4294967295 as that.
@@ -37,19 +38,105 @@ fn word_at(words: &[String], at: usize) -> &str
     }
 }
 
+/// The words at these places.
+fn words_at(alloc: Global, words: &[String], places: &[usize]) -> Result<Vec<String>, NoMemory>
+    ensures { IfOk result (λ names. map string_bytes names.items ≡ map (word_at (map string_bytes words.now)) places.now) }
+{
+    let mut names = Vec::new(alloc);
+    for at in places {
+        let name = String::from_str(alloc, word_at(words, *at))?;
+        names.push(name)?;
+    }
+    Ok(names)
+}
+
+/// `exec` of the files that the words at these places name.
+fn exec_words<F: Folder, I: Source, O: Sink, E: Sink>(
+    alloc: Global,
+    words: &[String],
+    inputs: &[usize],
+    steps: u64,
+    folder: &mut F,
+    input: &mut I,
+    out: &mut O,
+    err: &mut E,
+) -> Status
+    ensures answered { CausedBy (Ok (Command.Exec inputs.now steps)) (map string_bytes words.now) (F.state folder.old) (F.state folder.new) (I.state input.old) (I.state input.new) (O.state out.old) (O.state out.new) (E.state err.old) (E.state err.new) result }
+    ensures folder { KeepsFiles (F.state folder.old).files (F.state folder.new).files }
+    ensures input { TakesSome (I.state input.old) (I.state input.new) }
+{
+    match words_at(alloc, words, inputs) {
+        Err(_) => report(alloc, err, &[], &[], Status::NoMemory),
+        Ok(names) => exec_files(alloc, names.as_slice(), steps, folder, input, out, err),
+    }
+}
+
+/// Does what a command asks for, or tells the place of a bad word.
+fn do_command<F: Folder, I: Source, O: Sink, E: Sink>(
+    alloc: Global,
+    command: Result<Command, usize>,
+    words: &[String],
+    folder: &mut F,
+    input: &mut I,
+    out: &mut O,
+    err: &mut E,
+) -> Status
+    ensures answered { CausedBy command (map string_bytes words.now) (F.state folder.old) (F.state folder.new) (I.state input.old) (I.state input.new) (O.state out.old) (O.state out.new) (E.state err.old) (E.state err.new) result }
+    ensures folder { KeepsBy command (map string_bytes words.now) (F.state folder.old).files (F.state folder.new).files }
+    ensures input { TakesBy command (I.state input.old) (I.state input.new) }
+{
+    match command {
+        Err(at) => report(alloc, err, &[], &[], Status::BadWords { place: capped(at) }),
+        Ok(Command::Exec { inputs, steps }) => exec_words(
+            alloc,
+            words,
+            inputs.as_slice(),
+            steps,
+            folder,
+            input,
+            out,
+            err,
+        ),
+        Ok(Command::Trim { output, input: at }) => {
+            let target = word_at(words, output);
+            let name = word_at(words, at);
+            trim_word(alloc, target, name, folder, out, err)
+        }
+    }
+}
+
+/// Reads the words, and does what they ask for.
+fn answer<F: Folder, I: Source, O: Sink, E: Sink>(
+    alloc: Global,
+    words: &[String],
+    folder: &mut F,
+    input: &mut I,
+    out: &mut O,
+    err: &mut E,
+) -> Status
+    ensures answered { Caused (map string_bytes words.now) (F.state folder.old) (F.state folder.new) (I.state input.old) (I.state input.new) (O.state out.old) (O.state out.new) (E.state err.old) (E.state err.new) result }
+    ensures folder { KeepsBy (read_words (map string_bytes words.now)) (map string_bytes words.now) (F.state folder.old).files (F.state folder.new).files }
+    ensures input { TakesBy (read_words (map string_bytes words.now)) (I.state input.old) (I.state input.new) }
+{
+    match read_words(alloc, words) {
+        Err(_) => report(alloc, err, &[], &[], Status::NoMemory),
+        Ok(command) => do_command(alloc, command, words, folder, input, out, err),
+    }
+}
+
 /// Does what the words ask for.
 ///
-/// `answered` says for each status when it comes and what it leaves. `Ended`, `Spent`, `Stopped` and `Stuck` are what the
-/// run's definition gives at the given steps, for the bytes that the folder told under the word; `out` is extended by
-/// exactly the run's output. `Done` says that OUT holds the file that a trim of IN gives: it loads as one assembly whose
-/// methods are exactly the marked ones, and for every number of steps it prints, ends, stops or goes on as IN. `BadFile`,
-/// `Limit` and `NotYet` come exactly where those bytes say so, `Unresolved` exactly where a kept operand names nothing,
-/// `BadWords` where the words don't read, `ReadFault` only where one read of the folder failed, that of IN, `WriteFault`
-/// only where one write of it failed, that of OUT, or one write to a sink; `NoMemory` alone is free. A call that fails is
-/// never hidden: where another answer is due, no read and no write of the folder and none to `out` failed. `err` is extended
-/// by exactly the status line, and after `WriteFault` and `NoMemory` both sinks by prefixes. After a refusal the folder is
-/// as it was. `complete` is the other way round: where no count rose, what the words and a told folder ask for is the
-/// answer, or `NoMemory`.
+/// `answered` says for each status when it comes and what it leaves. `Ended`, `Threw`, `Spent`, `Stopped` and `Stuck` are what
+/// the run's definition gives at the given steps, for the bytes that the folder told under the words and those that the source
+/// had left; `out` is extended by exactly the run's output. `Done` says that OUT holds the file that a trim of IN gives: it loads
+/// as one assembly whose methods are exactly the marked ones, and for every number of steps it prints, ends, stops or goes on as
+/// IN. `BadFile`, `Limit`, `NoEntry` and `NotYet` come exactly where those bytes say so, `Unresolved` exactly where a kept operand
+/// names nothing, `BadWords` where the words don't read, `ReadFault` only where one read of the folder failed, that of an IN, or
+/// one of the source, `WriteFault` only where one write of the folder failed, that of OUT, or one write to a sink; `NoMemory`
+/// alone is free. A call that fails is never hidden: where another answer is due, no read and no write of the folder, no read of
+/// the source and no write to `out` failed. `err` is extended by exactly the status line, and after `WriteFault` and `NoMemory`
+/// both sinks by prefixes. After a refusal the folder is as it was. `complete` is the other way round: where no count rose, what
+/// the words, a told folder and a told source ask for is the answer, or `NoMemory`.
 pub fn run<F: Folder, I: Source, O: Sink, E: Sink>(
     alloc: Global,
     words: &Vec<String>,
@@ -58,39 +145,15 @@ pub fn run<F: Folder, I: Source, O: Sink, E: Sink>(
     out: &mut O,
     err: &mut E,
 ) -> Status
-    ensures answered { Caused (map string_bytes words.now.items) (F.state folder.old) (F.state folder.new) (O.state out.old) (O.state out.new) (E.state err.old) (E.state err.new) result }
+    ensures answered { Caused (map string_bytes words.now.items) (F.state folder.old) (F.state folder.new) (I.state input.old) (I.state input.new) (O.state out.old) (O.state out.new) (E.state err.old) (E.state err.new) result }
     ensures complete { (files : Files) → (F.state folder.old).files ≡ Some files
         → IsQuiet (F.state folder.old) (F.state folder.new) (O.state out.old) (O.state out.new) (E.state err.old) (E.state err.new)
-        → IsAnswered (read_words (map string_bytes words.now.items)) (map string_bytes words.now.items) files result }
+        → IsSourceQuiet (read_words (map string_bytes words.now.items)) (I.state input.old) (I.state input.new)
+        → IsAnswered (read_words (map string_bytes words.now.items)) (map string_bytes words.now.items) files (I.state input.old).left result }
 
-    // `trim` changes OUT alone, and every other call nothing; the source isn't read.
+    // `trim` changes OUT alone, and every other call nothing; only `exec` reads the source.
     ensures folder { KeepsBy (read_words (map string_bytes words.now.items)) (map string_bytes words.now.items) (F.state folder.old).files (F.state folder.new).files }
-    ensures input { I.state input.new ≡ I.state input.old }
+    ensures input { TakesBy (read_words (map string_bytes words.now.items)) (I.state input.old) (I.state input.new) }
 {
-    let _ = input;
-    answer(alloc, words.as_slice(), folder, out, err)
-}
-
-fn answer<F: Folder, O: Sink, E: Sink>(
-    alloc: Global,
-    words: &[String],
-    folder: &mut F,
-    out: &mut O,
-    err: &mut E,
-) -> Status
-    ensures answered { Caused (map string_bytes words.now) (F.state folder.old) (F.state folder.new) (O.state out.old) (O.state out.new) (E.state err.old) (E.state err.new) result }
-    ensures folder { KeepsBy (read_words (map string_bytes words.now)) (map string_bytes words.now) (F.state folder.old).files (F.state folder.new).files }
-{
-    match read_words(words) {
-        Err(at) => report(alloc, err, &[], &[], Status::BadWords { place: capped(at) }),
-        Ok(Command::Exec { input: at, steps }) => {
-            let name = word_at(words, at);
-            exec_word(alloc, name, steps, folder, out, err)
-        }
-        Ok(Command::Trim { output, input: at }) => {
-            let target = word_at(words, output);
-            let name = word_at(words, at);
-            trim_word(alloc, target, name, folder, out, err)
-        }
-    }
+    answer(alloc, words.as_slice(), folder, input, out, err)
 }

@@ -5,11 +5,13 @@ mod example;
 
 use super::*;
 use example::{endless, hello};
+use file_runs::exec;
 use il_base::{NoMemory, Seq};
 use il_outside::{Folder, MemFolder, MemSink, MemSource, NamedFile};
+use run_rules::EndKind;
 use std::alloc::{AllocError, Global};
 use std::test::*;
-use trim_core::{EndKind, exec, trim};
+use trim_core::trim;
 
 fn words_of(alloc: Global, words: &[&str]) -> Result<Vec<String>, AllocError> {
     let mut all = Vec::new(alloc);
@@ -34,11 +36,11 @@ fn folder_of(alloc: Global) -> Result<MemFolder, NoMemory> {
     Ok(MemFolder::honest(files))
 }
 
-/// Runs the words over a folder with `hello.exe`, and says whether the answer, the output and the status line are these.
+/// Runs the words over a folder with `hello.exe`, and says whether the answer's code, the output and the status line are these.
 fn answers(
     alloc: Global,
     words: &[&str],
-    status: Status,
+    code: u8,
     printed: &[u8],
     line: &[u8],
 ) -> Result<bool, NoMemory> {
@@ -48,23 +50,17 @@ fn answers(
     let mut out = MemSink::new(Seq::new(alloc));
     let mut err = MemSink::new(Seq::new(alloc));
     let answer = run(alloc, &words, &mut folder, &mut input, &mut out, &mut err);
-    Ok(answer == status && out.held() == printed && err.held() == line)
+    Ok(answer.code() == code && out.held() == printed && err.held() == line)
 }
 
 #[test]
 fn a_program_prints_and_ends(rt: HostRuntime) -> Result<(), Fail> {
-    let ended = answers(
-        rt.alloc(),
-        &["exec", "hello.exe"],
-        Status::Ended { code: 0 },
-        b"Hi\n",
-        b"ended 0\n",
-    );
+    let ended = answers(rt.alloc(), &["exec", "hello.exe"], 0, b"Hi\n", b"ended 0\n");
     assert!(rt; ended.ok().ok_or("memory")?);
     let spent = answers(
         rt.alloc(),
         &["exec", "hello.exe", "--steps", "2"],
-        Status::Spent { steps: 2 },
+        21,
         b"Hi\n",
         b"spent 2\n",
     );
@@ -73,11 +69,24 @@ fn a_program_prints_and_ends(rt: HostRuntime) -> Result<(), Fail> {
 }
 
 #[test]
+fn one_assembly_given_twice_is_refused(rt: HostRuntime) -> Result<(), Fail> {
+    let twice = answers(
+        rt.alloc(),
+        &["exec", "hello.exe", "hello.exe"],
+        3,
+        b"",
+        b"bad file hello.exe 0 DuplicateAssembly\n",
+    );
+    assert!(rt; twice.ok().ok_or("memory")?);
+    Ok(())
+}
+
+#[test]
 fn steps_are_used_up(rt: HostRuntime) -> Result<(), Fail> {
     let none = answers(
         rt.alloc(),
         &["exec", "hello.exe", "--steps", "0"],
-        Status::Spent { steps: 0 },
+        21,
         b"",
         b"spent 0\n",
     );
@@ -85,7 +94,7 @@ fn steps_are_used_up(rt: HostRuntime) -> Result<(), Fail> {
     let endless = answers(
         rt.alloc(),
         &["exec", "loop.exe", "--steps", "1000"],
-        Status::Spent { steps: 1000 },
+        21,
         b"",
         b"spent 1000\n",
     );
@@ -98,18 +107,12 @@ fn bad_words_are_named_by_their_place(rt: HostRuntime) -> Result<(), Fail> {
     let number = answers(
         rt.alloc(),
         &["exec", "a.exe", "--steps", "x"],
-        Status::BadWords { place: 3 },
+        2,
         b"",
         b"bad words 3\n",
     );
     assert!(rt; number.ok().ok_or("memory")?);
-    let missing = answers(
-        rt.alloc(),
-        &["exec", "none.exe"],
-        Status::ReadFault,
-        b"",
-        b"read fault\n",
-    );
+    let missing = answers(rt.alloc(), &["exec", "none.exe"], 9, b"", b"read fault\n");
     assert!(rt; missing.ok().ok_or("memory")?);
     Ok(())
 }
@@ -126,7 +129,7 @@ fn trims_to_itself(alloc: Global) -> Result<bool, NoMemory> {
     match folder.read(alloc, "out.exe") {
         Err(_) => Ok(false),
         Ok(left) => Ok(
-            answer == Status::Done
+            answer.code() == 0
                 && err.held() == b"done\n".as_slice()
                 && left.as_slice() == whole.as_slice(),
         ),
@@ -137,36 +140,93 @@ fn trims_to_itself(alloc: Global) -> Result<bool, NoMemory> {
 fn a_file_without_leftovers_trims_to_itself(rt: HostRuntime) -> Result<(), Fail> {
     let same = trims_to_itself(rt.alloc());
     assert!(rt; same.ok().ok_or("memory")?);
-    let missing = answers(
-        rt.alloc(),
-        &["trim", "out.exe"],
-        Status::BadWords { place: 2 },
-        b"",
-        b"bad words 2\n",
-    );
+    let missing = answers(rt.alloc(), &["trim", "out.exe"], 2, b"", b"bad words 2\n");
     assert!(rt; missing.ok().ok_or("memory")?);
     Ok(())
 }
 
-/// Whether `exec` and `trim` of the bytes of `hello.exe` alone give what it prints, how it ends, and itself.
-fn calls_answer(alloc: Global) -> Result<bool, NoMemory> {
+/// Whether `trim` of the bytes of `hello.exe` alone gives itself.
+fn call_answers(alloc: Global) -> Result<bool, NoMemory> {
     let mut files = Seq::new(alloc);
     files.push(Seq::from_vec(hello(alloc)?))?;
-    let printed = match exec(alloc, &files, &[], 1000) {
-        Err(_) => false,
-        Ok(ending) => ending.output.as_slice() == b"Hi\n".as_slice()
-            && ending.end == EndKind::Ended { code: 0 },
-    };
     let whole = hello(alloc)?;
     match trim(alloc, &files) {
         Err(_) => Ok(false),
-        Ok(trimmed) => Ok(printed && trimmed.bytes.as_slice() == whole.as_slice()),
+        Ok(trimmed) => Ok(trimmed.bytes.as_slice() == whole.as_slice()),
+    }
+}
+
+/// Whether `exec` of the bytes of `hello.exe` alone gives what it prints, and how it ends.
+fn exec_answers(alloc: Global) -> Result<bool, NoMemory> {
+    let mut files = Seq::new(alloc);
+    files.push(Seq::from_vec(hello(alloc)?))?;
+    match exec(alloc, &files, b"typed", 3) {
+        Err(_) => Ok(false),
+        Ok(ran) => Ok(ran.output.as_slice() == b"Hi\n".as_slice() && has_ended(&ran.end)),
+    }
+}
+
+/// Whether a run has ended with the code 0.
+fn has_ended(end: &EndKind) -> bool {
+    match end {
+        EndKind::Ended { code } => *code == 0,
+        _ => false,
     }
 }
 
 #[test]
-fn the_calls_of_the_core_answer(rt: HostRuntime) -> Result<(), Fail> {
-    let both = calls_answer(rt.alloc());
-    assert!(rt; both.ok().ok_or("memory")?);
+fn the_calls_on_bytes_answer(rt: HostRuntime) -> Result<(), Fail> {
+    let trimmed = call_answers(rt.alloc());
+    assert!(rt; trimmed.ok().ok_or("memory")?);
+    let ran = exec_answers(rt.alloc());
+    assert!(rt; ran.ok().ok_or("memory")?);
+    Ok(())
+}
+
+/// Runs `exec` of `hello.exe` with an input of which the first read fails, and says whether that is told.
+fn fails_to_read(alloc: Global) -> Result<bool, NoMemory> {
+    let words = words_of(alloc, &["exec", "hello.exe"])?;
+    let mut folder = folder_of(alloc)?;
+    let mut input = MemSource::new(
+        Seq::from_slice(alloc, b"typed")?,
+        Seq::from_slice(alloc, &[0])?,
+    );
+    let mut out = MemSink::new(Seq::new(alloc));
+    let mut err = MemSink::new(Seq::new(alloc));
+    let answer = run(alloc, &words, &mut folder, &mut input, &mut out, &mut err);
+    Ok(answer.code() == 9 && out.held().is_empty() && err.held() == b"read fault\n".as_slice())
+}
+
+#[test]
+fn an_input_that_fails_is_told(rt: HostRuntime) -> Result<(), Fail> {
+    let told = fails_to_read(rt.alloc());
+    assert!(rt; told.ok().ok_or("memory")?);
+    Ok(())
+}
+
+/// Runs `exec` of `hello.exe` over sinks of which these calls fail, from 0, and says whether the code is that of a write fault,
+/// nothing was printed, and the status line is this.
+fn fails_to_write(
+    alloc: Global,
+    of_out: &[u32],
+    of_err: &[u32],
+    printed: &[u8],
+    line: &[u8],
+) -> Result<bool, NoMemory> {
+    let words = words_of(alloc, &["exec", "hello.exe"])?;
+    let mut folder = folder_of(alloc)?;
+    let mut input = MemSource::new(Seq::new(alloc), Seq::new(alloc));
+    let mut out = MemSink::new(Seq::from_slice(alloc, of_out)?);
+    let mut err = MemSink::new(Seq::from_slice(alloc, of_err)?);
+    let answer = run(alloc, &words, &mut folder, &mut input, &mut out, &mut err);
+    Ok(answer.code() == 10 && out.held() == printed && err.held() == line)
+}
+
+#[test]
+fn writes_that_fail_are_told(rt: HostRuntime) -> Result<(), Fail> {
+    let unprinted = fails_to_write(rt.alloc(), &[0], &[], b"", b"write fault\n");
+    assert!(rt; unprinted.ok().ok_or("memory")?);
+    let untold = fails_to_write(rt.alloc(), &[], &[0], b"Hi\n", b"");
+    assert!(rt; untold.ok().ok_or("memory")?);
     Ok(())
 }

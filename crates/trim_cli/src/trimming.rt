@@ -6,10 +6,9 @@ ghost use Rattle.trim_core.specs.Trim.{Trims};
 ghost use Rattle.trim_cli.specs.Answer.{TrimFileCaused, TrimCaused, KeepsOthers};
 
 use crate::refusals::{one_file, report_refusal};
-use crate::report::report;
-use crate::status::Status;
 use il_base::Text;
 use il_outside::{Folder, FolderError, Sink};
+use status_lines::{Status, report};
 use std::alloc::Global;
 use trim_core::{Refusal, Trimmed, trim};
 

@@ -1,12 +1,14 @@
 //! Reading the program's words, from left to right.
 
-ghost use Rattle.std.specs.Prelude.{◌≡◌, ◌≤◌, ◌+◌, ◌-◌, ◌*◌, map, length, drop, true};
+ghost use Rattle.std.specs.Prelude.{◌≡◌, ◌≤◌, ◌+◌, ◌-◌, ◌*◌, IfOk, map, length, drop, true};
 ghost use Rattle.std.specs.List.{list_all};
 ghost use Rattle.std.specs.String.{string_bytes};
 ghost use Rattle.trim_cli.specs.Words.{is_digit, value_of, number_of, begins_with_dash, word_step, take_option, take_name, take_value, rest_of, finish, finished, read_words, begin};
 
 use crate::command::{Command, Progress};
 use crate::trim_words::trim_words;
+use il_base::{NoMemory, Seq};
+use std::alloc::Global;
 
 /// The steps that `exec` makes where the words don't say.
 const DEFAULT_STEPS: u64 = 100_000_000;
@@ -59,7 +61,7 @@ fn take_value(progress: Progress, number: Option<u64>) -> Option<Progress>
             names_only: progress.names_only,
             expects: false,
             steps: Some(steps),
-            input: progress.input,
+            inputs: progress.inputs,
         }),
     }
 }
@@ -72,7 +74,7 @@ fn take_option(progress: Progress, word: &[u8]) -> Option<Progress>
             names_only: true,
             expects: progress.expects,
             steps: progress.steps,
-            input: progress.input,
+            inputs: progress.inputs,
         });
     }
     if word == b"--steps".as_slice() && progress.steps.is_none() {
@@ -80,24 +82,26 @@ fn take_option(progress: Progress, word: &[u8]) -> Option<Progress>
             names_only: progress.names_only,
             expects: true,
             steps: progress.steps,
-            input: progress.input,
+            inputs: progress.inputs,
         });
     }
     None
 }
 
-fn take_name(progress: Progress, at: usize, word: &[u8]) -> Option<Progress>
-    ensures { result ≡ take_name progress at word.now }
+fn take_name(progress: Progress, at: usize, word: &[u8]) -> Result<Option<Progress>, NoMemory>
+    ensures { IfOk result (λ next. next ≡ take_name progress at word.now) }
 {
-    if word.is_empty() || progress.input.is_some() {
-        return None;
+    if word.is_empty() {
+        return Ok(None);
     }
-    Some(Progress {
+    let mut inputs = progress.inputs;
+    inputs.push(at)?;
+    Ok(Some(Progress {
         names_only: progress.names_only,
         expects: progress.expects,
         steps: progress.steps,
-        input: Some(at),
-    })
+        inputs,
+    }))
 }
 
 pub(crate) fn begins_with_dash(word: &[u8]) -> bool
@@ -111,14 +115,14 @@ pub(crate) fn begins_with_dash(word: &[u8]) -> bool
 
 /// One word, at place `at`; None where it is bad.
 #[tactic(auto, unfolding(crate::specs::Words::word_step))]
-fn word_step(progress: Progress, at: usize, word: &[u8]) -> Option<Progress>
-    ensures { result ≡ word_step progress at word.now }
+fn word_step(progress: Progress, at: usize, word: &[u8]) -> Result<Option<Progress>, NoMemory>
+    ensures { IfOk result (λ next. next ≡ word_step progress at word.now) }
 {
     if progress.expects {
-        return take_value(progress, number_of(word));
+        return Ok(take_value(progress, number_of(word)));
     }
     if !progress.names_only && begins_with_dash(word) {
-        return take_option(progress, word);
+        return Ok(take_option(progress, word));
     }
     take_name(progress, at, word)
 }
@@ -130,62 +134,69 @@ fn finish(words: usize, progress: Progress) -> Result<Command, usize>
     if progress.expects {
         return Err(words);
     }
-    match progress.input {
-        None => Err(words),
-        Some(input) => match progress.steps {
-            None => Ok(Command::Exec {
-                input,
-                steps: DEFAULT_STEPS,
-            }),
-            Some(steps) => Ok(Command::Exec { input, steps }),
-        },
+    if progress.inputs.is_empty() {
+        return Err(words);
+    }
+    match progress.steps {
+        None => Ok(Command::Exec {
+            inputs: progress.inputs,
+            steps: DEFAULT_STEPS,
+        }),
+        Some(steps) => Ok(Command::Exec {
+            inputs: progress.inputs,
+            steps,
+        }),
     }
 }
 
 /// The words behind the command's, from left to right.
-fn rest_of(words: &[String]) -> Result<Progress, usize>
-    ensures { result ≡ rest_of 1 (map string_bytes (drop 1 words.now)) begin }
+fn rest_of(alloc: Global, words: &[String]) -> Result<Result<Progress, usize>, NoMemory>
+    ensures { IfOk result (λ r. r ≡ rest_of 1 (map string_bytes (drop 1 words.now)) begin) }
 {
     let mut progress = Progress {
         names_only: false,
         expects: false,
         steps: None,
-        input: None,
+        inputs: Seq::new(alloc),
     };
     for at in 1..words.len() {
         match word_step(progress, at, words[at].as_bytes()) {
-            None => return Err(at),
-            Some(next) => progress = next,
+            Err(error) => return Err(error),
+            Ok(None) => return Ok(Err(at)),
+            Ok(Some(next)) => progress = next,
         }
     }
-    Ok(progress)
+    Ok(Ok(progress))
 }
 
 /// The words behind `exec`.
-fn exec_words(words: &[String]) -> Result<Command, usize>
+fn exec_words(alloc: Global, words: &[String]) -> Result<Result<Command, usize>, NoMemory>
     requires { 1 ≤ length words.now }
-    ensures { result ≡ finished (length words.now) (rest_of 1 (map string_bytes (drop 1 words.now)) begin) }
+    ensures { IfOk result (λ r. r ≡ finished (length words.now) (rest_of 1 (map string_bytes (drop 1 words.now)) begin)) }
 {
-    match rest_of(words) {
-        Err(at) => Err(at),
-        Ok(progress) => finish(words.len(), progress),
+    match rest_of(alloc, words)? {
+        Err(at) => Ok(Err(at)),
+        Ok(progress) => Ok(finish(words.len(), progress)),
     }
 }
 
 /// What the words ask for, or the place of the first bad word; where a word is missing, the number of words.
 #[tactic(auto, unfolding(crate::specs::Words::read_words))]
-pub(crate) fn read_words(words: &[String]) -> Result<Command, usize>
-    ensures { result ≡ read_words (map string_bytes words.now) }
+pub(crate) fn read_words(
+    alloc: Global,
+    words: &[String],
+) -> Result<Result<Command, usize>, NoMemory>
+    ensures { IfOk result (λ r. r ≡ read_words (map string_bytes words.now)) }
 {
     match words {
-        [] => Err(0),
+        [] => Ok(Err(0)),
         [first, ..] => {
             if first.as_bytes() == b"exec".as_slice() {
-                exec_words(words)
+                exec_words(alloc, words)
             } else if first.as_bytes() == b"trim".as_slice() {
-                trim_words(words)
+                Ok(trim_words(words))
             } else {
-                Err(0)
+                Ok(Err(0))
             }
         }
     }

@@ -13,6 +13,10 @@ use Rattle.link_rules.specs.Linked.{assemblies, world_in, world_of, link_fault_o
 use Rattle.file_layout.specs.Laid.{laid}
 use Rattle.restriction.specs.Restricted.{restricted}
 use Rattle.trim_laws.specs.Headline.{Headline}
+use Rattle.inputs.specs.Files.{input_fault}
+use Rattle.run_rules.specs.Runs.{run_of_files, thin_run}
+use Rattle.run_rules.specs.ThinFiles.{IsThinFile}
+use Rattle.trim_core.specs.Trim.{RunsAs}
 use Rattle.trim_core.specs.declared.answers.Refusal.{Refusal}
 use Rattle.trim_core.specs.declared.answers.Refusal.TheVariants as refusal
 use Rattle.trim_core.specs.Told.{most_bytes, told_alone, told_linked, if_linked, if_thin, unlinked_as, AloneRead, StartsLinked, starts_thin, TakenWorld, Told, RefusedBy}
@@ -78,3 +82,26 @@ told_record bs rec has linked thin small =
 pub told_again : (bs : List ℕ) (rec : AsmRec) (flags : List Bool) → bs ≡ laid (restricted rec flags) → Headline rec flags → length bs ≤ most_bytes → told_alone bs ≡ Ok (restricted rec flags)
 told_again bs rec flags e h small =
     told_record bs (restricted rec flags) (subst (λ (x : List ℕ). HasRecord x (restricted rec flags)) (sym e) h.loads) h.links h.settled.thin small
+
+-- `exec` of bytes that have a thin record runs it
+runs_record : (bs : List ℕ) (rec : AsmRec) → HasRecord bs rec → link_fault_of (rec ∷ []) ≡ None → IsTrue (is_thin rec)
+    → ((f : List ℕ) → IsThinFile f → input_fault (f ∷ []) ≡ None)
+    → ((f : List ℕ) → IsThinFile f → (input : List ℕ) (n : ℕ) → run_of_files (f ∷ []) input n ≡ thin_run (record_at f) n)
+    → length bs ≤ most_bytes → RunsAs bs rec
+runs_record bs rec has linked t sound run small =
+    let h : is_thin rec ≡ true = t in
+    let thin : IsThinFile bs = record {
+      short = small;
+      good = has.meets;
+      links = subst (λ (x : AsmRec). link_fault_of (x ∷ []) ≡ None) has.is linked;
+      thin = subst (λ (x : AsmRec). is_thin x ≡ true) has.is h;
+    } in
+    record { taken = sound bs thin; run = λ input n. run bs thin input n ∙ ap (λ (x : AsmRec). thin_run x n) (sym has.is) }
+
+-- `exec` of what was written runs what is left
+pub runs_again : (bs : List ℕ) (rec : AsmRec) (flags : List Bool) → bs ≡ laid (restricted rec flags) → Headline rec flags
+    → ((f : List ℕ) → IsThinFile f → input_fault (f ∷ []) ≡ None)
+    → ((f : List ℕ) → IsThinFile f → (input : List ℕ) (n : ℕ) → run_of_files (f ∷ []) input n ≡ thin_run (record_at f) n)
+    → length bs ≤ most_bytes → RunsAs bs (restricted rec flags)
+runs_again bs rec flags e h sound run small =
+    runs_record bs (restricted rec flags) (subst (λ (x : List ℕ). HasRecord x (restricted rec flags)) (sym e) h.loads) h.links h.settled.thin sound run small

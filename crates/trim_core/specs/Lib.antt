@@ -1,4 +1,3 @@
 pub mod Told
-pub mod Exec
-pub mod Collect
+pub mod Places
 pub mod Trim

@@ -19,7 +19,7 @@ use Rattle.trim_core.specs.declared.answers.Refusal.TheVariants.{BadFile, Limit,
 abbrev pub most_bytes : ℕ
 most_bytes = 67108864
 
--- a record that can't be run or trimmed yet
+-- a record that can be trimmed so far
 abbrev pub if_thin : AsmRec → Result AsmRec Refusal
 if_thin rec = if is_thin rec then Ok rec else Err (NotYet 0)
 

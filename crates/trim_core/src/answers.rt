@@ -27,37 +27,9 @@ impl From<NoMemory> for Refusal {
     }
 }
 
-/// How a run stands after the steps that it was given.
-#[derive(Clone, Copy, Debug, PartialEq, Eq)]
-pub enum EndKind {
-    /// The entry method returned; 0 for one that returns nothing.
-    Ended { code: i32 },
-    /// The steps were used up.
-    Spent,
-    /// An operand that names nothing usable, or a limit of the machine, was reached.
-    Stopped { place: Place },
-    /// The code breaks a rule that the machine relies on.
-    Stuck { place: Place },
-}
-
-/// What a run printed, and how it ended.
-#[derive(Drop)]
-pub struct Ending {
-    pub output: Text,
-    pub end: EndKind,
-}
-
 /// What a trim left.
 #[derive(Drop)]
 pub struct Trimmed {
     /// The file that is written.
     pub bytes: Text,
-}
-
-/// Why a run over a sink gave no end.
-#[derive(Clone, Copy, Debug, PartialEq, Eq)]
-pub enum ExecFault {
-    Refused(Refusal),
-    /// The sink failed.
-    Write,
 }

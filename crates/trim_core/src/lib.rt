@@ -1,15 +1,10 @@
-//! What the program's commands do with the bytes of files: in go files, out comes what a run prints and how it ends.
-//! `specs/Exec` defines the answer of a run.
+//! Trims the program of a file: in go the bytes of a file, out come those of what is left of it. `specs/Trim` defines the answer.
 #![tactic(auto)]
 
 mod answers;
-mod collect;
-mod execute;
-mod run;
 mod told;
 mod trimming;
 
-pub use answers::{EndKind, Ending, ExecFault, Refusal, Trimmed};
-pub use execute::{exec, exec_to};
+pub use answers::{Refusal, Trimmed};
 pub use told::assembly_name;
 pub use trimming::trim;

@@ -7,7 +7,7 @@ ghost use Rattle.world_model.specs.Thin.{is_thin};
 ghost use Rattle.link_rules.specs.Linked.{link_fault_of};
 ghost use Rattle.trim_core.specs.Told.{told_alone, told_of};
 ghost use Rattle.trim_core.specs.Trim.{Trims, TrimsRecord};
-ghost use Rattle.trim_core.specs.Exec.{place_in};
+ghost use Rattle.trim_core.specs.Places.{place_in};
 ghost use Rattle.trim_rules.specs.Marked.{IsMarking};
 ghost use Rattle.trim_rules.specs.BadOperands.{first_bad};
 
@@ -15,6 +15,7 @@ use crate::answers::{Refusal, Trimmed};
 use crate::told::told_world;
 use assembly_writer::{WriteError, write};
 use il_base::{Bits, Place, Seq, Text};
+use run_rules::laws::thin_files_run;
 use std::alloc::Global;
 use thin_marking::{first_bad, mark_methods};
 use thin_sweep::restrict;
@@ -46,6 +47,7 @@ fn written(alloc: Global, file: &[u8], rec: &AsmRec, marked: &Bits) -> Result<Tr
     let _ = file;
     can_write();
     headline();
+    thin_files_run();
     let left = match restrict(alloc, rec, marked.flags.as_slice()) {
         Err(_) => return Err(Refusal::NoMemory),
         Ok(left) => left,

@@ -94,11 +94,12 @@ abbrev pub first_bytes : List (Known (List ℕ)) → First
 first_bytes [] = blank
 first_bytes (b ∷ bs) = bytes b
 
--- String.Empty, the one field of the core library, begins with the empty text; any other field has the bytes of its first row
--- (II.22.18), whatever its type is
-abbrev pub first_of : List AsmRec → RowAt → AsmRec → First
-first_of recs at rec =
+-- String.Empty, the one field of the core library, begins with the empty text; a global field counts as bad; any other field has
+-- the bytes of its first row (II.22.18), whatever its type is
+abbrev pub first_of : List AsmRec → RowAt → AsmRec → Option RowAt → First
+first_of recs at rec owner =
     if is_core_row recs at then empty_text
+    else if is_global recs owner then bytes (Bad (Outside GLOBAL_MEMBER))
     else first_bytes (flat_map (bytes_by (token_of FIELD (suc at.row))) rec.field_rva)
 
 abbrev pub field_owner : RowAt → AsmRec → Option RowAt
@@ -106,7 +107,7 @@ field_owner at rec = option_map (at_row at.asm) (owner_of_field rec at.row)
 
 abbrev pub field_by : List AsmRec → RowAt → AsmRec → FieldRow → FieldDef
 field_by recs at rec f =
-    record { flags = f.flags; typ = field_type recs at rec (field_owner at rec) f; first = first_of recs at rec }
+    record { flags = f.flags; typ = field_type recs at rec (field_owner at rec) f; first = first_of recs at rec (field_owner at rec) }
 
 abbrev pub field_at : List AsmRec → RowAt → Option FieldDef
 field_at recs at = option_and_then (λ (rec : AsmRec). option_map (field_by recs at rec) (slice_get rec.field at.row)) (rec_at recs at)

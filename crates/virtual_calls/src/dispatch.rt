@@ -17,7 +17,7 @@ use type_tables::tables::Tables;
 use world_model::TypeExpr;
 
 /// Whether a method is one of an interface.
-fn in_interface(tables: &Tables<'_>, slot: RowAt) -> Result<bool, NoMemory>
+pub fn in_interface(tables: &Tables<'_>, slot: RowAt) -> Result<bool, NoMemory>
     requires { IsTables tables.now }
     ensures { IfOk result (λ is. is ≡ in_interface tables.now.world.now.recs slot) }
 {

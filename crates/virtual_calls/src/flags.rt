@@ -1,3 +1,5 @@
+//! The flags of a method that its slot goes by (II.23.1.10).
+
 ghost use Rattle.std.specs.Prelude.{◌≡◌};
 ghost use Rattle.type_rules.specs.Slots.{is_static, is_virtual, is_new_slot};
 

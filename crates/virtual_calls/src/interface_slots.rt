@@ -30,9 +30,11 @@ use world_model::{Known, MethodDefRow, TypeExpr};
 
 /// A type, and the interface instance that it chooses, the type's own parameters left open.
 #[derive(Drop)]
-struct Choice {
-    of: TypeExpr,
-    instance: TypeExpr,
+pub struct Choice {
+    /// The type that chooses.
+    pub of: TypeExpr,
+    /// The interface instance.
+    pub instance: TypeExpr,
 }
 
 /// The first of these types that is the wanted one once these arguments are put in.
@@ -238,7 +240,7 @@ fn wanted_by(
 
 /// What the type that chose and its bases have for a slot, the type's own parameters left open.
 #[tactic(auto, using(crate::proofs::Matching::nearest_public))]
-fn from_choice(
+pub fn from_choice(
     alloc: Global,
     tables: &Tables<'_>,
     slots: &Slots,

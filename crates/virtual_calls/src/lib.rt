@@ -4,7 +4,7 @@
 
 pub mod class_slots;
 pub mod dispatch;
-mod flags;
+pub mod flags;
 pub mod impls;
 pub mod interface_slots;
 pub mod nearest;

@@ -67,7 +67,7 @@ fn inherited_by(
 
 /// The method whose slot a virtual method that isn't newslot takes; None where it finds none.
 #[tactic(auto, unfolding(type_rules::specs::Slots::inherited))]
-fn inherited(
+pub fn inherited(
     alloc: Global,
     tables: &Tables<'_>,
     at: RowAt,

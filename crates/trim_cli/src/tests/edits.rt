@@ -2,9 +2,8 @@
 
 use super::example::{cut, edited, endless, hello, uncalled};
 use super::{named, words_of};
-use crate::{Status, run};
-use il_base::reason::{BAD_STREAM, CYCLIC_TYPES, NOT_IL_ONLY, NOT_PE, TRUNCATED};
-use il_base::{BadAt, NoMemory, Place, Seq, Text};
+use crate::run;
+use il_base::{NoMemory, Seq, Text};
 use il_outside::{FailAt, Folder, MemFolder, MemSink, MemSource};
 use std::alloc::Global;
 use std::test::*;
@@ -12,7 +11,8 @@ use std::test::*;
 /// What a run over a folder with one file, `a.exe`, leaves.
 #[derive(Drop)]
 struct Left {
-    status: Status,
+    /// The code that the program ends with.
+    code: u8,
     printed: Text,
     line: Text,
     /// What is under the name that was asked for, none where that isn't there.
@@ -38,7 +38,7 @@ fn run_on(
     let mut err = MemSink::new(Seq::new(alloc));
     let status = run(alloc, &words, &mut folder, &mut input, &mut out, &mut err);
     Ok(Left {
-        status,
+        code: status.code(),
         printed: Seq::from_slice(alloc, out.held())?,
         line: Seq::from_slice(alloc, err.held())?,
         file: folder.read(alloc, name).ok(),
@@ -46,55 +46,46 @@ fn run_on(
 }
 
 /// Whether a run answered so, and printed this.
-fn said(left: &Left, status: Status, printed: &[u8], line: &[u8]) -> bool {
-    left.status == status && left.printed.as_slice() == printed && left.line.as_slice() == line
+fn said(left: &Left, code: u8, printed: &[u8], line: &[u8]) -> bool {
+    left.code == code && left.printed.as_slice() == printed && left.line.as_slice() == line
 }
 
 /// Whether `exec` answers the bytes so, and prints this.
 fn executes(
     alloc: Global,
     bytes: &[u8],
-    status: Status,
+    code: u8,
     printed: &[u8],
     line: &[u8],
 ) -> Result<bool, NoMemory> {
     let words = ["exec", "a.exe", "--steps", "1000"];
     let left = run_on(alloc, bytes, &words, &[], "a.exe")?;
-    Ok(said(&left, status, printed, line))
+    Ok(said(&left, code, printed, line))
 }
 
 /// Whether `trim` answers the bytes so, and writes nothing.
-fn trim_refuses(
-    alloc: Global,
-    bytes: &[u8],
-    status: Status,
-    line: &[u8],
-) -> Result<bool, NoMemory> {
+fn trim_refuses(alloc: Global, bytes: &[u8], code: u8, line: &[u8]) -> Result<bool, NoMemory> {
     let left = run_on(alloc, bytes, &["trim", "o.exe", "a.exe"], &[], "o.exe")?;
-    Ok(said(&left, status, b"", line) && left.file.is_none())
+    Ok(said(&left, code, b"", line) && left.file.is_none())
 }
 
 /// Whether both commands refuse the bytes so.
-fn refused(alloc: Global, bytes: &[u8], status: Status, line: &[u8]) -> Result<bool, NoMemory> {
-    Ok(executes(alloc, bytes, status, b"", line)? && trim_refuses(alloc, bytes, status, line)?)
+fn refused(alloc: Global, bytes: &[u8], code: u8, line: &[u8]) -> Result<bool, NoMemory> {
+    Ok(executes(alloc, bytes, code, b"", line)? && trim_refuses(alloc, bytes, code, line)?)
 }
 
 /// The file that `trim` makes of the bytes; none where it doesn't say `done`.
 fn trimmed(alloc: Global, bytes: &[u8], output: &str) -> Result<Text, NoMemory> {
     let left = run_on(alloc, bytes, &["trim", output, "a.exe"], &[], output)?;
-    if said(&left, Status::Done, b"", b"done\n") {
+    if said(&left, 0, b"", b"done\n") {
         Ok(left.file.unwrap_or(Seq::new(alloc)))
     } else {
         Ok(Seq::new(alloc))
     }
 }
 
-fn bad(alloc: Global, bytes: Vec<u8>, offset: u32, why: u8, line: &[u8]) -> Result<bool, NoMemory> {
-    let status = Status::BadFile {
-        file: 0,
-        at: BadAt { offset, why },
-    };
-    refused(alloc, &bytes, status, line)
+fn bad(alloc: Global, bytes: Vec<u8>, line: &[u8]) -> Result<bool, NoMemory> {
+    refused(alloc, &bytes, 3, line)
 }
 
 /// Copies that are cut or have one byte changed: CLI flags, the first stream's name, a class that is its own base.
@@ -103,37 +94,11 @@ fn damages(alloc: Global) -> Result<bool, NoMemory> {
     let stream = edited(alloc, 645, b"\x2d")?;
     let cyclic = edited(alloc, 808, b"\x08")?;
     Ok(
-        bad(
-            alloc,
-            cut(alloc, 0)?,
-            0,
-            NOT_PE,
-            b"bad file a.exe 0 NotPe\n",
-        )? && bad(
-            alloc,
-            cut(alloc, 1000)?,
-            1000,
-            TRUNCATED,
-            b"bad file a.exe 1000 Truncated\n",
-        )? && bad(
-            alloc,
-            native,
-            536,
-            NOT_IL_ONLY,
-            b"bad file a.exe 536 NotIlOnly\n",
-        )? && bad(
-            alloc,
-            stream,
-            636,
-            BAD_STREAM,
-            b"bad file a.exe 636 BadStream\n",
-        )? && bad(
-            alloc,
-            cyclic,
-            800,
-            CYCLIC_TYPES,
-            b"bad file a.exe 800 CyclicTypes\n",
-        )?,
+        bad(alloc, cut(alloc, 0)?, b"bad file a.exe 0 NotPe\n")?
+            && bad(alloc, cut(alloc, 1000)?, b"bad file a.exe 1000 Truncated\n")?
+            && bad(alloc, native, b"bad file a.exe 536 NotIlOnly\n")?
+            && bad(alloc, stream, b"bad file a.exe 636 BadStream\n")?
+            && bad(alloc, cyclic, b"bad file a.exe 800 CyclicTypes\n")?,
     )
 }
 
@@ -147,31 +112,11 @@ fn damage_is_named(rt: HostRuntime) -> Result<(), Fail> {
 /// A call of a MemberRef row that isn't there, and a method that isn't static.
 fn operands_and_forms(alloc: Global) -> Result<bool, NoMemory> {
     let call = edited(alloc, 599, b"\x02")?;
-    let place = Place {
-        asm: 0,
-        token: 0x0600_0001,
-        offset: 5,
-    };
-    let stopped = Status::Stopped { place };
     let instance = edited(alloc, 820, b"\x81")?;
     Ok(
-        executes(
-            alloc,
-            &call,
-            stopped,
-            b"",
-            b"stopped App:06000001:00000005\n",
-        )? && trim_refuses(
-            alloc,
-            &call,
-            Status::Unresolved { place },
-            b"unresolved App:06000001:00000005\n",
-        )? && refused(
-            alloc,
-            &instance,
-            Status::NotYet { file: 0 },
-            b"not yet a.exe\n",
-        )?,
+        executes(alloc, &call, 22, b"", b"stopped App:06000001:00000005\n")?
+            && trim_refuses(alloc, &call, 5, b"unresolved App:06000001:00000005\n")?
+            && trim_refuses(alloc, &instance, 30, b"not yet a.exe\n")?,
     )
 }
 
@@ -189,21 +134,19 @@ fn holds(bytes: &[u8], at: usize, part: &[u8]) -> bool {
 
 /// An empty `Main` leaves one TypeRef, no MemberRef and no text; an endless one stays endless.
 fn trims_and_runs(alloc: Global) -> Result<bool, NoMemory> {
-    let ended = Status::Ended { code: 0 };
-    let spent = Status::Spent { steps: 1000 };
     let empty = edited(alloc, 592, b"\x06\x2a")?;
     let empty_left = trimmed(alloc, &empty, "o.exe")?;
     let endless_left = trimmed(alloc, &endless(alloc)?, "o.exe")?;
     Ok(
-        executes(alloc, &empty, ended, b"", b"ended 0\n")?
-            && executes(alloc, empty_left.as_slice(), ended, b"", b"ended 0\n")?
+        executes(alloc, &empty, 0, b"", b"ended 0\n")?
+            && executes(alloc, empty_left.as_slice(), 0, b"", b"ended 0\n")?
             && holds(empty_left.as_slice(), 0x2c6, b"G\0\0\0\x09\0\0\0")
             && holds(
                 empty_left.as_slice(),
                 0x2d6,
                 b"\x01\0\0\0\x01\0\0\0\x02\0\0\0\x01\0\0\0",
             )
-            && executes(alloc, endless_left.as_slice(), spent, b"", b"spent 1000\n")?,
+            && executes(alloc, endless_left.as_slice(), 21, b"", b"spent 1000\n")?,
     )
 }
 
@@ -220,9 +163,8 @@ fn leaves_out(alloc: Global) -> Result<bool, NoMemory> {
     let hello = hello(alloc)?;
     let left = trimmed(alloc, &whole, "o.exe")?;
     let itself = trimmed(alloc, &whole, "a.exe")?;
-    let ended = Status::Ended { code: 0 };
     Ok(
-        executes(alloc, &whole, ended, b"Hi\n", b"ended 0\n")?
+        executes(alloc, &whole, 0, b"Hi\n", b"ended 0\n")?
             && left.as_slice() == hello.as_slice()
             && itself.as_slice() == hello.as_slice(),
     )
@@ -254,9 +196,9 @@ fn calls_that_fail(alloc: Global) -> Result<bool, NoMemory> {
         "o.exe",
     )?;
     Ok(
-        said(&unread, Status::ReadFault, b"", b"read fault\n")
+        said(&unread, 9, b"", b"read fault\n")
             && unread.file.is_none()
-            && said(&unwritten, Status::WriteFault, b"", b"write fault\n")
+            && said(&unwritten, 10, b"", b"write fault\n")
             && unwritten.file.unwrap_or(Seq::new(alloc)).as_slice() == b"MZ\x90".as_slice(),
     )
 }

@@ -1,0 +1,3 @@
+pub mod Naturals
+pub mod Sets
+pub mod Telling

@@ -1,0 +1,8 @@
+use Rattle.std.proofs.Common.{ap, ◌∙◌}
+use Rattle.cil_values.specs.declared.core_call.CoreCall.{CoreCall}
+use Rattle.step_rules.specs.Core.{with_result}
+use Rattle.cil_core.proofs.resuming.with_result.Goals as goal
+
+pub returns-in-AreEqual : goal.returns-in-AreEqual
+returns-in-AreEqual c q args give =
+    ap (λ (k : CoreCall). with_result k q args c.args.v.now c.args.st.now give) c.in-AreEqual.is ∙ c.equal_result.ensures q args c.args.printed.now.items give c.requires

@@ -1,0 +1,65 @@
+//! Calls.
+
+ghost use Rattle.std.specs.Prelude.{◌≡◌, [], IfOk};
+ghost use Rattle.step_rules.specs.CoreWords.{Gives};
+ghost use Rattle.step_rules.specs.Core.{core_call, member};
+ghost use Rattle.cil_closing.specs.Callees.{callee_by};
+ghost use Rattle.cil_members.specs.Outs.{gives_by};
+
+use crate::members::simple;
+use crate::virtual_members::{equal_form, print_object};
+use cil_closing::Callee;
+use cil_members::{CoreOut, Taken, checked, raised, stopped_member, stuck_member};
+use cil_queries::Answers;
+use cil_values::{CoreCall, Printed, State, Value};
+use core_table::CoreName;
+use il_base::{NoMemory, Seq};
+use std::alloc::Global;
+
+/// A member with its arguments as it takes them.
+#[tactic(auto, unfolding(step_rules::specs::Core::member))]
+fn member<Q: Answers>(
+    alloc: Global,
+    q: &Q,
+    called: CoreCall,
+    args: &[Value],
+    st: &mut State,
+    printed: &mut Vec<u8>,
+) -> Result<CoreOut, NoMemory>
+    requires { printed.old.items ≡ [] }
+    ensures { IfOk result (λ out. (give : Gives) → member called (Q.queries q.now) args.now st.old give ≡ gives_by out st.new printed.new.items give) }
+{
+    match called {
+        CoreCall::Prints(line, kind) => match kind {
+            Printed::OfObject => print_object(alloc, q, line, args, st, printed),
+            Printed::OfString => simple(alloc, q, called, args, st, printed),
+            Printed::OfNumber => simple(alloc, q, called, args, st, printed),
+            Printed::OfBool => simple(alloc, q, called, args, st, printed),
+            Printed::OfChar => simple(alloc, q, called, args, st, printed),
+        },
+        CoreCall::AreEqual => equal_form(alloc, q, args, st, printed),
+        _ => simple(alloc, q, called, args, st, printed),
+    }
+}
+
+/// A call of a member with all its arguments, `this` first.
+#[tactic(auto, unfolding(step_rules::specs::Core::core_call))]
+pub fn core_call<Q: Answers>(
+    alloc: Global,
+    q: &Q,
+    c: &Callee,
+    called: CoreCall,
+    args: Seq<Value>,
+    st: &mut State,
+    printed: &mut Vec<u8>,
+) -> Result<CoreOut, NoMemory>
+    requires { printed.old.items ≡ [] }
+    ensures { IfOk result (λ out. (give : Gives) → core_call (Q.queries q.now) (callee_by c.now) called args st.old give ≡ gives_by out st.new printed.new.items give) }
+{
+    match checked(alloc, q, c, args.as_slice(), st)? {
+        Taken::Are(values) => member(alloc, q, called, values.as_slice(), st, printed),
+        Taken::Null => raised(alloc, q, CoreName::NullReferenceException, st),
+        Taken::Stuck => Ok(stuck_member(st)),
+        Taken::Stopped => Ok(stopped_member(st)),
+    }
+}

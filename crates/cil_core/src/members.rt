@@ -1,0 +1,76 @@
+//! Members that call nothing.
+
+ghost use Rattle.std.specs.Prelude.{◌≡◌, [], IfOk};
+ghost use Rattle.step_rules.specs.CoreWords.{Gives};
+ghost use Rattle.step_rules.specs.Core.{simple};
+ghost use Rattle.cil_members.specs.Outs.{gives_by};
+
+use cil_console_members::{array_length, fill_array, line_end, print, read_line, read_unit};
+use cil_exceptions::{
+    exception_inner, exception_parameter, exception_text, get_inner, get_message,
+};
+use cil_members::{CoreOut, stuck_member};
+use cil_object_members::{
+    halt, idle, int_compare, int_equals, number_is, number_text, same, type_name,
+};
+use cil_queries::Answers;
+use cil_text_members::{
+    int_parse, string_compare, string_concat, string_from, string_index, string_is,
+    string_is_empty, string_itself, string_length, string_other, string_part, string_same,
+    string_unit,
+};
+use cil_values::{CoreCall, State, Value};
+use il_base::NoMemory;
+use std::alloc::Global;
+
+/// A member that calls no method, with its arguments as it takes them. Members that call are stuck here.
+#[tactic(auto, unfolding(step_rules::specs::Core::simple))]
+pub(crate) fn simple<Q: Answers>(
+    alloc: Global,
+    q: &Q,
+    member: CoreCall,
+    args: &[Value],
+    st: &mut State,
+    printed: &mut Vec<u8>,
+) -> Result<CoreOut, NoMemory>
+    requires { printed.old.items ≡ [] }
+    ensures { IfOk result (λ out. (give : Gives) → simple member (Q.queries q.now) args.now st.old give ≡ gives_by out st.new printed.new.items give) }
+{
+    match member {
+        CoreCall::Halts => Ok(halt(args, st)),
+        CoreCall::Idle => Ok(idle(args, st)),
+        CoreCall::TypeName => type_name(alloc, q, args, st),
+        CoreCall::IsObject => Ok(same(args, st)),
+        CoreCall::SameReference => Ok(same(args, st)),
+        CoreCall::NumberText(code) => number_text(alloc, code, args, st),
+        CoreCall::NumberIs(code) => Ok(number_is(code, args, st)),
+        CoreCall::IntEquals => Ok(int_equals(args, st)),
+        CoreCall::IntCompare => Ok(int_compare(args, st)),
+        CoreCall::IntParse => int_parse(alloc, q, args, st),
+        CoreCall::StringLength => string_length(args, st),
+        CoreCall::StringUnit => string_unit(alloc, q, args, st),
+        CoreCall::StringConcat => string_concat(alloc, args, st),
+        CoreCall::StringSame => Ok(string_same(args, st)),
+        CoreCall::StringOther => Ok(string_other(args, st)),
+        CoreCall::StringIs => Ok(string_is(args, st)),
+        CoreCall::StringItself => string_itself(alloc, args, st),
+        CoreCall::StringFrom => string_from(alloc, q, args, st),
+        CoreCall::StringPart => string_part(alloc, q, args, st),
+        CoreCall::StringIndex => string_index(args, st),
+        CoreCall::StringIsEmpty => Ok(string_is_empty(args, st)),
+        CoreCall::StringCompare => Ok(string_compare(args, st)),
+        CoreCall::ArrayLength => array_length(args, st),
+        CoreCall::Prints(line, kind) => print(alloc, line, kind, args, st, printed),
+        CoreCall::PrintsLineEnd => line_end(args, st, printed),
+        CoreCall::ReadLine => read_line(alloc, args, st),
+        CoreCall::ReadUnit => Ok(read_unit(args, st)),
+        CoreCall::ExceptionPlain => Ok(idle(args, st)),
+        CoreCall::ExceptionText => exception_text(alloc, q, args, st),
+        CoreCall::ExceptionInner => exception_inner(alloc, q, args, st),
+        CoreCall::ExceptionParameter(name) => exception_parameter(alloc, q, name, args, st),
+        CoreCall::GetMessage => get_message(alloc, q, args, st),
+        CoreCall::GetInner => get_inner(alloc, q, args, st),
+        CoreCall::FillArray => fill_array(alloc, q, args, st),
+        CoreCall::AreEqual => Ok(stuck_member(st)),
+    }
+}

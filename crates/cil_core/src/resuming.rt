@@ -1,0 +1,115 @@
+//! A member goes on with what the method that it called returned.
+
+ghost use Rattle.std.specs.Prelude.{◌≡◌, ℕ, List, ◌∷◌, [], IfOk};
+ghost use Rattle.cil_values.specs.declared.value.Value.{Value};
+ghost use Rattle.step_rules.specs.CoreWords.{Gives};
+ghost use Rattle.step_rules.specs.Core.{with_option, with_result};
+ghost use Rattle.step_rules.specs.CoreConsole.{print_form};
+ghost use Rattle.step_rules.specs.Queries.{Queries};
+ghost use Rattle.cil_values.specs.declared.core_call.Printed.TheVariants.{OfObject};
+ghost use Rattle.cil_values.specs.declared.core_call.CoreCall.TheVariants.{AreEqual};
+ghost use Rattle.cil_members.specs.Outs.{KeepsFrames, gives_by};
+
+use cil_console_members::print;
+use cil_members::{CoreOut, gives_value, stuck_member};
+use cil_queries::Answers;
+use cil_stores::narrowed;
+use cil_values::{CoreCall, Printed, State, Value};
+use il_base::{NoMemory, Seq, element};
+use std::alloc::Global;
+
+/// Prints what ToString() of an object gave.
+fn print_result(
+    alloc: Global,
+    line: bool,
+    v: &Value,
+    st: &State,
+    printed: &mut Vec<u8>,
+) -> Result<CoreOut, NoMemory>
+    requires { printed.old.items ≡ [] }
+    ensures { IfOk result (λ out. (q : Queries) (give : Gives) → print_form line OfObject q (v.now ∷ []) st.now give ≡ gives_by out st.now printed.new.items give) }
+{
+    let mut shown = Seq::new(alloc);
+    let copy = v.copy(alloc)?;
+    shown.push(copy)?;
+    print(
+        alloc,
+        line,
+        Printed::OfObject,
+        shown.as_slice(),
+        st,
+        printed,
+    )
+}
+
+/// Equals(object) gave a truth value.
+fn equal_result(v: &Value, st: &State) -> CoreOut
+    ensures { (q : Queries) (args : List Value) (bytes : List ℕ) (give : Gives) → bytes ≡ [] → with_result AreEqual q args v.now st.now give ≡ gives_by result st.now bytes give }
+{
+    match narrowed(element::BOOLEAN, v) {
+        None => stuck_member(st),
+        Some(b) => gives_value(st, b),
+    }
+}
+
+/// The member goes on with a value.
+fn with_result(
+    alloc: Global,
+    member: CoreCall,
+    v: &Value,
+    st: &State,
+    printed: &mut Vec<u8>,
+) -> Result<CoreOut, NoMemory>
+    requires { printed.old.items ≡ [] }
+    ensures { IfOk result (λ out. (q : Queries) (args : List Value) (give : Gives) → with_result member q args v.now st.now give ≡ gives_by out st.now printed.new.items give) }
+{
+    match member {
+        CoreCall::Prints(line, kind) => match kind {
+            Printed::OfObject => print_result(alloc, line, v, st, printed),
+            Printed::OfString => Ok(stuck_member(st)),
+            Printed::OfNumber => Ok(stuck_member(st)),
+            Printed::OfBool => Ok(stuck_member(st)),
+            Printed::OfChar => Ok(stuck_member(st)),
+        },
+        CoreCall::AreEqual => Ok(equal_result(v, st)),
+        _ => Ok(stuck_member(st)),
+    }
+}
+
+/// The member goes on with what its method returned, in a state that stays as it is.
+fn with_option(
+    alloc: Global,
+    member: CoreCall,
+    returned: Option<Value>,
+    st: &State,
+    printed: &mut Vec<u8>,
+) -> Result<CoreOut, NoMemory>
+    requires { printed.old.items ≡ [] }
+    ensures { IfOk result (λ out. (q : Queries) (args : List Value) (give : Gives) → with_option member q args st.now give returned ≡ gives_by out st.now printed.new.items give) }
+{
+    match returned {
+        None => Ok(stuck_member(st)),
+        Some(v) => {
+            let out = with_result(alloc, member, &v, st, printed);
+            drop(v);
+            out
+        }
+    }
+}
+
+/// A member goes on with what the method that it called returned. These are its own arguments.
+pub fn resume<Q: Answers>(
+    alloc: Global,
+    q: &Q,
+    member: CoreCall,
+    args: Seq<Value>,
+    returned: Option<Value>,
+    st: &mut State,
+    printed: &mut Vec<u8>,
+) -> Result<CoreOut, NoMemory>
+    requires { printed.old.items ≡ [] }
+    ensures gives { IfOk result (λ out. (give : Gives) → with_option member (Q.queries q.now) args st.old give returned ≡ gives_by out st.new printed.new.items give) }
+    ensures frames { IfOk result (λ out. KeepsFrames out st.old st.new) }
+{
+    with_option(alloc, member, returned, st, printed)
+}

@@ -1,0 +1,5 @@
+pub mod Chosen
+pub mod Kept
+pub mod ReadyFields
+pub mod Texts
+pub mod Widths

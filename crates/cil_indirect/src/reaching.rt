@@ -1,0 +1,64 @@
+//! The place that an access through a pointer takes.
+
+ghost use Rattle.std.specs.Prelude.{◌≡◌, List, IfOk};
+ghost use Rattle.cil_values.specs.declared.value.Value.{Value};
+ghost use Rattle.cil_values.specs.declared.path.Path.{Path};
+ghost use Rattle.step_rules.specs.Next.{Next};
+ghost use Rattle.step_rules.specs.Indirect.{pointed, through};
+ghost use Rattle.cil_stores.specs.Accesses.{access_in};
+ghost use Rattle.cil_pointers.specs.Reaching.{reached_by, with_stack};
+
+use cil_pointers::{Reached, ended_at, value_at};
+use cil_queries::Answers;
+use cil_stores::{Access, allows};
+use cil_values::{Path, State, Value};
+use il_base::NoMemory;
+use std::alloc::Global;
+
+/// What an access finds at a pointer: the frame that ended first, then the type, then the cell.
+#[tactic(auto, unfolding(step_rules::specs::Places::at_place))]
+fn pointed<Q: Answers>(
+    alloc: Global,
+    q: &Q,
+    a: &Access,
+    p: &Path,
+    st: &State,
+) -> Result<Reached, NoMemory>
+    ensures { IfOk result (λ x. (vs : List Value) → (f : Path → Value → Next) → pointed (Q.queries q.now) (access_in a.now) p.now (with_stack vs st.now) f ≡ reached_by (Q.queries q.now) x (with_stack vs st.now) f) }
+{
+    if ended_at(st, p) {
+        return Ok(Reached::Gone);
+    }
+    if !allows(alloc, q, a, &p.of)? {
+        return Ok(Reached::Refused);
+    }
+    let Some(v) = value_at(alloc, q, st, p)? else {
+        return Ok(Reached::Gone);
+    };
+    let copy = p.copy(alloc)?;
+    Ok(Reached::At(copy, v))
+}
+
+/// What an access finds where a value leads, which was taken off the evaluation stack.
+#[tactic(auto, unfolding(step_rules::specs::Indirect::through))]
+pub(crate) fn through<Q: Answers>(
+    alloc: Global,
+    q: &Q,
+    a: &Access,
+    r: &Value,
+    st: &State,
+) -> Result<Reached, NoMemory>
+    ensures { IfOk result (λ x. (vs : List Value) → (f : Path → Value → Next) → through (Q.queries q.now) (access_in a.now) r.now (with_stack vs st.now) f ≡ reached_by (Q.queries q.now) x (with_stack vs st.now) f) }
+{
+    match r {
+        Value::Pointer(p) => pointed(alloc, q, a, p, st),
+        Value::Null => Ok(Reached::Null),
+        Value::I4(_) => Ok(Reached::Refused),
+        Value::I8(_) => Ok(Reached::Refused),
+        Value::Native(_) => Ok(Reached::Refused),
+        Value::Object(_) => Ok(Reached::Refused),
+        Value::Struct(_, _) => Ok(Reached::Refused),
+        Value::Handle(_) => Ok(Reached::Refused),
+        Value::FieldHandle(_) => Ok(Reached::Refused),
+    }
+}

@@ -1,0 +1,9 @@
+//! The program's input: bytes of UTF-8 as UTF-16 units. Each byte outside a well-formed sequence gives U+FFFD, as
+//! `step_rules/specs/Input` has it.
+#![tactic(auto)]
+
+mod character;
+mod characters;
+mod units;
+
+pub use units::decoded;

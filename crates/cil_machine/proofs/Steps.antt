@@ -1,0 +1,20 @@
+-- A step by what the top frame runs.
+use Rattle.std.proofs.Common.{◌≡◌, Option, Some, None, sym, ap, ◌∙◌}
+use Rattle.cil_values.specs.declared.state.State.{State}
+use Rattle.cil_values.specs.declared.resolved.Instruction.{Instruction}
+use Rattle.step_rules.specs.Queries.{Queries}
+use Rattle.step_rules.specs.Words.{Here, given, stuck}
+use Rattle.step_rules.specs.Step.{execute, step}
+use Rattle.cil_returns.specs.Running.{running_of}
+use Rattle.cil_returns.proofs.RunningFrames.{given_running}
+
+module _ (q : Queries) (s : State) where
+  opened : step q s ≡ given (running_of q s.top) s (λ p. execute q p.0 p.1 s)
+  unfolding step
+  opened = given_running q s.top s (λ here i. execute q here i s)
+
+  pub step_nowhere : running_of q s.top ≡ None → stuck s ≡ step q s
+  step_nowhere none = sym (opened ∙ ap (λ (o : Option (Here × Instruction)). given o s (λ p. execute q p.0 p.1 s)) none)
+
+  pub step_at : (here : Here) (i : Instruction) → running_of q s.top ≡ Some (here, i) → execute q here i s ≡ step q s
+  step_at here i some = sym (opened ∙ ap (λ (o : Option (Here × Instruction)). given o s (λ p. execute q p.0 p.1 s)) some)

@@ -1,0 +1,10 @@
+//! The machine over a world (III.1.3, II.15.4.1.2): how a run begins at its entry method, and a step of it. In go a world, an
+//! entry and the bytes of the input; out come states, ends and what each step prints, as `step_rules/specs/Run` has it.
+#![tactic(auto)]
+
+mod beginning;
+mod entry_form;
+mod stepping;
+
+pub use beginning::{Beginning, begin};
+pub use stepping::step;

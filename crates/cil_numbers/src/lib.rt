@@ -1,0 +1,10 @@
+//! Instructions on numbers: arithmetic, bits, shifts, comparisons and conversions (III.1.5, III.3). In goes a state at the
+//! instruction; out comes what the step comes to, as `step_rules/specs/Numbers` has it.
+#![tactic(auto)]
+
+mod comparisons;
+mod numbers;
+mod shifts;
+mod two_operands;
+
+pub use numbers::{binary, convert, unary};

@@ -1,0 +1,3 @@
+pub mod AnyStack
+pub mod Popping
+pub mod Reaching

@@ -1,0 +1,2 @@
+/// Drops a value.
+pub fn discard<T: Drop>(_v: T) {}

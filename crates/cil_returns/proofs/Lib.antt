@@ -1,0 +1,4 @@
+pub mod Alone
+pub mod Callers
+pub mod Opened
+pub mod RunningFrames

@@ -1,0 +1,2 @@
+pub mod Boxing
+pub mod Casts

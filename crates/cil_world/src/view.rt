@@ -1,0 +1,124 @@
+//! A world as the machine sees it.
+
+ghost use Rattle.std.specs.Prelude.{◌≡◌, IfOk};
+ghost use Rattle.link_rules.specs.Linked.{IsWorld};
+ghost use Rattle.view_rules.specs.Answers.{queries_of};
+
+use cil_queries::Answers;
+use cil_values::{CoreCall, FieldDef, Head, Instruction, Layout, Method, Shape};
+use core_table::CoreName;
+use il_base::{NoMemory, Seq, Text};
+use mark_tables::marker::Marker;
+use std::alloc::Global;
+use std::marker::Model;
+use world_definitions::Definitions;
+use world_layouts::Layouts;
+use world_model::{MethodUse, TypeExpr, World};
+use world_types::ClosedTypes;
+
+/// A world that a link gave, with what its answers are looked up in, made once. Contracts see the world.
+#[derive(Drop)]
+pub struct View<'w> {
+    layouts: Layouts<'w>,
+    types: ClosedTypes<'w>,
+}
+
+impl<'w> Model for View<'w> {
+    ghost use Rattle.std.specs.Prelude.{◌≡◌};
+    ghost use Rattle.world_model.specs.declared.world.World.{World};
+    ghost use Rattle.world_model.specs.contracts.world.World as whole;
+
+    ghost Value = { World };
+
+    ghost coded = { whole.the_row.coded };
+
+    ghost view = { λ v. v.types };
+
+    ghost invariant = { λ v. v.types ≡ v.layouts };
+}
+
+impl<'w> View<'w> {
+    /// The view of a world that a link gave.
+    pub fn of(alloc: Global, world: &'w World) -> Result<View<'w>, NoMemory>
+        requires { IsWorld world.now }
+        ensures { IfOk result (λ view. view ≡ world.now) }
+    {
+        let marker = Marker::of(alloc, world)?;
+        let definitions = Definitions::of(alloc, &marker)?;
+        let layouts = Layouts::of(alloc, &marker, definitions)?;
+        let Marker { tables, rows: _ } = marker;
+        let types = ClosedTypes::of(alloc, tables)?;
+        Ok(View { layouts, types })
+    }
+}
+
+#[tactic(auto, unfolding(view_rules::specs::Answers::queries_of))]
+impl<'w> Answers for View<'w> {
+    ghost queries = { λ world. queries_of world.recs };
+
+    fn core(&self, method: u32) -> Option<CoreCall> {
+        self.types.core_call(method)
+    }
+
+    fn known(&self, name: CoreName) -> u32 {
+        self.types.known(name)
+    }
+
+    fn method(&self, method: u32) -> Option<&Method> {
+        self.layouts.definitions().method(method)
+    }
+
+    fn instruction(&self, method: u32, at: u32) -> Option<&Instruction> {
+        self.layouts.definitions().instruction(method, at)
+    }
+
+    fn field(&self, field: u32) -> Option<&FieldDef> {
+        self.layouts.definitions().field(field)
+    }
+
+    fn head(&self, ty: u32) -> Option<Head> {
+        self.layouts.definitions().head(ty)
+    }
+
+    fn shape(&self, alloc: Global, ty: &TypeExpr) -> Result<Shape, NoMemory> {
+        self.layouts.shape(alloc, ty)
+    }
+
+    fn cells(&self, alloc: Global, ty: &TypeExpr) -> Result<Seq<Layout>, NoMemory> {
+        self.layouts.cells(alloc, &self.types, ty)
+    }
+
+    fn starts(&self, ty: u32) -> Option<u32> {
+        self.layouts.definitions().starts(ty)
+    }
+
+    fn below(&self, alloc: Global, a: &TypeExpr, b: &TypeExpr) -> Result<bool, NoMemory> {
+        self.types.is_subtype(alloc, a, b)
+    }
+
+    fn answers(
+        &self,
+        alloc: Global,
+        ty: &TypeExpr,
+        owner: &TypeExpr,
+        method: u32,
+    ) -> Result<Option<MethodUse>, NoMemory> {
+        self.types.answers(alloc, ty, owner, method)
+    }
+
+    fn text(&self, alloc: Global, ty: &TypeExpr) -> Result<Text, NoMemory> {
+        self.types.text(alloc, ty)
+    }
+
+    fn kin(&self, alloc: Global, ty: &TypeExpr) -> Result<Option<CoreName>, NoMemory> {
+        self.types.kin(alloc, ty)
+    }
+
+    fn to_string(&self) -> u32 {
+        self.types.to_string()
+    }
+
+    fn equals(&self) -> u32 {
+        self.types.equals()
+    }
+}

@@ -1,0 +1,6 @@
+pub mod Files
+pub mod Input
+pub mod Turn
+pub mod Answer
+pub mod Reporting
+pub mod Complete

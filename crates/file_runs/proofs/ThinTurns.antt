@@ -1,0 +1,115 @@
+-- A run in turns: what was printed so far, and what is still to come.
+use Rattle.std.proofs.Common.{◌≡◌, ℕ, zero, suc, ◌+◌, ◌-◌, ◌<◌, ◌≤◌, List, [], ◌∷◌, ◌++◌, take, Option, Some, None, Ok, Err, refl, sym, ap, subst, ◌∙◌, arith, append_assoc}
+use Rattle.std.proofs.lemmas.List.{append-nil}
+use Rattle.std.specs.Io.KnownBytes.{Appends}
+use Rattle.il_outside.specs.Streams.{SinkState, AppendsPrefix}
+use Rattle.il_outside.specs.Faults.{Rose}
+use Rattle.thin_values.specs.declared.state.State.{State}
+use Rattle.thin_values.specs.declared.state.End.{End}
+use Rattle.thin_values.specs.Queries.{Queries}
+use Rattle.thin_values.specs.Words.{Next, went, over}
+use Rattle.thin_values.specs.Step.{step}
+use Rattle.thin_values.specs.Run.{Outcome, printed_before, after, run}
+use Rattle.thin_machine.specs.declared.step_out.StepOut.TheVariants as out
+use Rattle.file_runs.specs.declared.fault.RunFault.{RunFault}
+use Rattle.file_runs.specs.declared.fault.RunFault.TheVariants.{Write, NoMemory}
+use Rattle.file_runs.specs.Thin.{ThinRunsTo, TurnsTo}
+
+-- known bytes that grew twice
+grew_twice : (a b c : Option (List ℕ)) (x y : List ℕ) → Appends a b x → Appends b c y → Appends a c (x ++ y)
+grew_twice None b c x y p q = tt
+grew_twice (Some xs) None c x y p q = absurd p
+grew_twice (Some xs) (Some ys) None x y p q = absurd q
+grew_twice (Some xs) (Some ys) (Some zs) x y p q = q ∙ ap (λ (t : List ℕ). t ++ y) p ∙ append_assoc xs x y
+
+-- a prefix of a front is a prefix of the whole
+take_nothing : (k : ℕ) → take {A = ℕ} k [] ≡ []
+take_nothing zero = refl
+take_nothing (suc k) = refl
+
+front_of : (k : ℕ) (bytes rest : List ℕ) → (n : ℕ) × (take k bytes ≡ take n (bytes ++ rest))
+front_of k [] rest = (0, take_nothing k)
+front_of zero (b ∷ bytes) rest = (0, refl)
+front_of (suc k) (b ∷ bytes) rest = let later = front_of k bytes rest in (suc later.0, ap (λ (t : List ℕ). b ∷ t) later.1)
+
+behind : (done : List ℕ) (k : ℕ) (bytes rest : List ℕ) → (n : ℕ) × (done ++ take k bytes ≡ take n (done ++ (bytes ++ rest)))
+behind [] k bytes rest = front_of k bytes rest
+behind (d ∷ done) k bytes rest = let later = behind done k bytes rest in (suc later.0, ap (λ (t : List ℕ). d ∷ t) later.1)
+
+-- what was printed before the rest of a run
+pub record Left (total : Outcome) (old now : SinkState) (rest : Outcome) : Type 0 where
+  pub done : List ℕ
+  pub held : Appends old.held now.held done
+  pub faults : now.faults ≡ old.faults
+  pub same : printed_before done rest ≡ total
+
+pub nothing_yet : (total : Outcome) (s : SinkState) → Appends s.held s.held [] → Left total s s total
+nothing_yet total s h = record { done = []; held = h; faults = refl; same = refl }
+
+pub grew_by_nothing : (held : Option (List ℕ)) → Appends held held []
+grew_by_nothing None = tt
+grew_by_nothing (Some xs) = sym (append-nil xs)
+
+regroup : (done bytes : List ℕ) (o : Outcome) → printed_before (done ++ bytes) o ≡ printed_before done (printed_before bytes o)
+regroup done bytes o = ap (λ (t : List ℕ). record { output = t; end = o.end }) (append_assoc done bytes o.output)
+
+-- the rest of a run by its next step
+pub run_next : (q : Queries) (n i : ℕ) (s : State) → i < n → run q (n - i) s ≡ after (step q s) (run q (n - (i + 1)))
+unfolding run
+run_next q n i s lt = let k : n - i ≡ suc (n - (i + 1)) = omega arith in rw k refl
+
+pub run_none : (q : Queries) (n i : ℕ) (s : State) → n ≤ i → run q (n - i) s ≡ record { output = []; end = None }
+unfolding run
+run_none q n i s le = let k : n - i ≡ 0 = omega arith in rw k refl
+
+-- a turn that goes on
+went_on : (total : Outcome) (old now new : SinkState) (s t : State) (bytes : List ℕ) (f : State → Outcome) → Left total old now (printed_before bytes (f s))
+    → (t ≡ s) × Appends now.held new.held bytes × (new.faults ≡ now.faults) → Left total old new (f t)
+went_on total old now new s t bytes f left turn =
+    subst (λ (u : State). Left total old new (f u)) (sym turn.0)
+    (record { done = left.done ++ bytes; held = grew_twice old.held now.held new.held left.done bytes left.held turn.1; faults = turn.2 ∙ left.faults; same = regroup left.done bytes (f s) ∙ left.same })
+
+pub turn_goes_on : (total : Outcome) (old now new : SinkState) (next : Next) (t : State) (f : State → Outcome) → Left total old now (after next f) → TurnsTo next t now new (Ok out.Went) → Left total old new (f t)
+turn_goes_on total old now new (went s bytes) t f left turn = went_on total old now new s t bytes f left turn
+turn_goes_on total old now new (over e) t f left turn = absurd turn
+
+ended : (total : Outcome) (old now new : SinkState) (e d : End) → Left total old now (record { output = []; end = Some e }) → (d ≡ e) × Appends now.held new.held [] × (new.faults ≡ now.faults)
+    → ThinRunsTo total old new (Ok (Some d))
+ended total old now new e d left turn = (
+  ap (λ (x : End). Some x) turn.0 ∙ ap (λ (o : Outcome). o.end) left.same,
+  subst (λ (o : Outcome). Appends old.held new.held o.output) left.same (grew_twice old.held now.held new.held left.done [] left.held turn.1),
+  turn.2 ∙ left.faults,
+)
+
+pub turn_ends : (total : Outcome) (old now new : SinkState) (next : Next) (t : State) (d : End) (f : State → Outcome) → Left total old now (after next f) → TurnsTo next t now new (Ok (out.Over d)) → ThinRunsTo total old new (Ok (Some d))
+turn_ends total old now new (went s bytes) t d f left turn = absurd turn
+turn_ends total old now new (over e) t d f left turn = ended total old now new e d left turn
+
+-- a failing write leaves a prefix of what the run prints
+cut : (total : Outcome) (old now new : SinkState) (bytes : List ℕ) (o : Outcome) → Left total old now (printed_before bytes o) → AppendsPrefix now.held new.held bytes → AppendsPrefix old.held new.held total.output
+cut total old now new bytes o left part =
+    let whole = behind left.done part.0 bytes o.output in
+    let grown = grew_twice old.held now.held new.held left.done (take part.0 bytes) left.held part.1 in
+    subst (λ (p : Outcome). AppendsPrefix old.held new.held p.output) left.same (whole.0, subst (λ (t : List ℕ). Appends old.held new.held t) whole.1 grown)
+
+stands : (total : Outcome) (old now new : SinkState) (o : Outcome) → Left total old now o → Appends now.held new.held [] → AppendsPrefix old.held new.held total.output
+stands total old now new o left same =
+    cut total old now new [] o (record { done = left.done; held = left.held; faults = left.faults; same = left.same }) (0, same)
+
+rose_from : (a b c : ℕ) → b ≡ a → Rose b c → Rose a c
+rose_from a b c e r = subst (λ (x : ℕ). Rose x c) e r
+
+pub turn_fails : (total : Outcome) (old now new : SinkState) (next : Next) (t : State) (fault : RunFault) (f : State → Outcome) → Left total old now (after next f) → TurnsTo next t now new (Err fault) → ThinRunsTo total old new (Err fault)
+turn_fails total old now new (went s bytes) t Write f left turn = (cut total old now new bytes (f s) left turn.0, rose_from old.faults now.faults new.faults left.faults turn.1)
+turn_fails total old now new (went s bytes) t NoMemory f left turn = (cut total old now new bytes (f s) left turn.0, turn.1 ∙ left.faults)
+turn_fails total old now new (over e) t Write f left turn = absurd turn
+turn_fails total old now new (over e) t NoMemory f left turn = (stands total old now new (record { output = []; end = Some e }) left turn.0, turn.1 ∙ left.faults)
+
+-- all turns went on
+pub all_went : (total : Outcome) (old now : SinkState) (rest : Outcome) → rest ≡ record { output = []; end = None } → Left total old now rest → ThinRunsTo total old now (Ok None)
+all_went total old now rest none left =
+    let same = ap (λ (o : Outcome). printed_before left.done o) (sym none) ∙ left.same in (
+      ap (λ (o : Outcome). o.end) same,
+      subst (λ (o : Outcome). Appends old.held now.held o.output) same (subst (λ (t : List ℕ). Appends old.held now.held t) (sym (append-nil left.done)) left.held),
+      left.faults,
+    )

@@ -1,0 +1,4 @@
+pub mod SigCodes
+pub mod SameSig
+pub mod Distinct
+pub mod Keyed

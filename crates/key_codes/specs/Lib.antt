@@ -1,0 +1,4 @@
+pub mod Codes
+pub mod KeyCodes
+pub mod Keys
+pub mod Laws

@@ -1,0 +1,26 @@
+use Rattle.std.proofs.Common.{◌≡◌, ℕ, ◌+◌, ◌++◌, drop, List, Some, sym, subst, ap, ◌∙◌}
+use Rattle.std.specs.Prelude.{slice_get}
+use Rattle.world_model.specs.declared.record.AsmRec.{AsmRec}
+use Rattle.type_rules.specs.Rows.{each_from}
+use Rattle.mark_rules.specs.Facts.{Fact}
+use Rattle.mark_rules.specs.Calls.{declared_in}
+use Rattle.mark_tables.specs.Assemblies.{all_of}
+use Rattle.mark_calls.proofs.Finding.{each_next, each_end, here_at}
+use Rattle.mark_calls.proofs.declarations.add_declared.Goals as goal
+
+pub add_rows-requires-clause-here : goal.add_rows-requires-clause-here
+add_rows-requires-clause-here c =
+    ap (slice_get (all_of c.args.marker.now)) c.in_ok-asm.ensures
+    ∙ subst (λ (rs : List AsmRec). slice_get rs c.loop-a.a ≡ Some c.index-all-a.result) c.as_slice-all.ensures (here_at c.as_slice-all.result.now c.loop-a.a c.index-all-a.result c.loop-a-test.true c.index-all-a.is)
+
+pub loop-a-preserved : goal.loop-a-preserved
+loop-a-preserved c =
+    let f = declared_in (all_of c.args.marker.now) c.args.at in
+    ap (λ (fs : List Fact). fs ++ each_from f (c.loop-a.a + 1) (drop (c.loop-a.a + 1) c.as_slice-all.result.now))
+    (c.in_ok-add_rows.ensures ∙ ap (λ (n : ℕ). c.loop-a.facts ++ f n c.index-all-a.result) c.in_ok-asm.ensures)
+    ∙ each_next f c.as_slice-all.result.now c.loop-a.a c.index-all-a.result c.loop-a.facts c.loop-a-test.true c.index-all-a.is ∙ c.loop-a.invariant
+
+pub returns : goal.returns
+returns c =
+    let f = declared_in (all_of c.args.marker.now) c.args.at in
+    sym (each_end f c.as_slice-all.result.now c.loop-a.a c.loop-a.facts c.loop-a-test.false) ∙ c.loop-a.invariant ∙ ap (λ (rs : List AsmRec). c.args.facts.now ++ each_from f 0 rs) c.as_slice-all.ensures

@@ -1,0 +1,127 @@
+//! The declarations of MethodImpl rows whose body is a method (II.22.27).
+
+ghost use Rattle.std.specs.Prelude.{◌≡◌, ◌++◌, slice_get, Some, IfOk, OnOk};
+ghost use Rattle.std.specs.List.{flat_map};
+ghost use Rattle.link_rules.specs.Members.{generic_method};
+ghost use Rattle.link_rules.specs.Cycles.{listed};
+ghost use Rattle.type_rules.specs.Dispatch.{good_use};
+ghost use Rattle.mark_rules.specs.Naming.{of_method_use};
+ghost use Rattle.mark_rules.specs.Calls.{has_body, declared_by, declared_in};
+ghost use Rattle.mark_tables.specs.Assemblies.{all_of, IsMarker};
+ghost use Rattle.mark_calls.specs.Declared.{declared_facts, body_facts};
+
+use il_base::NoMemory;
+use link_rules::RowAt;
+use mark_facts::facts::Facts;
+use mark_facts::naming::mark_method_use;
+use mark_tables::marker::Marker;
+use member_search::counted::row_of;
+use type_tables::methods::{method_home, use_at};
+use virtual_calls::impls::same_row;
+use world_model::{AsmRec, MethodImplRow, MethodUse};
+
+/// Whether a method is the body that a row names.
+fn has_body(all: &[AsmRec], at: RowAt, used: &MethodUse) -> Result<bool, NoMemory>
+    ensures { IfOk result (λ is. is ≡ has_body all.now at used.now) }
+{
+    match method_home(all, used.method) {
+        Ok(Some(home)) => Ok(same_row(at, home)),
+        Ok(None) => Ok(false),
+        Err(error) => Err(error),
+    }
+}
+
+/// Marks the declaration of a row, with its owner and arguments.
+fn add_declaration(
+    marker: &Marker<'_>,
+    asm: u32,
+    rec: &AsmRec,
+    row: &MethodImplRow,
+    facts: &mut Facts,
+) -> Result<(), NoMemory>
+    requires marker { IsMarker marker.now }
+    requires here { slice_get (all_of marker.now) asm ≡ Some rec.now }
+    ensures { OnOk result (facts.new ≡ facts.old ++ flat_map of_method_use (listed (good_use (generic_method (all_of marker.now) asm rec.now row.now.declaration)))) }
+{
+    match use_at(&marker.tables, asm, row.declaration) {
+        Some(used) => mark_method_use(facts, used),
+        None => Ok(()),
+    }
+}
+
+/// Marks what a row whose body is the method names: body and declaration.
+#[tactic(auto, using(crate::proofs::Lists::two_put))]
+fn add_both(
+    marker: &Marker<'_>,
+    asm: u32,
+    rec: &AsmRec,
+    row: &MethodImplRow,
+    body: &MethodUse,
+    facts: &mut Facts,
+) -> Result<(), NoMemory>
+    requires marker { IsMarker marker.now }
+    requires here { slice_get (all_of marker.now) asm ≡ Some rec.now }
+    ensures { OnOk result (facts.new ≡ facts.old ++ body_facts (all_of marker.now) asm rec.now row.now body.now) }
+{
+    mark_method_use(facts, body)?;
+    add_declaration(marker, asm, rec, row, facts)
+}
+
+/// Marks what a row names, where its body is the method.
+#[tactic(auto, using(crate::proofs::Lists::none_more))]
+fn add_row(
+    marker: &Marker<'_>,
+    at: RowAt,
+    asm: u32,
+    rec: &AsmRec,
+    row: &MethodImplRow,
+    facts: &mut Facts,
+) -> Result<(), NoMemory>
+    requires marker { IsMarker marker.now }
+    requires here { slice_get (all_of marker.now) asm ≡ Some rec.now }
+    ensures { OnOk result (facts.new ≡ facts.old ++ declared_by (all_of marker.now) at asm rec.now row.now) }
+{
+    let Some(body) = use_at(&marker.tables, asm, row.body) else {
+        return Ok(());
+    };
+    let is = has_body(marker.tables.world.recs.as_slice(), at, body)?;
+    if is {
+        return add_both(marker, asm, rec, row, body, facts);
+    }
+    Ok(())
+}
+
+/// Marks what the rows of an assembly name whose body is the method.
+fn add_rows(
+    marker: &Marker<'_>,
+    at: RowAt,
+    asm: u32,
+    rec: &AsmRec,
+    facts: &mut Facts,
+) -> Result<(), NoMemory>
+    requires marker { IsMarker marker.now }
+    requires here { slice_get (all_of marker.now) asm ≡ Some rec.now }
+    ensures { OnOk result (facts.new ≡ facts.old ++ declared_in (all_of marker.now) at asm rec.now) }
+{
+    for row in rec.method_impl.as_slice() {
+        add_row(marker, at, asm, rec, row, facts)?;
+    }
+    Ok(())
+}
+
+/// Puts what the rows of all assemblies name whose body is a method at the end.
+pub(crate) fn add_declared(
+    marker: &Marker<'_>,
+    at: RowAt,
+    facts: &mut Facts,
+) -> Result<(), NoMemory>
+    requires { IsMarker marker.now }
+    ensures { OnOk result (facts.new ≡ facts.old ++ declared_facts (all_of marker.now) at) }
+{
+    let all = marker.tables.world.recs.as_slice();
+    for (a, rec) in all.iter().enumerate() {
+        let asm = row_of(a)?;
+        add_rows(marker, at, asm, rec, facts)?;
+    }
+    Ok(())
+}

@@ -1,0 +1,3 @@
+pub mod Lists
+pub mod Seeking
+pub mod Setting

@@ -1,0 +1,85 @@
+//! The primary assembly, its `<Module>` and the entry method.
+
+ghost use Rattle.std.specs.Prelude.{◌≡◌, ◌++◌, OnOk};
+ghost use Rattle.mark_rules.specs.Roots.{module_facts, entry_facts};
+ghost use Rattle.mark_tables.specs.Assemblies.{all_of, IsMarker};
+ghost use Rattle.mark_starts.specs.First.{first_facts, method_facts, module_at};
+
+use il_base::{AsmId, Item, NoMemory};
+use link_rules::RowAt;
+use mark_facts::facts::Facts;
+use mark_facts::kinds::Kind;
+use mark_tables::marker::Marker;
+use mark_whole::assemblies::is_module_type;
+use type_tables::methods::type_of_method;
+use world_model::{AsmRec, TypeDefRow};
+
+/// Marks the first type of the primary assembly, if it is `<Module>`.
+#[tactic(auto, using(crate::proofs::Lists::none_more))]
+fn add_module_row(all: &[AsmRec], t: &TypeDefRow, facts: &mut Facts) -> Result<(), NoMemory>
+    ensures { OnOk result (facts.new ≡ facts.old ++ module_at all.now t.now) }
+{
+    let is_module = is_module_type(0, t);
+    if is_module {
+        return facts.mark_row(all, Kind::Type, RowAt { asm: 0, row: 0 });
+    }
+    Ok(())
+}
+
+/// Marks `<Module>` of the primary assembly, where it is the first type (II.22.37).
+#[tactic(auto, using(crate::proofs::Lists::none_more))]
+pub fn add_module(all: &[AsmRec], facts: &mut Facts) -> Result<(), NoMemory>
+    ensures { OnOk result (facts.new ≡ facts.old ++ module_facts all.now) }
+{
+    let Some(rec) = all.get(0) else {
+        return Ok(());
+    };
+    let Some(t) = rec.type_def.get(0) else {
+        return Ok(());
+    };
+    add_module_row(all, t, facts)
+}
+
+/// Marks a method that a type's run has.
+#[tactic(auto, using(crate::proofs::Lists::none_more))]
+fn add_method(marker: &Marker<'_>, at: RowAt, facts: &mut Facts) -> Result<(), NoMemory>
+    requires { IsMarker marker.now }
+    ensures { OnOk result (facts.new ≡ facts.old ++ method_facts (all_of marker.now) at) }
+{
+    match type_of_method(&marker.tables, at) {
+        Ok(Some(_owner)) => facts.mark_row(marker.tables.world.recs.as_slice(), Kind::Method, at),
+        Ok(None) => Ok(()),
+        Err(error) => Err(error),
+    }
+}
+
+/// Marks the entry method, where a type's run has it.
+#[tactic(auto, using(crate::proofs::Lists::none_more))]
+pub fn add_entry(
+    marker: &Marker<'_>,
+    entry: Option<RowAt>,
+    facts: &mut Facts,
+) -> Result<(), NoMemory>
+    requires { IsMarker marker.now }
+    ensures { OnOk result (facts.new ≡ facts.old ++ entry_facts (all_of marker.now) entry) }
+{
+    match entry {
+        Some(at) => add_method(marker, at, facts),
+        None => Ok(()),
+    }
+}
+
+/// Puts the primary assembly, its `<Module>` and the entry method at the end.
+#[tactic(auto, using(crate::proofs::Lists::first_then, crate::proofs::Lists::two_put))]
+pub fn add_first(
+    marker: &Marker<'_>,
+    entry: Option<RowAt>,
+    facts: &mut Facts,
+) -> Result<(), NoMemory>
+    requires { IsMarker marker.now }
+    ensures { OnOk result (facts.new ≡ facts.old ++ first_facts (all_of marker.now) entry) }
+{
+    facts.mark(Item::Asm(AsmId(0)))?;
+    add_module(marker.tables.world.recs.as_slice(), facts)?;
+    add_entry(marker, entry, facts)
+}

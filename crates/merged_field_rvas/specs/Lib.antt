@@ -1,0 +1,2 @@
+pub mod FieldRvas
+pub mod Laws

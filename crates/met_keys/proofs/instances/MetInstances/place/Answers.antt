@@ -1,0 +1,14 @@
+use Rattle.std.proofs.Common.{map, ap, ◌∙◌}
+use Rattle.std.specs.List.{position}
+use Rattle.merge_rules.specs.Keys.{same_instance}
+use Rattle.key_codes.specs.KeyCodes.{instance_key_code}
+use Rattle.key_codes.specs.Keys.{instance_key}
+use Rattle.key_codes.proofs.Keyed.{all_tell}
+use Rattle.met_keys.proofs.Coded.{place_is}
+use Rattle.met_keys.proofs.instances.MetInstances.place.Goals as goal
+
+pub returns : goal.returns
+returns c =
+    c.place-place.ensures
+    ∙ place_is same_instance instance_key_code all_tell.instances (map instance_key c.self.inside.firsts.items) (instance_key c.args.one.now) c.as_slice.result.now c.self.inside.codes (c.as_slice.ensures.value ∙ c.in_ok-code.ensures) c.self.invariant
+    ∙ ap (λ xs. position (same_instance (instance_key c.args.one.now)) (map instance_key xs)) c.self.view_is

@@ -1,0 +1,2 @@
+pub mod CanWrite
+pub mod Written

@@ -1,0 +1,12 @@
+//! Records written as files: a record goes in, and the bytes of the file that it is laid out in come out, after what is in a
+//! vector. Which bytes these are is defined by `record_layout`'s `specs/Laid`.
+#![tactic(auto)]
+
+mod bodies;
+mod error;
+mod field_data;
+mod rows;
+mod writing;
+
+pub use error::WriteError;
+pub use writing::write;

@@ -1,0 +1,85 @@
+-- What a run of files comes to: what it prints within n steps, and how it stands then.
+use Rattle.std.specs.Prelude.{ℕ, suc, ◌+◌, ◌%◌, List, [], ◌∷◌, Option, Some, None, unwrap_or, if◌then◌else◌}
+use Rattle.il_base.specs.declared.ids.Place.{Place}
+use Rattle.il_base.specs.declared.table.TheConstants.{METHOD_DEF}
+use Rattle.world_model.specs.declared.record.AsmRec.{AsmRec}
+use Rattle.world_model.specs.declared.world.World.{World}
+use Rattle.world_model.specs.Tokens.{token_of, index_in}
+use Rattle.world_model.specs.Thin.{is_thin}
+use Rattle.link_rules.specs.declared.row_at.RowAt.{RowAt}
+use Rattle.link_rules.specs.Members.{home_from, methods_in}
+use Rattle.link_rules.specs.Linked.{world_of}
+use Rattle.inputs.specs.Files.{records}
+use Rattle.cil_values.specs.declared.end.End.{End}
+use Rattle.cil_values.specs.declared.end.End.TheVariants as run_end
+use Rattle.step_rules.specs.Run as whole
+use Rattle.view_rules.specs.Answers.{queries_of}
+use Rattle.thin_values.specs.declared.state.End as thin_end
+use Rattle.thin_values.specs.declared.state.End.TheVariants as thin_ends
+use Rattle.thin_values.specs.Run as thin
+use Rattle.thin_values.specs.Program.{run_of}
+use Rattle.run_rules.specs.declared.answers.EndKind.{EndKind}
+use Rattle.run_rules.specs.declared.answers.EndKind.TheVariants.{Ended, Threw, Spent, Stopped, Stuck}
+
+-- the bytes printed, and how the run stands
+pub record FileRun : Type 0 where
+  pub output : List ℕ
+  pub end : EndKind
+
+-- ---- any files
+
+-- a place in a method of the world, by its assembly and its MethodDef token
+abbrev pub place_by : ℕ → Option RowAt → Place
+place_by at None = record { asm = 0; token = 0; offset = at }
+place_by at (Some home) = record { asm = home.asm; token = token_of METHOD_DEF (suc home.row); offset = at }
+
+abbrev pub place_at : List AsmRec → ℕ → ℕ → Place
+place_at recs m at = place_by at (home_from methods_in 0 recs m)
+
+abbrev pub end_of : List AsmRec → Option End → EndKind
+end_of recs None = Spent
+end_of recs (Some (run_end.Ended code)) = Ended code
+end_of recs (Some (run_end.Threw kind message)) = Threw kind message
+end_of recs (Some (run_end.Stopped m at)) = Stopped (place_at recs m.0 at)
+end_of recs (Some (run_end.Stuck m at)) = Stuck (place_at recs m.0 at)
+
+abbrev pub file_run : List AsmRec → whole.Outcome → FileRun
+file_run recs o = record { output = o.output; end = end_of recs o.end }
+
+-- the entry method of the first assembly, whose methods come first in the world (II.25.3.3.2)
+abbrev pub entry_of : List AsmRec → ℕ
+entry_of [] = 0
+entry_of (rec ∷ recs) = unwrap_or (index_in METHOD_DEF rec.entry) 0
+
+-- of a world's assemblies, with the bytes of the input
+abbrev pub world_run : List AsmRec → List ℕ → ℕ → FileRun
+world_run recs input n = file_run recs (whole.run_from (queries_of recs) (entry_of recs) input n)
+
+-- ---- a thin file, which reads no input
+
+-- tokens have 32 bits
+abbrev pub thin_place : ℕ → ℕ → Place
+thin_place m at = record { asm = 0; token = (0x06000001 + m) % 4294967296; offset = at }
+
+abbrev pub thin_end_of : Option thin_end.End → EndKind
+thin_end_of None = Spent
+thin_end_of (Some (thin_ends.Ended code)) = Ended code
+thin_end_of (Some (thin_ends.Stopped m at)) = Stopped (thin_place m.0 at)
+thin_end_of (Some (thin_ends.Stuck m at)) = Stuck (thin_place m.0 at)
+
+abbrev pub thin_file_run : thin.Outcome → FileRun
+thin_file_run o = record { output = o.output; end = thin_end_of o.end }
+
+abbrev pub thin_run : AsmRec → ℕ → FileRun
+thin_run rec n = thin_file_run (run_of rec n)
+
+-- ---- both
+
+-- A thin file runs by the definitions of thin records, any other files by those of all records.
+abbrev pub run_by : List AsmRec → World → List ℕ → ℕ → FileRun
+run_by (rec ∷ []) w input n = if is_thin rec then thin_run rec n else world_run w.recs input n
+run_by recs w input n = world_run w.recs input n
+
+-- n steps of the program of files, of which the first has the entry point, with the bytes of the input
+unfoldable pub run_of_files : List (List ℕ) → List ℕ → ℕ → FileRun
+run_of_files files input n = run_by (records files) (world_of (records files)) input n

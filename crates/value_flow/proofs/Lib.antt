@@ -1,0 +1,6 @@
+pub mod Related
+pub mod Listing
+pub mod Numbering
+pub mod Flowing
+pub mod Ending
+pub mod Looping

@@ -1,0 +1,8 @@
+use Rattle.std.proofs.Common.{◌≡◌, ◌-◌}
+use Rattle.link_rules.specs.Cycles.{add_all}
+use Rattle.flow_rules.specs.Sources.{same_source}
+use Rattle.flow_rules.specs.Moves.{parameters_from, parameters}
+use Rattle.value_flow.proofs.sources.add_params.Given as goal
+
+abbrev pub invariant-loop-k : goal.invariant-loop-k
+invariant-loop-k l = add_all same_source l.sources (parameters_from l.k (l.params - l.k)) ≡ add_all same_source l.initial.sources (parameters l.params)

@@ -1,0 +1,118 @@
+-- The flow of values in a method's body.
+use Rattle.std.specs.Prelude.{◌≡◌, ℕ, ◌+◌, ◌*◌, ◌<◌, ◌≤◌, ◌↔◌, Bool, true, List, [], ◌∷◌, length, map, min, max, slice_get, Option, Some, None, Result, MatchResult}
+use Rattle.std.specs.Option.{option_and_then, option_map}
+use Rattle.il_base.specs.declared.ids.MethodId.{MethodId}
+use Rattle.il_base.specs.declared.ids.TypeId.{TypeId}
+use Rattle.world_model.specs.declared.record.AsmRec.{AsmRec}
+use Rattle.world_model.specs.Worlds.{type_id}
+use Rattle.link_rules.specs.declared.row_at.RowAt.{RowAt}
+use Rattle.type_rules.specs.Slots.{method_home, type_of_method}
+use Rattle.slot_flow.specs.declared.moves.Flowing.{Flowing}
+use Rattle.slot_flow.specs.declared.moves.Turning.TheVariants as turning
+use Rattle.slot_flow.specs.declared.walks.Reached.{Reached}
+use Rattle.slot_flow.specs.Carrying.{Carried}
+use Rattle.slot_flow.specs.Found.{is_found}
+use Rattle.flow_rules.specs.declared.source.Source.{Source}
+use Rattle.flow_rules.specs.declared.source.Source.TheVariants as source
+use Rattle.flow_rules.specs.Methods.{Setting, setting_of}
+use Rattle.flow_rules.specs.Steps.{offsets, place_in}
+use Rattle.flow_rules.specs.Exits.{exits_of}
+use Rattle.flow_rules.specs.Sources.{turn}
+use Rattle.flow_rules.specs.Moves.{fixed_in, moves_of, taken_of, begins_of, sources_of, flow_of}
+use Rattle.body_graph.specs.declared.graph.Graph.{Graph}
+use Rattle.body_graph.specs.Places.{place_at}
+use Rattle.body_graph.specs.Graphs.{IsGraph}
+use Rattle.value_flow.specs.declared.flow.Flow.{Flow}
+use Rattle.value_flow.specs.declared.parts.Parts.{Parts}
+use Rattle.value_flow.specs.declared.flow.FlowError.{FlowError}
+use Rattle.value_flow.specs.declared.flow.FlowError.TheVariants as fault
+use Rattle.value_flow.specs.Numbers.{number_in, numbered_move}
+
+-- ---- the limit
+
+abbrev pub deepest_from : ℕ → List (Option ℕ) → ℕ
+deepest_from d [] = d
+deepest_from d (None ∷ depths) = deepest_from d depths
+deepest_from d (Some e ∷ depths) = deepest_from (max d e) depths
+
+-- the deepest stack of the graph
+abbrev pub deepest : List (Option ℕ) → ℕ
+deepest depths = deepest_from 0 depths
+
+-- arguments, locals and the deepest stack
+abbrev pub slots_of : Setting → List (Option ℕ) → ℕ
+slots_of s depths = fixed_in s + deepest depths
+
+abbrev pub most_work : ℕ
+most_work = 2147483648
+
+-- the greatest number of 64 bits stands for each that is greater
+abbrev pub capped : ℕ → ℕ
+capped n = min n 18446744073709551615
+
+-- slots times instructions times sources
+unfoldable pub work_of : List AsmRec → Setting → Option TypeId → List (Option ℕ) → ℕ
+work_of recs s owner depths = capped (capped (slots_of s depths * length s.body.code) * length (sources_of recs s owner))
+
+-- ---- the flow
+
+abbrev pub owner_of : List AsmRec → MethodId → Option TypeId
+owner_of recs m = option_map (λ (at : RowAt). type_id recs at.asm at.row) (option_and_then (type_of_method recs) (method_home recs m))
+
+-- a source of the list is carried to a slot at an instruction
+pub record CarriesAt (recs : List AsmRec) (s : Setting) (owner : Option TypeId) (depths : List (Option ℕ)) (i slot k : ℕ) : Type 0 where
+  pub item : Source
+  pub listed : slice_get (sources_of recs s owner) k ≡ Some item
+  pub carried : Carried Source (flow_of recs s owner depths) i slot item
+
+-- the same for the instruction at an offset
+abbrev pub Carries : List AsmRec → Setting → Option TypeId → List (Option ℕ) → ℕ → ℕ → ℕ → Type 0
+Carries recs s owner depths at slot k = CarriesAt recs s owner depths (place_in (offsets s.body.code) at) slot k
+
+abbrev pub is_carried : Flow → ℕ → ℕ → ℕ → Bool
+is_carried f at slot k = is_found f.reached (place_at f.graph.now.places at) slot k
+
+pub record IsFlow (recs : List AsmRec) (s : Setting) (owner : Option TypeId) (g : Graph) (f : Flow) : Type 0 where
+  pub graph : f.graph.now ≡ g
+  pub sources : f.sources ≡ sources_of recs s owner
+  pub within : work_of recs s owner g.depths ≤ most_work
+  pub exact : (at slot k : ℕ) → is_carried f at slot k ≡ true ↔ Carries recs s owner g.depths at slot k
+
+abbrev pub IsFault : List AsmRec → Setting → Option TypeId → Graph → FlowError → Type 0
+IsFault recs s owner g (fault.Limit found) = (most_work < found) × (found ≡ work_of recs s owner g.depths)
+IsFault recs s owner g fault.NoMemory = Unit {0}
+
+abbrev pub IsFlowOf : List AsmRec → MethodId → Graph → Result Flow FlowError → Type 0
+IsFlowOf recs m g result =
+    (s : Setting) → setting_of recs m ≡ Some s → MatchResult result (IsFlow recs s (owner_of recs m) g) (IsFault recs s (owner_of recs m) g)
+
+-- the graph of a method
+abbrev pub IsItsGraph : List AsmRec → MethodId → Graph → Type 0
+IsItsGraph recs m g = (s : Setting) → setting_of recs m ≡ Some s → IsGraph recs s g
+
+-- what is reached is what is carried
+abbrev pub IsReachedOf : List AsmRec → Setting → Option TypeId → List (Option ℕ) → Reached → Type 0
+IsReachedOf recs s owner depths r = (i slot k : ℕ) → is_found r i slot k ≡ true ↔ CarriesAt recs s owner depths i slot k
+
+-- ---- as the code has it
+
+-- the flow of a method with its sources as numbers
+pub record IsNumbered (recs : List AsmRec) (s : Setting) (owner : Option TypeId) (ds : List (Option ℕ)) (f : Flowing) : Type 0 where
+  pub begins : f.begins.now ≡ map (number_in (sources_of recs s owner)) (begins_of s)
+  pub depths : f.depths.now ≡ ds
+  pub exits : f.exits.now ≡ exits_of recs s
+  pub moves : f.moves.now ≡ map (numbered_move (sources_of recs s owner)) (moves_of recs s owner)
+  pub taken : f.taken.now ≡ taken_of s
+  pub from_handle : f.from_handle.now ≡ map (λ x. number_in (sources_of recs s owner) (turn recs s.asm turning.FromHandle x)) (sources_of recs s owner)
+  pub from_text : f.from_text.now ≡ map (λ x. number_in (sources_of recs s owner) (turn recs s.asm turning.FromText x)) (sources_of recs s owner)
+  pub unknown : f.unknown ≡ number_in (sources_of recs s owner) source.Opaque
+  pub count : f.count ≡ length (sources_of recs s owner)
+  pub slots : f.slots ≡ slots_of s ds
+
+-- the lists of numbers that it is made of
+pub record AreParts (recs : List AsmRec) (s : Setting) (owner : Option TypeId) (p : Parts) : Type 0 where
+  pub begins : p.begins.items ≡ map (number_in (sources_of recs s owner)) (begins_of s)
+  pub moves : p.moves.items ≡ map (numbered_move (sources_of recs s owner)) (moves_of recs s owner)
+  pub taken : p.taken.items ≡ taken_of s
+  pub from_handle : p.from_handle.items ≡ map (λ x. number_in (sources_of recs s owner) (turn recs s.asm turning.FromHandle x)) (sources_of recs s owner)
+  pub from_text : p.from_text.items ≡ map (λ x. number_in (sources_of recs s owner) (turn recs s.asm turning.FromText x)) (sources_of recs s owner)

@@ -1,0 +1,5 @@
+pub mod Cells
+pub mod Fields
+pub mod Handles
+pub mod Kinds
+pub mod Settled

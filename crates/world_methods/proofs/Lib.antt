@@ -1,0 +1,4 @@
+pub mod Placed
+pub mod Filling
+pub mod Beginning
+pub mod Asking

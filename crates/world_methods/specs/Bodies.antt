@@ -1,0 +1,37 @@
+-- Methods whose type is known.
+use Rattle.std.specs.Prelude.{List, codes, Option, Some, None, if◌then◌else◌}
+use Rattle.std.specs.Option.{option_map}
+use Rattle.il_base.specs.declared.outside.TheConstants.{PLATFORM, INTERFACE_BODY, GLOBAL_MEMBER}
+use Rattle.world_model.specs.declared.known.Known.{Known}
+use Rattle.world_model.specs.declared.known.Known.TheVariants.{Bad}
+use Rattle.world_model.specs.declared.known.BadKind.TheVariants.{Outside}
+use Rattle.world_model.specs.declared.members.MethodDefRow.{MethodDefRow}
+use Rattle.world_model.specs.declared.record.AsmRec.{AsmRec}
+use Rattle.world_model.specs.Core.{same_name}
+use Rattle.world_model.specs.Worlds.{known_map, known_then, type_id}
+use Rattle.link_rules.specs.declared.row_at.RowAt.{RowAt}
+use Rattle.link_rules.specs.Signatures.{names_at, method_type}
+use Rattle.mark_rules.specs.BadItems.{is_global, is_platform}
+use Rattle.cil_values.specs.declared.definition.Method.{Method}
+use Rattle.cil_values.specs.declared.resolved.Code.{Code}
+use Rattle.view_rules.specs.Methods.{signature_by, body_by, is_core_row}
+use Rattle.world_methods.specs.Outside.{is_bad_there}
+
+-- `body_of` of a method in a type
+abbrev pub body_in : List AsmRec → RowAt → AsmRec → Option RowAt → MethodDefRow → Option (Known Code)
+body_in recs at rec owner m =
+    if is_core_row recs at then None
+    else if is_platform m then Some (Bad (Outside PLATFORM))
+    else if is_bad_there recs owner m then Some (Bad (Outside INTERFACE_BODY))
+    else if is_global recs owner then Some (Bad (Outside GLOBAL_MEMBER))
+    else option_map (body_by recs at.asm rec) m.body
+
+-- `method_by` of a method in a type
+abbrev pub method_in : List AsmRec → RowAt → AsmRec → MethodDefRow → RowAt → Option RowAt → Method
+method_in recs at rec m owner among = record {
+  flags = m.flags;
+  owner = (type_id recs owner.asm owner.row).0;
+  constructor = same_name m.name (codes ".ctor");
+  signature = known_map signature_by (known_then (method_type (names_at recs at.asm rec)) m.signature);
+  body = body_in recs at rec among m;
+}

@@ -1,0 +1,4 @@
+pub mod Rows
+pub mod Outside
+pub mod Bodies
+pub mod Places
