@@ -91,12 +91,11 @@ pub fn constructors_by(
     Ok(found)
 }
 
-/// Whether a method is named `.ctor` or `.cctor`.
+/// Whether a method is a constructor or named `.cctor`. A static method named `.ctor` is a method as any other.
 fn is_any_constructor(m: &MethodDefRow) -> bool
     ensures { result ≡ is_any_constructor m.now }
 {
-    let name = m.name.as_slice();
-    name == b".ctor".as_slice() || name == b".cctor".as_slice()
+    is_constructor(m) || m.name.as_slice() == b".cctor".as_slice()
 }
 
 /// Whether a method is there, no constructor, and counts.

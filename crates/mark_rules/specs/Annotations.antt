@@ -39,7 +39,7 @@ use Rattle.type_rules.specs.Rows.{each_row, rec_at, run_places}
 use Rattle.mark_rules.specs.declared.member_kinds.TheConstants as kind
 use Rattle.mark_rules.specs.Places.{row_of}
 use Rattle.mark_rules.specs.Members.{has_method_row}
-use Rattle.mark_rules.specs.Attributes.{head_of, value_of, attributes_of, is_system_type_row}
+use Rattle.mark_rules.specs.Attributes.{head_of, value_of, is_system_type_row}
 
 -- ---- attributes by name
 
@@ -228,19 +228,25 @@ dependency_by (Arg-F.Number n ∷ Arg-F.Typ t ∷ []) = of_kinds (by_type t) n �
 dependency_by (Arg-F.Number n ∷ Arg-F.Text t ∷ Arg-F.Text a ∷ []) = of_kinds (type_text t a) n ∷ []
 dependency_by _ = []
 
-abbrev pub dependencies_in : List AsmRec → Item → ℕ → AsmRec → List Dependency
-dependencies_in recs i a rec =
-    flat_map (λ (row : CustomAttributeRow). flat_map (λ (v : AttrValue). dependency_by (map out-Arg v.fixed)) (listed (value_of recs a rec row)))
-    (filter (is_called rec dynamic_dependency) (attributes_of recs i))
+abbrev pub dependencies_of_row : List AsmRec → ℕ → AsmRec → CustomAttributeRow → List Dependency
+dependencies_of_row recs a rec row = flat_map (λ (v : AttrValue). dependency_by (map out-Arg v.fixed)) (listed (value_of recs a rec row))
 
-abbrev pub may_depend : Item → Bool
-may_depend (item.Method m) = true
-may_depend (item.Field f) = true
-may_depend _ = false
+abbrev pub is_dependency : AsmRec → ℕ → CustomAttributeRow → Bool
+is_dependency rec token row = row.parent == token && is_called rec dynamic_dependency row
 
--- the dependencies of a method or a field
+abbrev pub dependencies_in : List AsmRec → ℕ → AsmRec → ℕ → List Dependency
+dependencies_in recs a rec token = flat_map (dependencies_of_row recs a rec) (filter (is_dependency rec token) rec.custom_attribute)
+
+-- a method or a field may have dependencies, by its own row
+abbrev pub dependent_token : Item → ℕ → List ℕ
+dependent_token (item.Method m) k = token_of METHOD_DEF (suc k) ∷ []
+dependent_token (item.Field f) k = token_of FIELD (suc k) ∷ []
+dependent_token _ k = []
+
+abbrev pub dependencies_at : List AsmRec → Item → RowAt → List Dependency
+dependencies_at recs i at =
+    flat_map (λ (rec : AsmRec). flat_map (dependencies_in recs at.asm rec) (dependent_token i at.row)) (listed (rec_at recs at))
+
+-- the dependencies of a method or a field, in the order of their rows
 unfoldable pub dependencies : List AsmRec → Item → List Dependency
-dependencies recs i =
-    if may_depend i
-    then flat_map (λ (at : RowAt). flat_map (dependencies_in recs i at.asm) (listed (rec_at recs at))) (listed (row_of recs i))
-    else []
+dependencies recs i = flat_map (dependencies_at recs i) (listed (row_of recs i))

@@ -4,7 +4,7 @@ use Rattle.std.specs.Prelude.{ℕ, suc, List, [], ◌∷◌, ◌++◌, map, code
 use Rattle.std.specs.List.{Contains, list_any, flat_map}
 use Rattle.il_base.specs.declared.ids.Item.{Item}
 use Rattle.il_base.specs.declared.ids.Item.TheVariants as item
-use Rattle.il_base.specs.declared.table.TheConstants.{TYPE_DEF, FIELD, METHOD_DEF, CUSTOM_ATTRIBUTE, METHOD_IMPL, FIELD_RVA, GENERIC_PARAM}
+use Rattle.il_base.specs.declared.table.TheConstants.{TYPE_DEF, FIELD, METHOD_DEF, EVENT, PROPERTY, CUSTOM_ATTRIBUTE, METHOD_IMPL, FIELD_RVA, GENERIC_PARAM}
 use Rattle.il_base.specs.declared.outside.TheConstants as outside
 use Rattle.il_base.specs.declared.type_flags.TheConstants.{EXPLICIT_LAYOUT}
 use Rattle.il_base.specs.declared.method_flags.TheConstants as flag
@@ -38,6 +38,7 @@ use Rattle.mark_rules.specs.Places.{row_of, is_core, type_item}
 use Rattle.mark_rules.specs.Naming.{Named, Part, method_named}
 use Rattle.mark_rules.specs.Calls.{is_abstract_method}
 use Rattle.mark_rules.specs.Members.{has_method_row}
+use Rattle.mark_rules.specs.Properties.{property_owner, event_owner}
 use Rattle.mark_rules.specs.Attributes.{has_parent, tokens_in, value_of, is_input_method}
 use Rattle.mark_rules.specs.Annotations.{is_called, dynamically_accessed, requires_unreferenced, dynamic_dependency, first_number}
 use Rattle.mark_rules.specs.Shown.{parts_of_item}
@@ -99,6 +100,9 @@ type_flaws recs at rec t =
 abbrev pub is_global : List AsmRec → Option RowAt → Bool
 is_global recs owner = list_any (λ (t : RowAt). list_any (is_module_type t.row) (listed (type_row_at recs t))) (listed owner)
 
+abbrev pub is_module_of : List AsmRec → ℕ → Option ℕ → Bool
+is_module_of recs a owner = list_any (λ t. is_global recs (Some (at_row a t))) (listed owner)
+
 abbrev pub no_body : MethodDefRow → Bool
 no_body m = elim m.body [ Some b ↦ false | None ↦ true ]
 
@@ -139,8 +143,16 @@ data_flaw at k row = if row.field == token_of FIELD (suc at.row) then bytes_flaw
 
 abbrev pub field_flaws : List AsmRec → RowAt → AsmRec → List Flaw
 field_flaws recs at rec =
-    flaw_if (list_any (λ t. is_global recs (Some (at_row at.asm t))) (listed (owner_of_field rec at.row))) at (token_of FIELD (suc at.row)) outside.GLOBAL_MEMBER
+    flaw_if (is_module_of recs at.asm (owner_of_field rec at.row)) at (token_of FIELD (suc at.row)) outside.GLOBAL_MEMBER
     ++ each_row (data_flaw at) rec.field_rva
+
+-- ---- properties and events of `<Module>`
+
+abbrev pub property_flaws : List AsmRec → RowAt → AsmRec → List Flaw
+property_flaws recs at rec = flaw_if (is_module_of recs at.asm (property_owner rec at.row)) at (token_of PROPERTY (suc at.row)) outside.GLOBAL_MEMBER
+
+abbrev pub event_flaws : List AsmRec → RowAt → AsmRec → List Flaw
+event_flaws recs at rec = flaw_if (is_module_of recs at.asm (event_owner rec at.row)) at (token_of EVENT (suc at.row)) outside.GLOBAL_MEMBER
 
 -- ---- attributes that have to be readable: those whose constructor is in an input, and those of trimming
 
@@ -175,6 +187,8 @@ abbrev pub own_flaws : List AsmRec → Item → RowAt → AsmRec → List Flaw
 own_flaws recs (item.Typ t) at rec = flat_map (type_flaws recs at rec) (listed (slice_get rec.type_def at.row))
 own_flaws recs (item.Method m) at rec = flat_map (method_flaws recs at rec) (listed (slice_get rec.method_def at.row))
 own_flaws recs (item.Field f) at rec = field_flaws recs at rec
+own_flaws recs (item.Prop p) at rec = property_flaws recs at rec
+own_flaws recs (item.Event e) at rec = event_flaws recs at rec
 own_flaws recs _ at rec = []
 
 unfoldable pub flaws_of : List AsmRec → Item → List Flaw

@@ -106,9 +106,13 @@ abbrev pub plain : List ℕ → List ℕ
 plain [] = []
 plain (c ∷ cs) = if same_name (c ∷ cs) (codes "#ctor") || same_name (take 6 (c ∷ cs)) (codes "#ctor(") then 0x2e ∷ cs else c ∷ cs
 
+-- a name with parameters is that of methods alone
+abbrev pub has_parameters : List ℕ → Bool
+has_parameters name = list_any (λ c. c == 0x28) name
+
 abbrev pub is_method_called : List AsmRec → List ℕ → RowAt → Bool
 is_method_called recs name at =
-    list_any (λ (m : MethodDefRow). same_name m.name name || has_doc_name recs name at m.name) (listed (method_row_at recs at))
+    list_any (λ (m : MethodDefRow). if has_parameters name then has_doc_name recs name at m.name else same_name m.name name) (listed (method_row_at recs at))
 
 abbrev pub is_event_called : List AsmRec → List ℕ → RowAt → Bool
 is_event_called recs name at =
@@ -118,13 +122,19 @@ is_event_called recs name at =
 abbrev pub with_made : List AsmRec → RowAt → RowAt → List Fact
 with_made recs t m = if has_method_row recs is_constructor m then instantiated (type_id recs t.asm t.row) ∷ marks_method recs m ∷ [] else marks_method recs m ∷ []
 
--- the members of a type itself with a name, of all kinds; a property or event without its accessors
-unfoldable pub members_called : List AsmRec → List ℕ → RowAt → List Fact
-members_called recs name t =
-    flat_map (with_made recs t) (filter (is_method_called recs (plain name)) (methods_of_type recs t))
-    ++ map (marks_field recs) (filter (is_field_named recs name) (fields_of_type recs t))
+abbrev pub methods_called : List AsmRec → List ℕ → RowAt → List Fact
+methods_called recs name t = flat_map (with_made recs t) (filter (is_method_called recs (plain name)) (methods_of_type recs t))
+
+-- fields, properties and events; a property or event without its accessors
+abbrev pub others_called : List AsmRec → List ℕ → RowAt → List Fact
+others_called recs name t =
+    map (marks_field recs) (filter (is_field_named recs name) (fields_of_type recs t))
     ++ map (λ p. marked (prop_item recs p)) (filter (is_property_called recs name) (properties_of_type recs t))
     ++ map (λ e. marked (event_item recs e)) (filter (is_event_called recs name) (events_of_type recs t))
+
+-- the members of a type itself with a name, of all kinds
+unfoldable pub members_called : List AsmRec → List ℕ → RowAt → List Fact
+members_called recs name t = methods_called recs name t ++ (if has_parameters name then [] else others_called recs name t)
 
 abbrev pub members_of_kinds : List AsmRec → ℕ → RowAt → List Fact
 members_of_kinds recs kinds t =

@@ -65,8 +65,9 @@ is_own t c = same_row t c
 abbrev pub is_constructor : MethodDefRow → Bool
 is_constructor m = same_name m.name (codes ".ctor") && not (is_static m)
 
+-- a constructor or a type initializer (II.10.5.3); a static method named `.ctor` is a method as any other
 abbrev pub is_any_constructor : MethodDefRow → Bool
-is_any_constructor m = same_name m.name (codes ".ctor") || same_name m.name (codes ".cctor")
+is_any_constructor m = is_constructor m || same_name m.name (codes ".cctor")
 
 abbrev pub is_parameterless_sig : Known MethodSig → Bool
 is_parameterless_sig (Good s) = are_none s.params && s.generic == 0
