@@ -1,0 +1,6 @@
+pub mod Ids
+pub mod Homes
+pub mod Bases
+pub mod Lookups
+pub mod Wholes
+pub mod Texts

@@ -1,0 +1,45 @@
+-- What two worlds answer of a kept type, where the one has the kept rows of the other.
+use Rattle.std.specs.Prelude.{◌≡◌, ℕ, List, map, Bool, IsTrue}
+use Rattle.std.specs.Option.{option_map}
+use Rattle.world_model.specs.declared.expr.TypeExpr.{TypeExpr}
+use Rattle.world_model.specs.declared.record.AsmRec.{AsmRec}
+use Rattle.link_rules.specs.declared.row_at.RowAt.{RowAt}
+use Rattle.link_rules.specs.Members.{bases_from, with_bases}
+use Rattle.link_rules.specs.Cycles.{home_of, is_value_type}
+use Rattle.type_rules.specs.Texts.{text}
+use Rattle.walk_laws.specs.Walks.{BasesWhole}
+use Rattle.view_rules.specs.Methods.{head_query, method_query, field_query}
+use Rattle.view_rules.specs.Answers.{nearest_core}
+use Rattle.change_rules.specs.Answers.{move_method, move_field}
+use Rattle.change_rules.specs.Change.{Change}
+use Rattle.change_rules.specs.Moves.{move_expr}
+use Rattle.change_rules.specs.Keeps.{keeps_expr, shows_expr}
+use Rattle.world_change_rules.specs.Places.{Places}
+use Rattle.world_change_rules.specs.Rows.{RowsMove}
+use Rattle.world_change_rules.specs.Kept.{KeepsRows}
+
+abbrev pub ForKept : ((k : Change) (p : Places) (after before : List AsmRec) → Type 0) → Type 0
+ForKept P = (k : Change) (kept : RowAt → Bool) (p : Places) (after before : List AsmRec) → RowsMove k kept p after before → KeepsRows k.keep kept before → P k p after before
+
+abbrev pub HomesMove : Type 0
+HomesMove = ForKept (λ k p after before. (e : TypeExpr) → IsTrue (keeps_expr k.keep e) → home_of after (move_expr k.rho e) ≡ option_map p.typ (home_of before e))
+
+abbrev pub BasesMove : Type 0
+BasesMove = ForKept (λ k p after before. (n : ℕ) (e : TypeExpr) → IsTrue (keeps_expr k.keep e) → bases_from after n (move_expr k.rho e) ≡ map (move_expr k.rho) (bases_from before n e))
+
+-- where the bases of both worlds are whole within as many steps as there are types, as in every linked world
+abbrev pub KinsMove : Type 0
+KinsMove = ForKept (λ k p after before. BasesWhole after → BasesWhole before → (e : TypeExpr) → IsTrue (keeps_expr k.keep e)
+    → nearest_core after (with_bases after (move_expr k.rho e)) ≡ nearest_core before (with_bases before e))
+
+abbrev pub HeadsMove : Type 0
+HeadsMove = ForKept (λ k p after before. (t : ℕ) → IsTrue (k.keep.typ t) → head_query after (k.rho.typ t) ≡ head_query before t)
+
+abbrev pub MethodsMove : Type 0
+MethodsMove = ForKept (λ k p after before. (m : ℕ) → IsTrue (k.keep.method m) → method_query after (k.rho.method m) ≡ option_map (move_method k.rho) (method_query before m))
+
+abbrev pub FieldsMove : Type 0
+FieldsMove = ForKept (λ k p after before. (f : ℕ) → IsTrue (k.keep.field f) → field_query after (k.rho.field f) ≡ option_map (move_field k.rho) (field_query before f))
+
+abbrev pub TextsMove : Type 0
+TextsMove = ForKept (λ k p after before. (e : TypeExpr) → IsTrue (shows_expr k.keep e) → text after (move_expr k.rho e) ≡ text before e)

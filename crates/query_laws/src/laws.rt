@@ -1,0 +1,24 @@
+ghost use Rattle.query_laws.specs.Laws.{HomesMove, BasesMove, KinsMove, HeadsMove, MethodsMove, FieldsMove, TextsMove};
+
+/// A law: the definition of a kept type, and its base with arguments put in, move with it. It does nothing.
+pub fn bases_move()
+    ensures homes { HomesMove }
+    ensures bases { BasesMove }
+{}
+
+/// A law: the nearest type of the core library among the bases of a kept type stays. It does nothing.
+pub fn kins_move()
+    ensures { KinsMove }
+{}
+
+/// A law: what is answered of a kept type definition, method and field moves with it. It does nothing.
+pub fn definitions_move()
+    ensures heads { HeadsMove }
+    ensures methods { MethodsMove }
+    ensures fields { FieldsMove }
+{}
+
+/// A law: the text of a shown type stays. It does nothing.
+pub fn texts_move()
+    ensures { TextsMove }
+{}

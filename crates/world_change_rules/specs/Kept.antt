@@ -1,0 +1,27 @@
+-- Which rows go with kept ones, as the rules of marking give it: what kept rows name is kept. A type that is shown is kept.
+use Rattle.std.specs.Prelude.{◌≡◌, ℕ, List, Option, Some, Bool, IsTrue}
+use Rattle.std.specs.List.{Contains, list_all}
+use Rattle.il_base.specs.declared.ids.TypeId.{TypeId}
+use Rattle.world_model.specs.declared.expr.TypeExpr.{TypeExpr}
+use Rattle.world_model.specs.declared.record.AsmRec.{AsmRec}
+use Rattle.world_model.specs.Worlds.{prim_type}
+use Rattle.link_rules.specs.declared.row_at.RowAt.{RowAt}
+use Rattle.link_rules.specs.Members.{array_type, base_at}
+use Rattle.type_rules.specs.Slots.{type_of_method}
+use Rattle.change_rules.specs.Change.{Keep}
+use Rattle.change_rules.specs.Keeps.{keeps_expr}
+use Rattle.world_change_rules.specs.Places.{keeps_type_row, keeps_method_row}
+use Rattle.world_change_rules.specs.Rows.{kept_interfaces_at}
+
+pub record KeepsRows (k : Keep) (kept : RowAt → Bool) (recs : List AsmRec) : Type 0 where
+  -- the core library
+  pub prims : (n : ℕ) (t : TypeId) → prim_type recs n ≡ Some t → IsTrue (k.typ t.0)
+  pub shown_prims : (n : ℕ) (t : TypeId) → prim_type recs n ≡ Some t → IsTrue (k.shown t.0)
+  pub array : (t : TypeId) → array_type recs ≡ Some t → IsTrue (k.typ t.0)
+  -- a kept type's base, and the interfaces of its kept rows
+  pub bases : (at : RowAt) (e : TypeExpr) → IsTrue (keeps_type_row k recs at) → base_at recs at ≡ Some e → IsTrue (keeps_expr k e)
+  pub interfaces : (at : RowAt) (e : TypeExpr) → IsTrue (keeps_type_row k recs at) → Contains (kept_interfaces_at recs kept at) e → IsTrue (keeps_expr k e)
+  -- a shown type is kept
+  pub shown : (t : ℕ) → IsTrue (k.shown t) → IsTrue (k.typ t)
+  -- a kept method's type
+  pub owners : (at owner : RowAt) → IsTrue (keeps_method_row k recs at) → type_of_method recs at ≡ Some owner → IsTrue (keeps_type_row k recs owner)
