@@ -2,7 +2,6 @@
 use Rattle.std.proofs.Common.{◌≡◌, ℕ, zero, suc, Bool, List, [], ◌∷◌, map, Option, Some, None, refl, sym, ap, subst, ◌∙◌}
 use Rattle.std.proofs.Common as common
 use Rattle.std.specs.Prelude.{IsTrue}
-use Rattle.std.specs.List.{list_all}
 use Rattle.std.specs.Option.{option_map, option_and_then}
 use Rattle.world_model.specs.declared.expr.TypeExpr.{TypeExpr}
 use Rattle.world_model.specs.declared.record.AsmRec.{AsmRec}
@@ -10,9 +9,9 @@ use Rattle.world_model.specs.Exprs.{subst as put_in}
 use Rattle.link_rules.specs.declared.row_at.RowAt.{RowAt}
 use Rattle.link_rules.specs.Members.{args_of, base_at, base_of, bases_from}
 use Rattle.link_rules.specs.Cycles.{home_of}
-use Rattle.change_rules.specs.Change.{Keep, Change}
+use Rattle.change_rules.specs.Change.{Change}
 use Rattle.change_rules.specs.Moves.{move_expr, move_exprs}
-use Rattle.change_rules.specs.Keeps.{keeps_expr, shows_expr}
+use Rattle.change_rules.specs.Keeps.{keeps_expr}
 use Rattle.change_laws.proofs.Subst.{subst_moves, subst_stays}
 use Rattle.world_change_rules.specs.Places.{Places, keeps_type_row}
 use Rattle.world_change_rules.specs.Rows.{RowsMove}

@@ -5,7 +5,7 @@ use Rattle.std.specs.List.{list_all}
 use Rattle.std.specs.Option.{option_map, option_and_then}
 use Rattle.std.specs.Cmp.{first_so, second_so}
 use Rattle.il_base.specs.declared.ids.TypeId.{TypeId}
-use Rattle.world_model.specs.declared.expr.TypeExpr.{TypeExpr, out-TypeExpr, roll-TypeExpr, roll-out-TypeExpr}
+use Rattle.world_model.specs.declared.expr.TypeExpr.{TypeExpr, out-TypeExpr, roll-out-TypeExpr}
 use Rattle.world_model.specs.declared.expr.TypeExpr.TheFolds.{map-TypeExpr}
 use Rattle.world_model.specs.declared.expr.TypeExpr.TheOpen.{TypeExpr-F}
 use Rattle.world_model.specs.declared.record.AsmRec.{AsmRec}
@@ -18,7 +18,7 @@ use Rattle.change_rules.specs.Moves.{move_type, move_expr, move_exprs}
 use Rattle.change_rules.specs.Keeps.{Names, both, names_layer, names_of, keeps_expr, shows_expr}
 use Rattle.change_laws.proofs.Exprs.{moved_in, out_moved}
 use Rattle.change_laws.proofs.Subst.{names_rolled}
-use Rattle.world_change_rules.specs.Places.{Places, type_number, keeps_type_row}
+use Rattle.world_change_rules.specs.Places.{Places, keeps_type_row}
 use Rattle.world_change_rules.specs.Rows.{RowsMove}
 use Rattle.world_change_rules.specs.Kept.{KeepsRows}
 use Rattle.query_laws.proofs.Ids.{has_number}
@@ -39,7 +39,7 @@ all_shown k (e ∷ es) h =
     both_true true b h g = g
     both_true false b h g = absurd (cc)
 
-args_in_shown : (k : Keep) (x : TypeExpr-F TypeExpr) → IsTrue (names_layer k (map-TypeExpr TypeExpr Names (names_of k) x)).kept → IsTrue (list_all (shows_expr k) (args_in x))
+pub args_in_shown : (k : Keep) (x : TypeExpr-F TypeExpr) → IsTrue (names_layer k (map-TypeExpr TypeExpr Names (names_of k) x)).kept → IsTrue (list_all (shows_expr k) (args_in x))
 args_in_shown k (TypeExpr-F.Prim n) h = refl
 args_in_shown k (TypeExpr-F.Def t) h = refl
 args_in_shown k (TypeExpr-F.Inst t args) h = all_shown k args (second_so (k.typ t.0) (list_all both (map (names_of k) args)) h)

@@ -1,7 +1,7 @@
 -- Numbers and rows: the row that has a number has it.
-use Rattle.std.proofs.Common.{◌≡◌, ◌≤◌, ◌<◌, ℕ, suc, ◌+◌, ◌-◌, Bool, true, false, List, [], ◌∷◌, Option, Some, None, refl, sym, ap, subst, ◌∙◌, arith}
+use Rattle.std.proofs.Common.{◌≡◌, ◌≤◌, ℕ, suc, ◌+◌, ◌-◌, Bool, true, false, List, [], ◌∷◌, Some, refl, ap, subst, arith}
 use Rattle.std.specs.Prelude.{nat_lt, if◌then◌else◌}
-use Rattle.std.proofs.lemmas.Bool.{ltb-true, ltb-false}
+use Rattle.std.proofs.lemmas.Bool.{ltb-false}
 use Rattle.world_model.specs.declared.record.AsmRec.{AsmRec}
 use Rattle.world_model.specs.Worlds.{rows_before}
 use Rattle.link_rules.specs.declared.row_at.RowAt.{RowAt}

@@ -4,3 +4,5 @@ pub mod Bases
 pub mod Lookups
 pub mod Wholes
 pub mod Texts
+pub mod Standings
+pub mod Shapes

@@ -2,10 +2,10 @@
 use Rattle.std.proofs.Common.{◌≡◌, ℕ, Bool, true, false, List, [], ◌∷◌, ◌++◌, map, Option, Some, None, refl, sym, ap, subst, ◌∙◌}
 use Rattle.std.specs.Prelude.{IsTrue, ◌&&◌, codes}
 use Rattle.std.specs.List.{list_all}
-use Rattle.std.specs.Option.{option_map, option_and_then}
+use Rattle.std.specs.Option.{option_map}
 use Rattle.std.specs.Cmp.{first_so, second_so}
 use Rattle.il_base.specs.declared.ids.TypeId.{TypeId}
-use Rattle.world_model.specs.declared.expr.TypeExpr.{TypeExpr, ind-TypeExpr, out-TypeExpr, roll-TypeExpr, fold-roll-TypeExpr}
+use Rattle.world_model.specs.declared.expr.TypeExpr.{TypeExpr, ind-TypeExpr, roll-TypeExpr, fold-roll-TypeExpr}
 use Rattle.world_model.specs.declared.expr.TypeExpr.TheFolds.{map-TypeExpr}
 use Rattle.world_model.specs.declared.expr.TypeExpr.TheOpen.{TypeExpr-F}
 use Rattle.world_model.specs.declared.record.AsmRec.{AsmRec}
@@ -13,12 +13,12 @@ use Rattle.world_model.specs.Worlds.{prim_type}
 use Rattle.link_rules.specs.declared.row_at.RowAt.{RowAt}
 use Rattle.link_rules.specs.Members.{type_home}
 use Rattle.type_rules.specs.Texts.{name_at, definition_text, joined, modifier_text, text_layer, text}
-use Rattle.change_rules.specs.Change.{Keep, Change}
+use Rattle.change_rules.specs.Change.{Change}
 use Rattle.change_rules.specs.Moves.{move_type, move_expr, move_exprs}
 use Rattle.change_rules.specs.Keeps.{Names, both, names_layer, names_of, shows_expr}
 use Rattle.change_laws.proofs.Exprs.{With, plain_parts, moved_in, move_rolled}
 use Rattle.change_laws.proofs.Subst.{names_rolled}
-use Rattle.world_change_rules.specs.Places.{Places, type_numbered, type_number, keeps_type_row}
+use Rattle.world_change_rules.specs.Places.{Places, type_numbered, type_number}
 use Rattle.world_change_rules.specs.Rows.{RowsMove}
 use Rattle.world_change_rules.specs.Kept.{KeepsRows}
 use Rattle.world_model.specs.Worlds.{types_in}

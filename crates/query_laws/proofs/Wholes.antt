@@ -1,10 +1,9 @@
 -- A kept type with its bases moves as a whole; the nearest type of the core library stays; value types stay value types.
-use Rattle.std.proofs.Common.{◌≡◌, ◌≤◌, ℕ, zero, suc, ◌+◌, Bool, true, false, List, [], ◌∷◌, map, Option, Some, None, refl, sym, ap, subst, ◌∙◌, arith}
+use Rattle.std.proofs.Common.{◌≡◌, ℕ, zero, suc, ◌+◌, Bool, true, false, List, [], ◌∷◌, Option, Some, None, refl, sym, ap, ◌∙◌, arith}
 use Rattle.std.specs.Prelude.{IsTrue, ◌&&◌, ◌||◌, not}
 use Rattle.std.specs.List.{list_all, list_any}
 use Rattle.std.specs.Option.{option_map, option_and_then}
 use Rattle.std.specs.Cmp.{first_so, second_so}
-use Rattle.core_table.specs.declared.names.CoreName.{CoreName}
 use Rattle.core_table.specs.declared.tokens.TheConstants.{VALUE_TYPE, ENUM}
 use Rattle.world_model.specs.declared.expr.TypeExpr.{TypeExpr}
 use Rattle.world_model.specs.declared.record.AsmRec.{AsmRec}
@@ -20,7 +19,7 @@ use Rattle.world_change_rules.specs.Places.{Places, keeps_type_row}
 use Rattle.world_change_rules.specs.Rows.{RowsMove}
 use Rattle.world_change_rules.specs.Kept.{KeepsRows}
 use Rattle.query_laws.proofs.Homes.{home_moved, home_kept}
-use Rattle.query_laws.proofs.Bases.{base_moved, base_kept, bases_moved}
+use Rattle.query_laws.proofs.Bases.{base_kept, bases_moved}
 
 and_so : (a b : Bool) → IsTrue a → IsTrue b → IsTrue (a && b)
 and_so true b h g = g

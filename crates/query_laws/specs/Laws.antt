@@ -5,12 +5,13 @@ use Rattle.world_model.specs.declared.expr.TypeExpr.{TypeExpr}
 use Rattle.world_model.specs.declared.record.AsmRec.{AsmRec}
 use Rattle.link_rules.specs.declared.row_at.RowAt.{RowAt}
 use Rattle.link_rules.specs.Members.{bases_from, with_bases}
-use Rattle.link_rules.specs.Cycles.{home_of, is_value_type}
+use Rattle.link_rules.specs.Cycles.{home_of}
 use Rattle.type_rules.specs.Texts.{text}
 use Rattle.walk_laws.specs.Walks.{BasesWhole}
 use Rattle.view_rules.specs.Methods.{head_query, method_query, field_query}
 use Rattle.view_rules.specs.Answers.{nearest_core}
-use Rattle.change_rules.specs.Answers.{move_method, move_field}
+use Rattle.view_rules.specs.Layouts.{shape_query}
+use Rattle.change_rules.specs.Answers.{move_method, move_field, move_shape}
 use Rattle.change_rules.specs.Change.{Change}
 use Rattle.change_rules.specs.Moves.{move_expr}
 use Rattle.change_rules.specs.Keeps.{keeps_expr, shows_expr}
@@ -43,3 +44,6 @@ FieldsMove = ForKept (λ k p after before. (f : ℕ) → IsTrue (k.keep.field f)
 
 abbrev pub TextsMove : Type 0
 TextsMove = ForKept (λ k p after before. (e : TypeExpr) → IsTrue (shows_expr k.keep e) → text after (move_expr k.rho e) ≡ text before e)
+
+abbrev pub ShapesMove : Type 0
+ShapesMove = ForKept (λ k p after before. (e : TypeExpr) → IsTrue (keeps_expr k.keep e) → shape_query after (move_expr k.rho e) ≡ move_shape k.rho (shape_query before e))

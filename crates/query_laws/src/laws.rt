@@ -1,4 +1,4 @@
-ghost use Rattle.query_laws.specs.Laws.{HomesMove, BasesMove, KinsMove, HeadsMove, MethodsMove, FieldsMove, TextsMove};
+ghost use Rattle.query_laws.specs.Laws.{HomesMove, BasesMove, KinsMove, HeadsMove, MethodsMove, FieldsMove, TextsMove, ShapesMove};
 
 /// A law: the definition of a kept type, and its base with arguments put in, move with it. It does nothing.
 pub fn bases_move()
@@ -21,4 +21,9 @@ pub fn definitions_move()
 /// A law: the text of a shown type stays. It does nothing.
 pub fn texts_move()
     ensures { TextsMove }
+{}
+
+/// A law: the shape of a kept type, with the cells of a struct, moves with it. It does nothing.
+pub fn shapes_move()
+    ensures { ShapesMove }
 {}

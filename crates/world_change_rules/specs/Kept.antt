@@ -1,5 +1,5 @@
 -- Which rows go with kept ones, as the rules of marking give it: what kept rows name is kept. A type that is shown is kept.
-use Rattle.std.specs.Prelude.{◌≡◌, ℕ, List, Option, Some, Bool, IsTrue}
+use Rattle.std.specs.Prelude.{◌≡◌, ℕ, List, Option, Some, Bool, true, not, ◌||◌, IsTrue}
 use Rattle.std.specs.List.{Contains, list_all}
 use Rattle.il_base.specs.declared.ids.TypeId.{TypeId}
 use Rattle.world_model.specs.declared.expr.TypeExpr.{TypeExpr}
@@ -7,10 +7,14 @@ use Rattle.world_model.specs.declared.record.AsmRec.{AsmRec}
 use Rattle.world_model.specs.Worlds.{prim_type}
 use Rattle.link_rules.specs.declared.row_at.RowAt.{RowAt}
 use Rattle.link_rules.specs.Members.{array_type, base_at}
+use Rattle.link_rules.specs.Cycles.{is_value_type}
+use Rattle.type_rules.specs.Rows.{fields_of_type, is_instance_field}
 use Rattle.type_rules.specs.Slots.{type_of_method}
+use Rattle.cil_values.specs.declared.definition.FieldDef.{FieldDef}
+use Rattle.view_rules.specs.Methods.{field_at}
 use Rattle.change_rules.specs.Change.{Keep}
-use Rattle.change_rules.specs.Keeps.{keeps_expr}
-use Rattle.world_change_rules.specs.Places.{keeps_type_row, keeps_method_row}
+use Rattle.change_rules.specs.Keeps.{keeps_expr, keeps_field}
+use Rattle.world_change_rules.specs.Places.{keeps_type_row, keeps_method_row, keeps_field_row}
 use Rattle.world_change_rules.specs.Rows.{kept_interfaces_at}
 
 pub record KeepsRows (k : Keep) (kept : RowAt → Bool) (recs : List AsmRec) : Type 0 where
@@ -21,6 +25,10 @@ pub record KeepsRows (k : Keep) (kept : RowAt → Bool) (recs : List AsmRec) : T
   -- a kept type's base, and the interfaces of its kept rows
   pub bases : (at : RowAt) (e : TypeExpr) → IsTrue (keeps_type_row k recs at) → base_at recs at ≡ Some e → IsTrue (keeps_expr k e)
   pub interfaces : (at : RowAt) (e : TypeExpr) → IsTrue (keeps_type_row k recs at) → Contains (kept_interfaces_at recs kept at) e → IsTrue (keeps_expr k e)
+  -- each instance field of a kept value type, and the type of a kept field
+  pub laid : (at : RowAt) → IsTrue (keeps_type_row k recs at) → is_value_type recs at ≡ true
+      → IsTrue (list_all (λ f. not (is_instance_field recs f) || keeps_field_row k recs f) (fields_of_type recs at))
+  pub field_types : (at : RowAt) (d : FieldDef) → IsTrue (keeps_field_row k recs at) → field_at recs at ≡ Some d → IsTrue (keeps_field k d)
   -- a shown type is kept
   pub shown : (t : ℕ) → IsTrue (k.shown t) → IsTrue (k.typ t)
   -- a kept method's type
