@@ -6,3 +6,4 @@ pub mod Wholes
 pub mod Texts
 pub mod Standings
 pub mod Shapes
+pub mod Cells

@@ -49,7 +49,7 @@ use Rattle.query_laws.proofs.Standings.{closed_cell_moved, closed_cell_kept}
 
 -- ---- lists of rows
 
-filter_step : {A : Type 0} (p : A → Bool) (x : A) (xs : List A) (b : Bool) → p x ≡ b → filter p (x ∷ xs) ≡ (if b then x ∷ filter p xs else filter p xs)
+pub filter_step : {A : Type 0} (p : A → Bool) (x : A) (xs : List A) (b : Bool) → p x ≡ b → filter p (x ∷ xs) ≡ (if b then x ∷ filter p xs else filter p xs)
 filter_step p x xs true e = rw e refl
 filter_step p x xs false e = rw e refl
 

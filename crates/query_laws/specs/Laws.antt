@@ -10,8 +10,10 @@ use Rattle.type_rules.specs.Texts.{text}
 use Rattle.walk_laws.specs.Walks.{BasesWhole}
 use Rattle.view_rules.specs.Methods.{head_query, method_query, field_query}
 use Rattle.view_rules.specs.Answers.{nearest_core}
-use Rattle.view_rules.specs.Layouts.{shape_query}
-use Rattle.change_rules.specs.Answers.{move_method, move_field, move_shape}
+use Rattle.view_rules.specs.Layouts.{shape_query, cells_query}
+use Rattle.change_rules.specs.Answers.{move_method, move_field, move_layout, move_shape}
+use Rattle.change_rules.specs.States.{mask}
+use Rattle.change_rules.specs.Keeping.{keep}
 use Rattle.change_rules.specs.Change.{Change}
 use Rattle.change_rules.specs.Moves.{move_expr}
 use Rattle.change_rules.specs.Keeps.{keeps_expr, shows_expr}
@@ -47,3 +49,7 @@ TextsMove = ForKept (λ k p after before. (e : TypeExpr) → IsTrue (shows_expr 
 
 abbrev pub ShapesMove : Type 0
 ShapesMove = ForKept (λ k p after before. (e : TypeExpr) → IsTrue (keeps_expr k.keep e) → shape_query after (move_expr k.rho e) ≡ move_shape k.rho (shape_query before e))
+
+abbrev pub CellsMove : Type 0
+CellsMove = ForKept (λ k p after before. BasesWhole after → BasesWhole before → (e : TypeExpr) → IsTrue (keeps_expr k.keep e)
+    → cells_query after (move_expr k.rho e) ≡ map (move_layout k.rho) (keep (mask k.keep (cells_query before e)) (cells_query before e)))
