@@ -7,3 +7,4 @@ pub mod Texts
 pub mod Standings
 pub mod Shapes
 pub mod Cells
+pub mod Covered

@@ -170,7 +170,7 @@ module _ (k : Change) (kept : RowAt → Bool) (p : Places) (after before : List 
         ∙ closed_by (option_and_then (λ (d : FieldDef). view.good_type d.typ) (field_at before f)) (λ e is. good_kept (field_at before f) e (λ d it. keeps.field_types f d h it) is)
         ∙ ap (option_map (move_expr k.rho)) (sym (cell_by_row before args f))
 
-    cell_kept : (f : RowAt) (e : TypeExpr) → IsTrue (keeps_field_row k.keep before f) → view.cell_type before args f ≡ Some e → IsTrue (keeps_expr k.keep e)
+    pub cell_kept : (f : RowAt) (e : TypeExpr) → IsTrue (keeps_field_row k.keep before f) → view.cell_type before args f ≡ Some e → IsTrue (keeps_expr k.keep e)
     cell_kept f e h is = by_good (option_and_then (λ (d : FieldDef). view.good_type d.typ) (field_at before f)) refl (sym (cell_by_row before args f) ∙ is)
       where
         by_good : (o : Option TypeExpr) → option_and_then (λ (d : FieldDef). view.good_type d.typ) (field_at before f) ≡ o → option_and_then (closed_cell_by (head_query before) args []) o ≡ Some e → IsTrue (keeps_expr k.keep e)
@@ -199,7 +199,7 @@ module _ (k : Change) (kept : RowAt → Bool) (p : Places) (after before : List 
           subst (λ (xs : List RowAt). IsTrue (list_all (keeps_field_row k.keep before) xs)) (sym (filter_step (is_instance_field before) f fs true t)) (rw here again)
       by_test again false t = subst (λ (xs : List RowAt). IsTrue (list_all (keeps_field_row k.keep before) xs)) (sym (filter_step (is_instance_field before) f fs false t)) again
 
-  fields_kept : (at : RowAt) → IsTrue (keeps_type_row k.keep before at) → is_value_type before at ≡ true → IsTrue (list_all (keeps_field_row k.keep before) (view.instance_fields before at))
+  pub fields_kept : (at : RowAt) → IsTrue (keeps_type_row k.keep before at) → is_value_type before at ≡ true → IsTrue (list_all (keeps_field_row k.keep before) (view.instance_fields before at))
   fields_kept at h is = passes (fields_of_type before at) (keeps.laid at h is)
 
   -- ---- cells, where the shapes of their types move

@@ -16,7 +16,7 @@ use Rattle.change_rules.specs.States.{mask}
 use Rattle.change_rules.specs.Keeping.{keep}
 use Rattle.change_rules.specs.Change.{Change}
 use Rattle.change_rules.specs.Moves.{move_expr}
-use Rattle.change_rules.specs.Keeps.{keeps_expr, shows_expr}
+use Rattle.change_rules.specs.Keeps.{keeps_expr, shows_expr, keeps_shape}
 use Rattle.world_change_rules.specs.Places.{Places}
 use Rattle.world_change_rules.specs.Rows.{RowsMove}
 use Rattle.world_change_rules.specs.Kept.{KeepsRows}
@@ -53,3 +53,6 @@ ShapesMove = ForKept (λ k p after before. (e : TypeExpr) → IsTrue (keeps_expr
 abbrev pub CellsMove : Type 0
 CellsMove = ForKept (λ k p after before. BasesWhole after → BasesWhole before → (e : TypeExpr) → IsTrue (keeps_expr k.keep e)
     → cells_query after (move_expr k.rho e) ≡ map (move_layout k.rho) (keep (mask k.keep (cells_query before e)) (cells_query before e)))
+
+abbrev pub ShapesKept : Type 0
+ShapesKept = ForKept (λ k p after before. (e : TypeExpr) → IsTrue (keeps_expr k.keep e) → IsTrue (keeps_shape k.keep (shape_query before e)))

@@ -1,4 +1,4 @@
-ghost use Rattle.query_laws.specs.Laws.{HomesMove, BasesMove, KinsMove, HeadsMove, MethodsMove, FieldsMove, TextsMove, ShapesMove, CellsMove};
+ghost use Rattle.query_laws.specs.Laws.{HomesMove, BasesMove, KinsMove, HeadsMove, MethodsMove, FieldsMove, TextsMove, ShapesMove, CellsMove, ShapesKept};
 
 /// A law: the definition of a kept type, and its base with arguments put in, move with it. It does nothing.
 pub fn bases_move()
@@ -23,9 +23,10 @@ pub fn texts_move()
     ensures { TextsMove }
 {}
 
-/// A law: the shape of a kept type, with the cells of a struct, moves with it. It does nothing.
+/// A law: the shape of a kept type, with the cells of a struct, moves with it, and what it names is kept. It does nothing.
 pub fn shapes_move()
-    ensures { ShapesMove }
+    ensures moves { ShapesMove }
+    ensures keeps { ShapesKept }
 {}
 
 /// A law: the cells of an instance of a kept class move with it, without those of fields that aren't kept. It does nothing.
