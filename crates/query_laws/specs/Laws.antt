@@ -1,5 +1,6 @@
 -- What two worlds answer of a kept type, where the one has the kept rows of the other.
-use Rattle.std.specs.Prelude.{◌≡◌, ℕ, List, map, Bool, IsTrue}
+use Rattle.std.specs.Prelude.{◌≡◌, ℕ, List, [], ◌∷◌, map, Bool, Option, Some, None, IsTrue, if◌then◌else◌}
+use Rattle.std.specs.List.{filter}
 use Rattle.std.specs.Option.{option_map}
 use Rattle.world_model.specs.declared.expr.TypeExpr.{TypeExpr}
 use Rattle.world_model.specs.declared.record.AsmRec.{AsmRec}
@@ -9,7 +10,7 @@ use Rattle.link_rules.specs.Cycles.{home_of}
 use Rattle.type_rules.specs.Texts.{text}
 use Rattle.walk_laws.specs.Walks.{BasesWhole}
 use Rattle.view_rules.specs.Methods.{head_query, method_query, field_query}
-use Rattle.view_rules.specs.Answers.{nearest_core}
+use Rattle.view_rules.specs.Answers.{nearest_core, starts_query}
 use Rattle.view_rules.specs.Layouts.{shape_query, cells_query}
 use Rattle.change_rules.specs.Answers.{move_method, move_field, move_layout, move_shape}
 use Rattle.change_rules.specs.States.{mask}
@@ -56,3 +57,18 @@ CellsMove = ForKept (λ k p after before. BasesWhole after → BasesWhole before
 
 abbrev pub ShapesKept : Type 0
 ShapesKept = ForKept (λ k p after before. (e : TypeExpr) → IsTrue (keeps_expr k.keep e) → IsTrue (keeps_shape k.keep (shape_query before e)))
+
+-- the first row that passes a test
+abbrev pub first_at : (RowAt → Bool) → List RowAt → Option RowAt
+first_at T [] = None
+first_at T (x ∷ xs) = if T x then Some x else first_at T xs
+
+abbrev pub FirstsMove : Type 0
+FirstsMove = (f : RowAt → RowAt) (kept before after : RowAt → Bool) → ((x : RowAt) → IsTrue (kept x) → after (f x) ≡ before x)
+    → (xs : List RowAt) → ((x : RowAt) → first_at before xs ≡ Some x → IsTrue (kept x)) → first_at after (map f (filter kept xs)) ≡ option_map f (first_at before xs)
+
+abbrev pub StartsMove : Type 0
+StartsMove = ForKept (λ k p after before. (t : ℕ) → IsTrue (k.keep.begun t) → starts_query after (k.rho.typ t) ≡ option_map k.rho.method (starts_query before t))
+
+abbrev pub StartsKept : Type 0
+StartsKept = ForKept (λ k p after before. (t m : ℕ) → IsTrue (k.keep.begun t) → starts_query before t ≡ Some m → IsTrue (k.keep.method m))
