@@ -10,3 +10,4 @@ pub mod Cells
 pub mod Covered
 pub mod Runs
 pub mod Starts
+pub mod Slots

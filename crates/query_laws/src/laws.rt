@@ -1,4 +1,4 @@
-ghost use Rattle.query_laws.specs.Laws.{HomesMove, BasesMove, KinsMove, HeadsMove, MethodsMove, FieldsMove, TextsMove, ShapesMove, CellsMove, ShapesKept, FirstsMove, StartsMove, StartsKept};
+ghost use Rattle.query_laws.specs.Laws.{HomesMove, BasesMove, KinsMove, HeadsMove, MethodsMove, FieldsMove, TextsMove, ShapesMove, CellsMove, ShapesKept, FirstsMove, StartsMove, StartsKept, MatchesMove, SlotsMove};
 
 /// A law: the definition of a kept type, and its base with arguments put in, move with it. It does nothing.
 pub fn bases_move()
@@ -43,4 +43,14 @@ pub fn firsts_move()
 pub fn starts_move()
     ensures moves { StartsMove }
     ensures keeps { StartsKept }
+{}
+
+/// A law: the nearest virtual method of a name and a signature moves, where it is kept. It does nothing.
+pub fn matches_move()
+    ensures { MatchesMove }
+{}
+
+/// A law: the slot of a kept method moves with it (II.10.3). It does nothing.
+pub fn slots_move()
+    ensures { SlotsMove }
 {}
