@@ -8,3 +8,6 @@ pub mod Standings
 pub mod Shapes
 pub mod Cells
 pub mod Covered
+pub mod Runs
+pub mod Starts
+pub mod Slots

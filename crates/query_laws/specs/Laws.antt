@@ -1,5 +1,6 @@
 -- What two worlds answer of a kept type, where the one has the kept rows of the other.
-use Rattle.std.specs.Prelude.{◌≡◌, ℕ, List, map, Bool, IsTrue}
+use Rattle.std.specs.Prelude.{◌≡◌, ℕ, List, [], ◌∷◌, map, Bool, Option, Some, None, IsTrue, if◌then◌else◌}
+use Rattle.std.specs.List.{list_all, filter}
 use Rattle.std.specs.Option.{option_map}
 use Rattle.world_model.specs.declared.expr.TypeExpr.{TypeExpr}
 use Rattle.world_model.specs.declared.record.AsmRec.{AsmRec}
@@ -7,9 +8,11 @@ use Rattle.link_rules.specs.declared.row_at.RowAt.{RowAt}
 use Rattle.link_rules.specs.Members.{bases_from, with_bases}
 use Rattle.link_rules.specs.Cycles.{home_of}
 use Rattle.type_rules.specs.Texts.{text}
-use Rattle.walk_laws.specs.Walks.{BasesWhole}
+use Rattle.type_rules.specs.Slots.{is_virtual, match_in, nearest, slot_of}
+use Rattle.link_rules.specs.declared.member_type.MethodType.{MethodType}
+use Rattle.walk_laws.specs.Walks.{BasesWhole, SlotsWhole}
 use Rattle.view_rules.specs.Methods.{head_query, method_query, field_query}
-use Rattle.view_rules.specs.Answers.{nearest_core}
+use Rattle.view_rules.specs.Answers.{nearest_core, starts_query}
 use Rattle.view_rules.specs.Layouts.{shape_query, cells_query}
 use Rattle.change_rules.specs.Answers.{move_method, move_field, move_layout, move_shape}
 use Rattle.change_rules.specs.States.{mask}
@@ -17,8 +20,8 @@ use Rattle.change_rules.specs.Keeping.{keep}
 use Rattle.change_rules.specs.Change.{Change}
 use Rattle.change_rules.specs.Moves.{move_expr}
 use Rattle.change_rules.specs.Keeps.{keeps_expr, shows_expr, keeps_shape}
-use Rattle.world_change_rules.specs.Places.{Places}
-use Rattle.world_change_rules.specs.Rows.{RowsMove}
+use Rattle.world_change_rules.specs.Places.{Places, keeps_method_row}
+use Rattle.world_change_rules.specs.Rows.{RowsMove, move_method_type}
 use Rattle.world_change_rules.specs.Kept.{KeepsRows}
 
 abbrev pub ForKept : ((k : Change) (p : Places) (after before : List AsmRec) → Type 0) → Type 0
@@ -56,3 +59,29 @@ CellsMove = ForKept (λ k p after before. BasesWhole after → BasesWhole before
 
 abbrev pub ShapesKept : Type 0
 ShapesKept = ForKept (λ k p after before. (e : TypeExpr) → IsTrue (keeps_expr k.keep e) → IsTrue (keeps_shape k.keep (shape_query before e)))
+
+-- the first row that passes a test
+abbrev pub first_at : (RowAt → Bool) → List RowAt → Option RowAt
+first_at T [] = None
+first_at T (x ∷ xs) = if T x then Some x else first_at T xs
+
+abbrev pub FirstsMove : Type 0
+FirstsMove = (f : RowAt → RowAt) (kept before after : RowAt → Bool) → ((x : RowAt) → IsTrue (kept x) → after (f x) ≡ before x)
+    → (xs : List RowAt) → ((x : RowAt) → first_at before xs ≡ Some x → IsTrue (kept x)) → first_at after (map f (filter kept xs)) ≡ option_map f (first_at before xs)
+
+abbrev pub StartsMove : Type 0
+StartsMove = ForKept (λ k p after before. (t : ℕ) → IsTrue (k.keep.begun t) → starts_query after (k.rho.typ t) ≡ option_map k.rho.method (starts_query before t))
+
+abbrev pub StartsKept : Type 0
+StartsKept = ForKept (λ k p after before. (t m : ℕ) → IsTrue (k.keep.begun t) → starts_query before t ≡ Some m → IsTrue (k.keep.method m))
+
+-- the nearest virtual method of a name and a signature, where it is kept
+abbrev pub MatchesMove : Type 0
+MatchesMove = ForKept (λ k p after before. (name : List ℕ) (wanted : MethodType) (es : List TypeExpr) → IsTrue (list_all (keeps_expr k.keep) es)
+    → ((m : RowAt) → nearest (match_in before is_virtual name wanted) es ≡ Some m → IsTrue (keeps_method_row k.keep before m))
+    → nearest (match_in after is_virtual name (move_method_type k.rho wanted)) (map (move_expr k.rho) es) ≡ option_map p.method (nearest (match_in before is_virtual name wanted) es))
+
+-- where bases and slots of both worlds are whole, as in every world of files that link
+abbrev pub SlotsMove : Type 0
+SlotsMove = ForKept (λ k p after before. BasesWhole after → BasesWhole before → SlotsWhole after → SlotsWhole before
+    → (at : RowAt) → IsTrue (keeps_method_row k.keep before at) → slot_of after (p.method at) ≡ option_map p.method (slot_of before at))

@@ -1,12 +1,10 @@
 -- What kept rows of a world have in another with new numbers: the same names and flags, moved types, and of lists of rows those that
 -- are kept. Nothing is asked of rows that aren't kept.
-use Rattle.std.specs.Prelude.{◌≡◌, ℕ, suc, List, [], ◌∷◌, length, map, Option, Some, None, slice_get, Bool, IsTrue, ◌==◌, ◌&&◌, not, if◌then◌else◌}
-use Rattle.std.specs.List.{list_any, list_all, flat_map, filter}
-use Rattle.std.specs.Option.{option_map, option_and_then}
+use Rattle.std.specs.Prelude.{◌≡◌, ℕ, suc, List, [], map, Some, None, slice_get, Bool, IsTrue, ◌==◌, if◌then◌else◌}
+use Rattle.std.specs.List.{flat_map, filter}
+use Rattle.std.specs.Option.{option_map}
 use Rattle.il_base.specs.declared.table.TheConstants.{TYPE_DEF}
 use Rattle.core_table.specs.declared.names.CoreName.{CoreName}
-use Rattle.core_table.specs.declared.names.CoreName.TheVariants as core
-use Rattle.world_model.specs.declared.known.Known.{Known}
 use Rattle.world_model.specs.declared.expr.TypeExpr.{TypeExpr}
 use Rattle.world_model.specs.declared.expr.MethodUse.{MethodUse}
 use Rattle.world_model.specs.declared.members.MethodDefRow.{MethodDefRow}
@@ -18,13 +16,11 @@ use Rattle.world_model.specs.Worlds.{known_map, prim_type}
 use Rattle.link_rules.specs.declared.row_at.RowAt.{RowAt}
 use Rattle.link_rules.specs.declared.member_type.MethodType.{MethodType}
 use Rattle.link_rules.specs.Types.{at_row}
-use Rattle.link_rules.specs.Signatures.{prim_at}
 use Rattle.link_rules.specs.Members.{array_type, base_at, generic_method}
 use Rattle.link_rules.specs.Cycles.{listed, interface_of, interfaces_at, is_interface_at, is_core_row_at}
-use Rattle.type_rules.specs.Rows.{each_row, rec_at, methods_of_type, fields_of_type, is_instance_field}
+use Rattle.type_rules.specs.Rows.{each_row, methods_of_type, fields_of_type, is_instance_field}
 use Rattle.type_rules.specs.Slots.{is_static, is_virtual, is_new_slot, is_public, method_row_at, type_of_method, type_of_row}
 use Rattle.type_rules.specs.Dispatch.{good_use}
-use Rattle.type_rules.specs.Initializers.{initializer}
 use Rattle.type_rules.specs.Texts.{name_at}
 use Rattle.view_rules.specs.Methods as view
 use Rattle.view_rules.specs.Layouts.{is_core_type, fits_params}
