@@ -17,5 +17,3 @@ pub use write::{
     write_field, write_instance, write_locals, write_method, write_property, write_type,
 };
 
-#[cfg(test)]
-mod tests;

@@ -54,5 +54,3 @@ pub use types::{
 };
 pub use world::{FieldLink, Home, MethodLink, TypeLink, World};
 
-#[cfg(test)]
-mod tests;

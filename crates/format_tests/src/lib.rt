@@ -1,0 +1,17 @@
+//! Tests of the readers of signatures and attribute values, of the core library, and of what types and references name: values from
+//! outside, through public calls alone. They stand apart, since a crate with tests is proved a second time. Nothing goes in or
+//! comes out.
+#![tactic(auto)]
+
+#[cfg(test)]
+mod attributes;
+#[cfg(test)]
+mod core_library;
+#[cfg(test)]
+mod signatures;
+#[cfg(test)]
+mod type_exprs;
+#[cfg(test)]
+mod type_names_by_text;
+#[cfg(test)]
+mod type_references;
