@@ -16,7 +16,8 @@ fn drain<R: Rules>(
     found: &mut Found,
     roots: &Seq<u32>,
 ) -> Result<(), NoMemory>
-    requires { IsKnown (R.alone rules.now) (R.joined rules.now) (R.universe_of rules.now) roots.now found.old }
+    requires rules { R.ready rules.now }
+    requires known { IsKnown (R.alone rules.now) (R.joined rules.now) (R.universe_of rules.now) roots.now found.old }
     ensures { OnOk result (Drained (R.alone rules.now) (R.joined rules.now) (R.universe_of rules.now) roots.now found.old found.new) }
 {
     while let Some(fact) = found.waiting.pop() {
@@ -28,7 +29,8 @@ fn drain<R: Rules>(
 
 /// Puts what a fact of the set brings with others into it; another fact brings nothing. Whether something is new there.
 fn take<R: Rules>(alloc: Global, rules: &R, found: &mut Found, fact: u32) -> Result<bool, NoMemory>
-    requires { length found.old.set.flags ≡ R.universe_of rules.now }
+    requires rules { R.ready rules.now }
+    requires one_each { length found.old.set.flags ≡ R.universe_of rules.now }
     ensures { IfOk result (Rounds (R.joined rules.now) (λ known. known ≡ fact) found.old found.new) }
 {
     if !found.set.has(fact) {
@@ -41,7 +43,8 @@ fn take<R: Rules>(alloc: Global, rules: &R, found: &mut Found, fact: u32) -> Res
 
 /// Takes each fact of the set once. Whether something is new in the set.
 fn round<R: Rules>(alloc: Global, rules: &R, found: &mut Found) -> Result<bool, NoMemory>
-    requires { length found.old.set.flags ≡ R.universe_of rules.now }
+    requires rules { R.ready rules.now }
+    requires one_each { length found.old.set.flags ≡ R.universe_of rules.now }
     ensures { IfOk result (Rounds (R.joined rules.now) (λ known. known < R.universe_of rules.now) found.old found.new) }
 {
     let mut new = false;
@@ -61,7 +64,8 @@ fn step<R: Rules>(
     found: &mut Found,
     roots: &Seq<u32>,
 ) -> Result<bool, NoMemory>
-    requires { IsKnown (R.alone rules.now) (R.joined rules.now) (R.universe_of rules.now) roots.now found.old }
+    requires rules { R.ready rules.now }
+    requires known { IsKnown (R.alone rules.now) (R.joined rules.now) (R.universe_of rules.now) roots.now found.old }
     ensures { IfOk result (Steps (R.alone rules.now) (R.joined rules.now) (R.universe_of rules.now) roots.now found.old found.new) }
 {
     drain(alloc, rules, found, roots)?;
@@ -72,7 +76,8 @@ fn step<R: Rules>(
 /// The least set that holds the roots and is closed under the rules: a fact is in it exactly where it follows from the
 /// roots, whatever the order in which facts are taken. Each root is below the universe.
 pub fn least<R: Rules>(alloc: Global, rules: &R, roots: &Seq<u32>) -> Result<Bits, NoMemory>
-    requires { All (λ root. root < R.universe_of rules.now) roots.now }
+    requires rules { R.ready rules.now }
+    requires roots { All (λ root. root < R.universe_of rules.now) roots.now }
     ensures derived { IfOk result (λ set. (fact : ℕ) → IsTrue (facts_in set fact) ↔ Derived (brings_by (R.alone rules.now) (R.joined rules.now)) (Contains roots.now) fact) }
     ensures below { IfOk result (λ set. IsBelow (R.universe_of rules.now) (facts_in set)) }
 {

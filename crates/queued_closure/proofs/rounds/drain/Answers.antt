@@ -8,8 +8,8 @@ use Rattle.queued_closure.specs.Waiting.{Puts}
 use Rattle.queued_closure.proofs.Going.{popped_in, known_more, fewer_more}
 use Rattle.queued_closure.proofs.rounds.drain.Goals as goal
 
-pub brought_alone-requires : goal.brought_alone-requires
-brought_alone-requires g c =
+pub brought_alone-requires-clause-fact_below : goal.brought_alone-requires-clause-fact_below
+brought_alone-requires-clause-fact_below g c =
     let k = c.loop-fact.invariant.0 in
     let is_in : is_set c.loop-fact.found.set.flags c.in-Some.fact ≡ true =
     popped_in (g.R.Rules.alone c.args.rules.now) (g.R.Rules.joined c.args.rules.now) (g.R.Rules.universe_of c.args.rules.now) c.args.roots.now c.loop-fact.found c.pop.new.self c.in-Some.fact k c.in-Some.ensures in
@@ -23,7 +23,7 @@ put_all-requires g c =
     let inside : c.in-Some.fact < g.R.Rules.universe_of c.args.rules.now =
     subst (λ (n : ℕ). c.in-Some.fact < n) k.one_each (below_length c.loop-fact.found.set.flags c.in-Some.fact is_in) in
     all_below c.as_slice.result.now _ _ (sym k.one_each)
-    (λ x t. g.met.R.Rules.alone_below c.args.rules.now c.in-Some.fact x inside ((c.in_ok-brought.ensures x).0 (rw c.as_slice.ensures at t)))
+    (λ x t. g.met.R.Rules.alone_below c.args.rules.now c.in-Some.fact x c.requires.rules inside ((c.in_ok-brought.ensures x).0 (rw c.as_slice.ensures at t)))
 
 pub loop-fact-preserved : goal.loop-fact-preserved
 loop-fact-preserved g c =

@@ -16,8 +16,9 @@ loop-found-preserved g c = c.in_ok-step.ensures.known
 pub returns-clause-derived : goal.returns-clause-derived
 returns-clause-derived g c =
     derived_known (g.R.Rules.alone c.args.rules.now) (g.R.Rules.joined c.args.rules.now) (g.R.Rules.universe_of c.args.rules.now) c.args.roots.now
-    (g.met.R.Rules.alone_below c.args.rules.now) (g.met.R.Rules.joined_below c.args.rules.now) (g.met.R.Rules.is_monotone c.args.rules.now)
-    (roots_below c.args.roots.now (g.R.Rules.universe_of c.args.rules.now) c.requires) c.step.new.found c.in_ok-step.ensures.known (c.in_ok-step.ensures.closed c.if-branch.false)
+    (λ fact x. g.met.R.Rules.alone_below c.args.rules.now fact x c.requires.rules) (λ have fact x. g.met.R.Rules.joined_below c.args.rules.now have fact x c.requires.rules)
+    (λ few many fact x. g.met.R.Rules.is_monotone c.args.rules.now few many fact x c.requires.rules)
+    (roots_below c.args.roots.now (g.R.Rules.universe_of c.args.rules.now) c.requires.roots) c.step.new.found c.in_ok-step.ensures.known (c.in_ok-step.ensures.closed c.if-branch.false)
 
 pub returns-clause-below : goal.returns-clause-below
 returns-clause-below g c = λ fact s. rw c.in_ok-step.ensures.known.one_each at (below_length c.step.new.found.set.flags fact s)
