@@ -66,14 +66,14 @@ abbrev pub is_of_class : List AsmRec → List ℕ → RowAt → Bool
 is_of_class recs class at = list_any (is_core_class recs class) (listed (type_of_method recs at))
 
 -- a member of a class in the namespace System, by their names
-abbrev pub is_core_member : List AsmRec → MethodId → List ℕ → List ℕ → Bool
+unfoldable pub is_core_member : List AsmRec → MethodId → List ℕ → List ℕ → Bool
 is_core_member recs m class name = list_any (λ (at : RowAt). is_called recs name at && is_of_class recs class at) (listed (method_home recs m))
 
 -- `Type.GetType`
-abbrev pub is_name_search : List AsmRec → MethodId → Bool
+unfoldable pub is_name_search : List AsmRec → MethodId → Bool
 is_name_search recs m = is_core_member recs m (codes "Type") (codes "GetType")
 
-abbrev pub is_type_search : List AsmRec → MethodId → List ℕ → List ℕ → Bool
+unfoldable pub is_type_search : List AsmRec → MethodId → List ℕ → List ℕ → Bool
 is_type_search recs m one all = is_core_member recs m (codes "Type") one || is_core_member recs m (codes "Type") all
 
 -- what a search asks for of the type that it is called on; 0 for any other method
@@ -85,11 +85,11 @@ searched_kinds recs m =
     else 0
 
 -- `Activator.CreateInstance`
-abbrev pub is_creation : List AsmRec → MethodId → Bool
+unfoldable pub is_creation : List AsmRec → MethodId → Bool
 is_creation recs m = is_core_member recs m (codes "Activator") (codes "CreateInstance")
 
 -- a method with one generic parameter
-abbrev pub has_one_parameter : List AsmRec → MethodId → Bool
+unfoldable pub has_one_parameter : List AsmRec → MethodId → Bool
 has_one_parameter recs m =
     list_any (λ (at : RowAt). list_any (λ (t : MethodType). t.generic == 1) (good_type_of_row (type_of_row recs at))) (listed (method_home recs m))
 
