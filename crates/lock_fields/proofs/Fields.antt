@@ -1,7 +1,7 @@
 -- Instance fields, and the forms on fields.
-use Rattle.std.proofs.Common.{◌≡◌, ℕ, Bool, true, false, ◌&&◌, ◌||◌, not, List, [], ◌∷◌, ◌++◌, map, Option, Some, None, refl, sym, ap, subst, ◌∙◌}
-use Rattle.std.specs.Prelude.{IsTrue, slice_get, ◌==◌, if◌then◌else◌}
-use Rattle.std.specs.Option.{option_map, option_and_then}
+use Rattle.std.proofs.Common.{◌≡◌, ℕ, Bool, true, ◌&&◌, ◌||◌, not, List, ◌∷◌, Option, Some, None, refl, sym, ap, subst, ◌∙◌}
+use Rattle.std.specs.Prelude.{IsTrue, slice_get, ◌==◌}
+use Rattle.std.specs.Option.{option_map}
 use Rattle.std.specs.Cmp.{first_so, second_so}
 use Rattle.std.proofs.lemmas.Bool.{and_from}
 use Rattle.std.proofs.lemmas.Option.{slice_get-map}
@@ -10,7 +10,6 @@ use Rattle.il_base.specs.declared.field_flags.TheConstants.{STATIC}
 use Rattle.il_base.specs.Flags.{has_flag}
 use Rattle.world_model.specs.declared.known.Known.{Known}
 use Rattle.world_model.specs.declared.known.Known.TheVariants.{Good}
-use Rattle.world_model.specs.declared.expr.TypeExpr.{TypeExpr}
 use Rattle.world_model.specs.declared.expr.FieldUse.{FieldUse}
 use Rattle.world_model.specs.Exprs.{same_expr}
 use Rattle.core_table.specs.declared.names.CoreName.TheVariants as name
@@ -32,9 +31,9 @@ use Rattle.step_rules.specs.Closing.{Accessed, closed_field}
 use Rattle.step_rules.specs.Stores.{Parts, parts_of, fits}
 use Rattle.step_rules.specs.Objects.{is_a}
 use Rattle.step_rules.specs.Places.{at_place}
-use Rattle.step_rules.specs.Fields.{is_static, cell_for, layout_of, StructCell, struct_cell, into_struct, box_path, instance_path, object_field, field_of_object, field_of_pointer, field_place, load_part, load_from, load_field, address_field, store_field, load_with, address_with, store_with, access, may_access, begun_for, accesses, field_form}
+use Rattle.step_rules.specs.Fields.{is_static, cell_for, layout_of, StructCell, struct_cell, into_struct, box_path, instance_path, object_field, field_of_object, field_of_pointer, field_place, load_part, load_from, load_field, address_field, store_field, access, may_access, accesses, field_form}
 use Rattle.change_rules.specs.Change.{Change}
-use Rattle.change_rules.specs.Moves.{move_expr, move_value, move_values, move_path}
+use Rattle.change_rules.specs.Moves.{move_value, move_values, move_path}
 use Rattle.change_rules.specs.Answers.{move_layout, move_parts, move_here, move_operand, move_instruction, move_accessed}
 use Rattle.change_rules.specs.States.{move_obj, move_state}
 use Rattle.change_rules.specs.Keeps as keeps

@@ -1,8 +1,7 @@
 -- Static fields.
-use Rattle.std.proofs.Common.{◌≡◌, ℕ, Bool, true, false, ◌&&◌, List, [], ◌∷◌, ◌++◌, length, map, Option, Some, None, refl, sym, ap, subst, ◌∙◌}
+use Rattle.std.proofs.Common.{◌≡◌, ℕ, Bool, true, false, List, [], ◌∷◌, length, Option, Some, None, refl, sym, ap, subst, ◌∙◌}
 use Rattle.std.specs.Prelude.{IsTrue, pos, nat_le, if◌then◌else◌}
 use Rattle.std.specs.Option.{option_map, option_and_then}
-use Rattle.std.specs.Cmp.{first_so, second_so}
 use Rattle.std.proofs.lemmas.Bool.{and_from}
 use Rattle.std.proofs.lemmas.List.{map-append}
 use Rattle.byteorder.specs.Endian.{little_number}
@@ -29,7 +28,7 @@ use Rattle.step_rules.specs.Stores.{fits, zero_of}
 use Rattle.step_rules.specs.Places.{global_of, with_global}
 use Rattle.step_rules.specs.Fields.{static_type, with_value, begins_with, number_in, value_of_bytes, first_value, begun_static, with_static, static_path, load_static, address_static, store_static}
 use Rattle.change_rules.specs.Change.{Rho, Keep, Change}
-use Rattle.change_rules.specs.Moves.{move_expr, move_exprs, move_value, move_values, move_path}
+use Rattle.change_rules.specs.Moves.{move_expr, move_value, move_values, move_path}
 use Rattle.change_rules.specs.Answers.{move_shape, move_here, move_instruction, move_accessed}
 use Rattle.change_rules.specs.States.{move_global, move_state}
 use Rattle.change_rules.specs.Keeps.{keeps_expr, keeps_value, keeps_values, if_good}

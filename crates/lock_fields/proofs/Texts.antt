@@ -1,6 +1,6 @@
 -- New strings, and the one object of a text.
 use Rattle.std.proofs.Common.{◌≡◌, ℕ, Bool, List, [], ◌∷◌, ◌++◌, length, Option, Some, None, refl, sym, ap, subst, ◌∙◌}
-use Rattle.std.specs.Prelude.{IsTrue, nat_le, find}
+use Rattle.std.specs.Prelude.{nat_le, find}
 use Rattle.std.specs.Option.{option_map}
 use Rattle.world_model.specs.declared.known.Known.{Known}
 use Rattle.world_model.specs.declared.known.Known.TheVariants.{Good, Bad}

@@ -1,5 +1,5 @@
 -- Which method a virtual call runs, and what it takes as `this`.
-use Rattle.std.proofs.Common.{◌≡◌, ℕ, ◌+◌, Bool, true, false, ◌&&◌, not, List, [], length, Option, Some, None, refl, sym, ap, subst, ◌∙◌}
+use Rattle.std.proofs.Common.{◌≡◌, ℕ, ◌+◌, Bool, true, false, ◌&&◌, not, length, Option, Some, None, refl, sym, ap, subst, ◌∙◌}
 use Rattle.std.specs.Prelude.{IsTrue, nat_eq, if◌then◌else◌}
 use Rattle.std.specs.Bool.{beq}
 use Rattle.std.specs.Option.{option_map}
@@ -7,7 +7,6 @@ use Rattle.std.specs.Cmp.{first_so, second_so}
 use Rattle.std.proofs.lemmas.List.{length-map}
 use Rattle.world_model.specs.declared.expr.TypeExpr.{TypeExpr}
 use Rattle.world_model.specs.declared.expr.MethodUse.{MethodUse}
-use Rattle.cil_values.specs.declared.path.Path.{Path}
 use Rattle.cil_values.specs.declared.value.Value.{Value, out-Value, roll-Value}
 use Rattle.cil_values.specs.declared.value.Value.TheOpen.{Value-F}
 use Rattle.cil_values.specs.declared.value.Value.TheVariants as value
@@ -19,11 +18,11 @@ use Rattle.cil_values.specs.declared.state.State.{State}
 use Rattle.step_rules.specs.Queries.{Queries}
 use Rattle.step_rules.specs.Next.{Next}
 use Rattle.step_rules.specs.Words.{object_at}
-use Rattle.step_rules.specs.Closing.{Callee, callee_of, is_void}
+use Rattle.step_rules.specs.Closing.{Callee, callee_of}
 use Rattle.step_rules.specs.Stores.{is_value}
 use Rattle.step_rules.specs.Dispatch.{is_abstract, slots_of, is_called_alike, found_use, dispatched, path_into_box, box_pointer, this_in, this_for}
-use Rattle.change_rules.specs.Change.{Keep, Change}
-use Rattle.change_rules.specs.Moves.{move_expr, move_use, move_path, move_value}
+use Rattle.change_rules.specs.Change.{Change}
+use Rattle.change_rules.specs.Moves.{move_expr, move_use, move_value}
 use Rattle.change_rules.specs.Answers.{move_signature, move_method, move_callee}
 use Rattle.change_rules.specs.States.{move_obj, move_state}
 use Rattle.change_rules.specs.Keeps.{keeps_expr, keeps_made, keeps_use, keeps_value, keeps_signature, if_good}
@@ -37,7 +36,7 @@ use Rattle.lock_words.proofs.Fits.{is_value_moved}
 use Rattle.lock_words.proofs.Cases.{moved_cases}
 use Rattle.lock_throwing.proofs.Objects.{made_kept, object_moved, object_kept}
 use Rattle.lock_places.proofs.Options.{Made, made_is, some_is}
-use Rattle.lock_places.proofs.Closing.{use_method, use_owner, use_args, use_from, KeptCallee, callee_moved, CalleeOf, callee_kept}
+use Rattle.lock_places.proofs.Closing.{use_method, use_owner, use_args, use_from, KeptCallee, callee_moved, callee_kept}
 
 module _ (k : Change) (after before : Queries) (a : Agree k after before) where
   -- ---- what is found

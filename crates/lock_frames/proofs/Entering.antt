@@ -1,5 +1,5 @@
 -- Methods are entered, and initializers begin.
-use Rattle.std.proofs.Common.{◌≡◌, ℕ, ◌+◌, Bool, true, false, ◌&&◌, ◌||◌, not, List, [], ◌∷◌, ◌++◌, map, length, Option, Some, None, refl, sym, ap, subst, ◌∙◌}
+use Rattle.std.proofs.Common.{◌≡◌, ℕ, ◌+◌, Bool, true, false, ◌||◌, not, List, [], ◌∷◌, Option, Some, None, refl, sym, ap, subst, ◌∙◌}
 use Rattle.std.specs.Prelude.{IsTrue, nat_lt, find, if◌then◌else◌}
 use Rattle.std.specs.List.{list_all}
 use Rattle.std.specs.Option.{option_map, option_and_then}
@@ -14,7 +14,6 @@ use Rattle.world_model.specs.declared.expr.MethodUse.{MethodUse}
 use Rattle.world_model.specs.Exprs.{same_expr}
 use Rattle.cil_values.specs.declared.value.Value.{Value}
 use Rattle.cil_values.specs.declared.resolved.Code.{Code}
-use Rattle.cil_values.specs.declared.definition.Head.{Head}
 use Rattle.cil_values.specs.declared.state.State.{State}
 use Rattle.cil_values.specs.declared.state.Started.{Started}
 use Rattle.cil_values.specs.declared.state.Init.{Init}
@@ -27,7 +26,7 @@ use Rattle.step_rules.specs.Words.{good, args_of}
 use Rattle.step_rules.specs.Closing.{Callee, callee_of, closed_slot, all_of}
 use Rattle.step_rules.specs.Stores.{zero_of}
 use Rattle.step_rules.specs.Frames.{frame_limit, zero_local, zero_locals, has_room, enter, definition_of, head_of, head_has, begins_by, initializer_use, initializer, init_of, with_init, begin_or, started_by, started}
-use Rattle.change_rules.specs.Change.{Keep, Change}
+use Rattle.change_rules.specs.Change.{Change}
 use Rattle.change_rules.specs.Moves.{move_expr, move_exprs, move_use, move_value, move_values}
 use Rattle.change_rules.specs.Answers.{move_code, move_callee}
 use Rattle.change_rules.specs.States.{move_waits, move_frame, move_started, move_state}
@@ -42,7 +41,7 @@ use Rattle.lock_words.proofs.Types.{closed_slot_moved, closed_slot_kept}
 use Rattle.lock_words.proofs.Definitions.{Begins, args_moved, args_shown, definition_moved, definition_kept}
 use Rattle.lock_throwing.proofs.Searching.{throw_lock}
 use Rattle.lock_places.proofs.Options.{Through, through_is, Made, made_is, if_is, all_of_moved, all_of_kept}
-use Rattle.lock_places.proofs.Closing.{use_owner, use_args, use_from, KeptCallee, callee_moved, CalleeOf, callee_kept}
+use Rattle.lock_places.proofs.Closing.{use_owner, use_args, use_from, KeptCallee, callee_moved, callee_kept}
 use Rattle.lock_places.proofs.Stores.{zero_moved, zero_kept}
 
 module _ (k : Change) (after before : Queries) (a : Agree k after before) where

@@ -1,13 +1,12 @@
 -- Loads and stores through pointers.
-use Rattle.std.proofs.Common.{◌≡◌, ℕ, Bool, true, false, ◌&&◌, List, [], ◌∷◌, Option, Some, None, refl, sym, ap, subst, ◌∙◌}
-use Rattle.std.specs.Prelude.{IsTrue, if◌then◌else◌, ◌==◌}
-use Rattle.std.specs.Cmp.{first_so, second_so}
+use Rattle.std.proofs.Common.{ℕ, List, ◌∷◌, Option, refl, sym, subst}
+use Rattle.std.specs.Prelude.{IsTrue, ◌==◌}
+use Rattle.std.specs.Cmp.{second_so}
 use Rattle.il_base.specs.declared.opcode.TheConstants as opcode
 use Rattle.world_model.specs.declared.expr.TypeExpr.{TypeExpr}
 use Rattle.core_table.specs.declared.names.CoreName.TheVariants as name
 use Rattle.cil_values.specs.declared.path.Path.{Path}
 use Rattle.cil_values.specs.declared.value.Value.{Value, out-Value, roll-Value}
-use Rattle.cil_values.specs.declared.value.Value.TheVariants as value
 use Rattle.cil_values.specs.declared.resolved.Instruction.{Instruction}
 use Rattle.cil_values.specs.declared.resolved.Use.{Use}
 use Rattle.cil_values.specs.declared.resolved.Use.TheVariants.{Typ as typ}
@@ -17,7 +16,7 @@ use Rattle.step_rules.specs.Next.{Next}
 use Rattle.step_rules.specs.Words.{Here, stuck, had, popped, goes}
 use Rattle.step_rules.specs.Closing.{closed}
 use Rattle.step_rules.specs.Stores.{Access, by_code, by_reference, access_of, allows, loaded, stored, zero_of}
-use Rattle.step_rules.specs.Indirect.{through, load_by, puts, store_by, copy_by, init_by, load_access, store_access, store_or_stuck, plain_access, typed_access, indirect}
+use Rattle.step_rules.specs.Indirect.{through, load_by, puts, store_by, copy_by, load_access, store_access, store_or_stuck, plain_access, typed_access, indirect}
 use Rattle.change_rules.specs.Change.{Change}
 use Rattle.change_rules.specs.Moves.{move_expr, move_value, move_values, move_path}
 use Rattle.change_rules.specs.Answers.{move_here, move_operand, move_instruction, move_access}
@@ -25,7 +24,7 @@ use Rattle.change_rules.specs.States.{move_state}
 use Rattle.change_rules.specs.Keeps.{keeps_expr, keeps_root, keeps_path, keeps_value, keeps_values, keeps_operand}
 use Rattle.change_rules.specs.Covered.{Covered}
 use Rattle.change_rules.specs.Agree.{Agree, is_asked}
-use Rattle.change_rules.specs.Lock.{Lock, Runs}
+use Rattle.change_rules.specs.Lock.{Lock}
 use Rattle.change_laws.proofs.Lists.{all_push}
 use Rattle.lock_words.proofs.Words.{stuck_lock, given_moved, had_moved, required_lock, if_lock, popped_lock, goes_lock}
 use Rattle.lock_words.proofs.Cases.{kept_cases}

@@ -1,13 +1,12 @@
 -- Places that pointers lead to: what stands there, and the state after a store.
-use Rattle.std.proofs.Common.{◌≡◌, ℕ, Bool, true, false, ◌&&◌, not, List, [], ◌∷◌, ◌++◌, map, take, drop, length, Option, Some, None, refl, sym, ap, subst, ◌∙◌}
-use Rattle.std.specs.Prelude.{IsTrue, slice_get, slice_set, nat_eq, nat_le, find, reverse, if◌then◌else◌}
+use Rattle.std.proofs.Common.{◌≡◌, ℕ, Bool, true, false, not, List, [], ◌∷◌, ◌++◌, map, take, drop, length, Option, Some, None, refl, sym, ap, subst, ◌∙◌}
+use Rattle.std.specs.Prelude.{IsTrue, slice_get, slice_set, nat_le, find, reverse, if◌then◌else◌}
 use Rattle.std.specs.List.{list_all}
 use Rattle.std.specs.Option.{option_map, option_and_then, is_some}
 use Rattle.std.specs.Cmp.{first_so, second_so}
 use Rattle.std.proofs.lemmas.Bool.{and_from}
 use Rattle.std.proofs.lemmas.Option.{slice_get-map}
 use Rattle.std.proofs.lemmas.List.{length-map, take-map, drop-map, map-append, reverse-append}
-use Rattle.il_base.specs.declared.ids.FieldId.{FieldId}
 use Rattle.world_model.specs.declared.expr.TypeExpr.{TypeExpr}
 use Rattle.cil_values.specs.declared.path.Path.{Path}
 use Rattle.cil_values.specs.declared.path.Root.{Root}
@@ -26,23 +25,22 @@ use Rattle.step_rules.specs.Queries.{Queries}
 use Rattle.step_rules.specs.Next.{Next}
 use Rattle.step_rules.specs.Words.{taken, object_at}
 use Rattle.step_rules.specs.Stores.{Parts, parts_in, parts_of}
-use Rattle.step_rules.specs.Places.{set_if, with_cell, cell_in, cell_of, put_cell_in, value_in, with_struct, put_in, has_number, frame_with, change_frame, with_frame, is_there, ended_root, has_ended, is_global, global_of, change_global, with_global, boxed_in, element_in, root_value, place_value, with_object, put_boxed, put_element, set_arg, set_local, put_root, put_whole, with_place, at_place, put_at, alive, cell_place}
+use Rattle.step_rules.specs.Places.{cell_in, cell_of, value_in, with_struct, put_in, has_number, frame_with, is_there, ended_root, has_ended, is_global, global_of, boxed_in, element_in, root_value, place_value, at_place, alive, cell_place}
 use Rattle.change_rules.specs.Keeping.{keep, rank}
 use Rattle.change_rules.specs.Change.{Rho, Keep, Change}
 use Rattle.change_rules.specs.Moves.{move_expr, move_value, move_values, move_root, move_path}
 use Rattle.change_rules.specs.Answers.{move_cell, move_parts}
-use Rattle.change_rules.specs.States.{keeps_cell, mask, move_cells, move_obj, move_frame, move_global, move_state}
+use Rattle.change_rules.specs.States.{keeps_cell, mask, move_obj, move_frame, move_global, move_state}
 use Rattle.change_rules.specs.Keeps.{keeps_expr, keeps_made, shows_expr, keeps_root, keeps_path, keeps_value, keeps_values}
 use Rattle.change_rules.specs.Covered.{keeps_obj, keeps_global, CoveredFrame, CoveredFrames, Covered}
 use Rattle.change_rules.specs.Agree.{Agree}
 use Rattle.change_rules.specs.Lock.{Lock}
 use Rattle.change_laws.proofs.Same.{same_globals_moved}
-use Rattle.change_laws.proofs.Lists.{find_moved, change_moved, all_joined, all_push, all_at, all_set, all_drop, all_take}
+use Rattle.change_laws.proofs.Lists.{find_moved, all_joined, all_push, all_at, all_set, all_drop, all_take}
 use Rattle.change_laws.proofs.Values.{move_struct, keeps_struct, keeps_out, keeps_in, parts_moved}
-use Rattle.change_laws.proofs.Cells.{set_map, cells_written, keep_rank, place_flag}
-use Rattle.lock_words.proofs.Words.{given_moved, had_moved, within_lock}
-use Rattle.lock_throwing.proofs.Objects.{made_kept, object_moved, object_kept, cell_in_moved, cell_set_kept}
-use Rattle.lock_throwing.proofs.Searching.{all_changed}
+use Rattle.change_laws.proofs.Cells.{set_map, keep_rank, place_flag}
+use Rattle.lock_words.proofs.Words.{had_moved, within_lock}
+use Rattle.lock_throwing.proofs.Objects.{object_moved, object_kept, cell_in_moved}
 use Rattle.lock_places.proofs.Options.{Through, through_is, Made, made_is, some_is}
 
 -- ---- the top of the stack

@@ -1,7 +1,6 @@
 -- The state after a value is put into a place.
-use Rattle.std.proofs.Common.{◌≡◌, ℕ, Bool, true, false, ◌&&◌, List, [], ◌∷◌, map, Option, Some, None, refl, sym, ap, subst, ◌∙◌}
-use Rattle.std.specs.Prelude.{IsTrue, slice_get, slice_set, nat_eq, if◌then◌else◌}
-use Rattle.std.specs.List.{list_all}
+use Rattle.std.proofs.Common.{◌≡◌, ℕ, Bool, true, false, List, [], ◌∷◌, map, Option, Some, None, refl, ap, subst, ◌∙◌}
+use Rattle.std.specs.Prelude.{IsTrue, slice_get, slice_set, if◌then◌else◌}
 use Rattle.std.specs.Option.{option_map, option_and_then}
 use Rattle.std.specs.Cmp.{first_so, second_so}
 use Rattle.std.proofs.lemmas.Bool.{and_from}
@@ -22,16 +21,16 @@ use Rattle.step_rules.specs.Queries.{Queries}
 use Rattle.step_rules.specs.Next.{Next}
 use Rattle.step_rules.specs.Words.{object_at}
 use Rattle.step_rules.specs.Places.{set_if, with_cell, put_cell_in, put_in, has_number, change_frame, with_frame, is_global, change_global, with_global, root_value, with_object, put_boxed, put_element, set_arg, set_local, put_root, put_whole, with_place, put_at}
-use Rattle.change_rules.specs.Change.{Rho, Keep, Change}
+use Rattle.change_rules.specs.Change.{Keep, Change}
 use Rattle.change_rules.specs.Moves.{move_expr, move_value, move_values, move_root, move_path}
 use Rattle.change_rules.specs.Answers.{move_cell}
 use Rattle.change_rules.specs.States.{keeps_cell, move_cells, move_obj, move_frame, move_global, move_state}
-use Rattle.change_rules.specs.Keeps.{keeps_made, shows_expr, keeps_expr, keeps_root, keeps_path, keeps_value, keeps_values}
+use Rattle.change_rules.specs.Keeps.{keeps_made, shows_expr, keeps_root, keeps_path, keeps_value, keeps_values}
 use Rattle.change_rules.specs.Covered.{keeps_obj, keeps_global, CoveredFrame, CoveredFrames, Covered}
 use Rattle.change_rules.specs.Agree.{Agree}
 use Rattle.change_rules.specs.Lock.{Lock}
 use Rattle.change_laws.proofs.Same.{same_globals_moved}
-use Rattle.change_laws.proofs.Lists.{change_moved, all_at, all_set}
+use Rattle.change_laws.proofs.Lists.{change_moved, all_set}
 use Rattle.change_laws.proofs.Cells.{set_map, cells_written}
 use Rattle.lock_words.proofs.Words.{had_moved}
 use Rattle.lock_throwing.proofs.Objects.{made_kept, object_moved, object_kept, cell_set_kept}

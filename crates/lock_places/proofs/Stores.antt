@@ -1,19 +1,17 @@
 -- How places keep values, what they hold at first, and which accesses take them.
-use Rattle.std.proofs.Common.{◌≡◌, ℕ, ℤ, Bool, true, false, ◌&&◌, List, [], ◌∷◌, map, Option, Some, None, refl, sym, ap, subst, ◌∙◌}
-use Rattle.std.specs.Prelude.{IsTrue, pos, if◌then◌else◌}
+use Rattle.std.proofs.Common.{◌≡◌, ℕ, ℤ, Bool, true, List, [], ◌∷◌, map, Option, Some, None, refl, sym, ap, ◌∙◌}
+use Rattle.std.specs.Prelude.{IsTrue, pos}
 use Rattle.std.specs.List.{list_all}
-use Rattle.std.specs.Option.{option_map, option_and_then}
+use Rattle.std.specs.Option.{option_map}
 use Rattle.std.specs.Cmp.{first_so, second_so}
 use Rattle.std.proofs.lemmas.Bool.{and_from}
 use Rattle.world_model.specs.declared.expr.TypeExpr.{TypeExpr}
-use Rattle.cil_values.specs.declared.path.Path.{Path}
 use Rattle.cil_values.specs.declared.value.Value.{Value, out-Value, roll-Value}
 use Rattle.cil_values.specs.declared.value.Value.TheVariants as value
 use Rattle.cil_values.specs.declared.layout.Layout.{Layout}
 use Rattle.cil_values.specs.declared.layout.Shape.{Shape}
 use Rattle.cil_values.specs.declared.layout.Shape.TheVariants.{Reference as reference, Pointer as pointer, Integer as integer, TypeHandle as type_handle, FieldHandle as field_handle, Structure as structure, NoValue as no_value}
 use Rattle.step_rules.specs.Queries.{Queries}
-use Rattle.step_rules.specs.Closing.{front}
 use Rattle.step_rules.specs.Integers.{number, narrowed, worth, held_number, shown}
 use Rattle.step_rules.specs.Stores.{fits_reference, fits, all_fit, zeros_of, zero_shape, zero_of, is_reference_shape, is_reference, Access, by_code, by_reference, by_type, access_shape, access_of, element_shape, element_access, allows_shape, allows, loaded, as_place, stored}
 use Rattle.change_rules.specs.Change.{Rho, Keep, Change}

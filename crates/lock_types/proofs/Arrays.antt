@@ -1,6 +1,6 @@
 -- Vectors.
-use Rattle.std.proofs.Common.{◌≡◌, ℕ, zero, suc, ℤ, pos, negsuc, Bool, true, false, ◌&&◌, ◌||◌, not, List, [], ◌∷◌, length, map, replicate, Option, Some, None, refl, sym, ap, subst, ◌∙◌}
-use Rattle.std.specs.Prelude.{IsTrue, slice_get, slice_set, nat_le, ◌==◌, if◌then◌else◌}
+use Rattle.std.proofs.Common.{◌≡◌, ℕ, zero, suc, ℤ, pos, negsuc, Bool, ◌||◌, not, List, ◌∷◌, length, map, replicate, Option, Some, None, refl, sym, ap, subst, ◌∙◌}
+use Rattle.std.specs.Prelude.{IsTrue, slice_get, slice_set, nat_le, ◌==◌}
 use Rattle.std.specs.List.{list_all}
 use Rattle.std.specs.Option.{option_map, option_and_then}
 use Rattle.std.specs.Cmp.{first_so, second_so}
@@ -12,7 +12,6 @@ use Rattle.il_base.specs.declared.opcode.TheConstants as opcode
 use Rattle.world_model.specs.declared.expr.TypeExpr.{TypeExpr}
 use Rattle.world_model.specs.Exprs as exprs
 use Rattle.core_table.specs.declared.names.CoreName.TheVariants as name
-use Rattle.cil_values.specs.declared.path.Path.{Path}
 use Rattle.cil_values.specs.declared.value.Value.{Value, out-Value, roll-Value}
 use Rattle.cil_values.specs.declared.value.Value.TheVariants as value
 use Rattle.cil_values.specs.declared.object.Obj.{Obj}
@@ -32,7 +31,7 @@ use Rattle.step_rules.specs.Objects.{is_a}
 use Rattle.step_rules.specs.Places.{with_object}
 use Rattle.step_rules.specs.Arrays.{array_limit, count_of, new_array, new_array_of, new_array_form, Vector, vector_in, vector_of, element_type, place_in, in_range, index_in, load_length, load_element, put_element, mismatches, store_checked, store_element, element_path, is_readonly, address_checked, address_element, load_access, store_access, store_or_length, plain_element, typed_element, element_form}
 use Rattle.change_rules.specs.Change.{Rho, Keep, Change}
-use Rattle.change_rules.specs.Moves.{move_expr, move_value, move_values, move_path}
+use Rattle.change_rules.specs.Moves.{move_expr, move_value, move_values}
 use Rattle.change_rules.specs.Answers.{move_here, move_operand, move_instruction, move_access}
 use Rattle.change_rules.specs.States.{move_obj, move_prefix, move_state}
 use Rattle.change_rules.specs.Keeps.{keeps_expr, shows_expr, keeps_value, keeps_values, keeps_operand, keeps_of_form}

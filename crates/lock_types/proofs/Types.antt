@@ -1,6 +1,6 @@
 -- Casts, boxes and handles.
-use Rattle.std.proofs.Common.{◌≡◌, ℕ, Bool, true, false, ◌&&◌, ◌||◌, List, [], ◌∷◌, Option, Some, None, refl, sym, ap, subst, ◌∙◌}
-use Rattle.std.specs.Prelude.{IsTrue, ◌==◌, if◌then◌else◌}
+use Rattle.std.proofs.Common.{◌≡◌, ℕ, Bool, true, false, ◌&&◌, ◌||◌, List, ◌∷◌, Option, Some, None, refl, sym, ap, subst, ◌∙◌}
+use Rattle.std.specs.Prelude.{IsTrue, ◌==◌}
 use Rattle.std.specs.Option.{option_map}
 use Rattle.std.specs.Cmp.{first_so, second_so}
 use Rattle.std.proofs.lemmas.Bool.{and_from}
@@ -27,9 +27,9 @@ use Rattle.step_rules.specs.Closing.{plain, standing, is_sound, if_so, closed, c
 use Rattle.step_rules.specs.Stores.{fits_reference, fits, is_reference, is_value}
 use Rattle.step_rules.specs.Objects.{is_a}
 use Rattle.step_rules.specs.Dispatch.{path_into_box}
-use Rattle.step_rules.specs.Types.{cast_or, cast_with, cast_class, is_instance, casts, cast, boxes_value, boxes, box, boxed_of, or_invalid, unboxes, unbox_pointer, unbox_value, unboxed, unbox, is_definition_in, closed_handle, load_handle, load_token}
-use Rattle.change_rules.specs.Change.{Rho, Keep, Change}
-use Rattle.change_rules.specs.Moves.{move_expr, move_value, move_values, move_path}
+use Rattle.step_rules.specs.Types.{cast_or, cast_with, cast_class, casts, cast, boxes_value, boxes, box, boxed_of, or_invalid, unboxes, unbox_pointer, unbox_value, unboxed, unbox, is_definition_in, closed_handle, load_handle, load_token}
+use Rattle.change_rules.specs.Change.{Rho, Change}
+use Rattle.change_rules.specs.Moves.{move_expr, move_value, move_values}
 use Rattle.change_rules.specs.Answers.{move_here, move_operand, move_instruction}
 use Rattle.change_rules.specs.States.{move_obj, move_state}
 use Rattle.change_rules.specs.Keeps.{keeps_expr, shows_expr, makes_expr, keeps_made, keeps_value, keeps_values, if_good, keeps_accessed, keeps_operand, keeps_of_form}
@@ -47,7 +47,7 @@ use Rattle.lock_throwing.proofs.Objects.{object_moved, object_kept, is_a_at}
 use Rattle.lock_throwing.proofs.Here.{KeptHere}
 use Rattle.lock_throwing.proofs.Searching.{raise_lock}
 use Rattle.lock_places.proofs.Options.{some_is}
-use Rattle.lock_places.proofs.Closing.{weaker, AccessedOf, closed_lock, closed_field_lock}
+use Rattle.lock_places.proofs.Closing.{weaker, closed_lock, closed_field_lock}
 use Rattle.lock_places.proofs.Stores.{is_reference_moved, fits_reference_kept}
 
 null_asked : IsTrue (is_asked name.NullReferenceException)
