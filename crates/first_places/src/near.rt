@@ -8,20 +8,20 @@ use il_base::NoMemory;
 use std::alloc::Global;
 use std::collections::HashMap;
 
-/// The most numbers that a table has, for each key.
+/// The most numbers in a table, for each key.
 const MOST_FOR_EACH: usize = 8;
 
-/// How many numbers the table has: none above the keys, and not many more than there are keys.
+/// How many numbers the table has: all up to the greatest key, or none where keys lie far apart.
 pub(crate) fn near_count(keys: &[u32]) -> u32 {
     let mut most: u32 = 0;
     for key in keys {
         most = most.max(*key);
     }
     let count = most.saturating_add(1);
-    match u32::try_from(keys.len().saturating_mul(MOST_FOR_EACH)) {
-        Ok(bound) => count.min(bound),
-        Err(_) => count,
+    if count as usize > keys.len().saturating_mul(MOST_FOR_EACH) {
+        return 0;
     }
+    count
 }
 
 /// What a map has for each number below `count`.
