@@ -1,0 +1,6 @@
+pub mod There
+pub mod Standing
+pub mod Impls
+pub mod Classes
+pub mod Interfaces
+pub mod Uses
