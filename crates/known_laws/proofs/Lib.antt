@@ -1,0 +1,5 @@
+pub mod Lists
+pub mod Rows
+pub mod Slots
+pub mod Interfaces
+pub mod Together

@@ -1,0 +1,115 @@
+//! What a marked item needs.
+
+ghost use Rattle.std.specs.Prelude.{◌≡◌, ◌++◌, OnOk};
+ghost use Rattle.std.specs.List.{flat_map};
+ghost use Rattle.link_rules.specs.Cycles.{listed};
+ghost use Rattle.mark_rules.specs.Places.{row_of};
+ghost use Rattle.mark_rules.specs.Attributes.{attribute_needs};
+ghost use Rattle.mark_rules.specs.Dependencies.{dependency_needs};
+ghost use Rattle.mark_rules.specs.Roots.{waiting_facts};
+ghost use Rattle.mark_rules.specs.Marking.{row_needs, item_needs};
+ghost use Rattle.mark_tables.specs.Assemblies.{all_of, IsMarker};
+ghost use Rattle.mark_items.specs.Needs.{named_needs};
+
+use il_base::{Item, NoMemory};
+use mark_facts::facts::Facts;
+use mark_facts::rows::row_of;
+use mark_needs::shown::add_item_shows;
+use mark_steps::row_needs::add_row_needs;
+use mark_tables::marker::Marker;
+use named_rules::NamedRules;
+use std::alloc::Global;
+
+/// Puts what the row of a marked item needs at the end, where it is there.
+#[tactic(auto, using(crate::proofs::Lists::none_more))]
+fn add_row(
+    alloc: Global,
+    marker: &Marker<'_>,
+    item: Item,
+    facts: &mut Facts,
+) -> Result<(), NoMemory>
+    requires { IsMarker marker.now }
+    ensures { OnOk result (facts.new ≡ facts.old ++ flat_map (row_needs (all_of marker.now) item) (listed (row_of (all_of marker.now) item))) }
+{
+    let Some(at) = row_of(marker.tables.world.recs.as_slice(), item)? else {
+        return Ok(());
+    };
+    add_row_needs(alloc, marker, item, at, facts)
+}
+
+/// Puts what the attributes of a marked item need at the end.
+fn add_attributes<N: NamedRules>(
+    alloc: Global,
+    marker: &Marker<'_>,
+    named: &N,
+    item: Item,
+    facts: &mut Facts,
+) -> Result<(), NoMemory>
+    requires { N.recs_of named.now ≡ all_of marker.now }
+    ensures { OnOk result (facts.new ≡ facts.old ++ attribute_needs (all_of marker.now) item) }
+{
+    named.add_attributes(alloc, item, facts)
+}
+
+/// Puts what the dependencies of a marked item need at the end.
+fn add_dependencies<N: NamedRules>(
+    alloc: Global,
+    marker: &Marker<'_>,
+    named: &N,
+    item: Item,
+    facts: &mut Facts,
+) -> Result<(), NoMemory>
+    requires { N.recs_of named.now ≡ all_of marker.now }
+    ensures { OnOk result (facts.new ≡ facts.old ++ dependency_needs (all_of marker.now) item) }
+{
+    named.add_dependencies(alloc, item, facts)
+}
+
+/// Puts what descriptors keep where an item is marked at the end.
+fn add_waiting<N: NamedRules>(
+    alloc: Global,
+    marker: &Marker<'_>,
+    named: &N,
+    item: Item,
+    facts: &mut Facts,
+) -> Result<(), NoMemory>
+    requires { N.recs_of named.now ≡ all_of marker.now }
+    ensures { OnOk result (facts.new ≡ facts.old ++ waiting_facts (all_of marker.now) (N.roots_of named.now) item) }
+{
+    named.add_waiting(alloc, item, facts)
+}
+
+/// Puts what attributes, dependencies and descriptors need of a marked item at the end.
+#[tactic(auto, using(crate::proofs::Lists::three_put))]
+fn add_named<N: NamedRules>(
+    alloc: Global,
+    marker: &Marker<'_>,
+    named: &N,
+    item: Item,
+    facts: &mut Facts,
+) -> Result<(), NoMemory>
+    requires { N.recs_of named.now ≡ all_of marker.now }
+    ensures { OnOk result (facts.new ≡ facts.old ++ named_needs (all_of marker.now) (N.roots_of named.now) item) }
+{
+    add_attributes(alloc, marker, named, item, facts)?;
+    add_dependencies(alloc, marker, named, item, facts)?;
+    add_waiting(alloc, marker, named, item, facts)
+}
+
+/// Puts what the row of a marked item needs and what the item shows at the end, with what stands between these.
+#[tactic(auto, using(crate::proofs::Lists::all_put))]
+pub fn add_item_needs<N: NamedRules>(
+    alloc: Global,
+    marker: &Marker<'_>,
+    named: &N,
+    item: Item,
+    facts: &mut Facts,
+) -> Result<(), NoMemory>
+    requires marker { IsMarker marker.now }
+    requires named { N.recs_of named.now ≡ all_of marker.now }
+    ensures { OnOk result (facts.new ≡ facts.old ++ item_needs (all_of marker.now) (N.roots_of named.now) item) }
+{
+    add_row(alloc, marker, item, facts)?;
+    add_named(alloc, marker, named, item, facts)?;
+    add_item_shows(alloc, marker, item, facts)
+}
