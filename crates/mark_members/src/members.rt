@@ -1,0 +1,103 @@
+//! All kinds of members.
+
+ghost use Rattle.std.specs.Prelude.{◌≡◌, ◌++◌, OnOk};
+ghost use Rattle.mark_rules.specs.Members.{members_by};
+ghost use Rattle.mark_tables.specs.Assemblies.{all_of, IsMarker};
+ghost use Rattle.nested_types.specs.Nested.{AreNested};
+ghost use Rattle.mark_members.specs.Items.{methods_and_fields, mapped_items, other_items};
+
+use crate::items::{add_events, add_items, add_properties};
+use crate::nested::add_nested_by;
+use il_base::{Item, NoMemory};
+use link_rules::RowAt;
+use mark_facts::kinds::Kind;
+use mark_kinds::fields::fields_by;
+use mark_kinds::impls::impls_by;
+use mark_kinds::mapped::{events_by, properties_by};
+use mark_kinds::methods::{constructors_by, methods_by};
+use mark_tables::marker::Marker;
+use nested_types::nested::NestedTypes;
+use std::alloc::Global;
+
+/// Puts the constructors, methods and fields that kinds name at the end.
+#[tactic(auto, using(crate::proofs::Lists::methods_put))]
+fn add_methods_and_fields(
+    alloc: Global,
+    marker: &Marker<'_>,
+    kinds: u32,
+    t: RowAt,
+    items: &mut Vec<Item>,
+) -> Result<(), NoMemory>
+    requires { IsMarker marker.now }
+    ensures { OnOk result (items.new.items ≡ items.old.items ++ methods_and_fields (all_of marker.now) kinds t) }
+{
+    let all = marker.tables.world.recs.as_slice();
+    let constructors = constructors_by(alloc, marker, kinds, t)?;
+    let methods = methods_by(alloc, marker, kinds, t)?;
+    let fields = fields_by(alloc, marker, kinds, t)?;
+    add_items(all, Kind::Method, constructors.as_slice(), items)?;
+    add_items(all, Kind::Method, methods.as_slice(), items)?;
+    add_items(all, Kind::Field, fields.as_slice(), items)
+}
+
+/// Puts the properties and events that kinds name at the end, with their accessors.
+#[tactic(auto, using(crate::proofs::Lists::two_put))]
+fn add_mapped(
+    alloc: Global,
+    marker: &Marker<'_>,
+    kinds: u32,
+    t: RowAt,
+    items: &mut Vec<Item>,
+) -> Result<(), NoMemory>
+    requires { IsMarker marker.now }
+    ensures { OnOk result (items.new.items ≡ items.old.items ++ mapped_items (all_of marker.now) kinds t) }
+{
+    let properties = properties_by(alloc, marker, kinds, t)?;
+    let events = events_by(alloc, marker, kinds, t)?;
+    add_properties(alloc, marker, properties.as_slice(), items)?;
+    add_events(alloc, marker, events.as_slice(), items)
+}
+
+/// Puts the nested types and the interface rows that kinds name at the end.
+#[tactic(auto, using(crate::proofs::Lists::two_put))]
+fn add_others(
+    alloc: Global,
+    marker: &Marker<'_>,
+    nested: &NestedTypes,
+    kinds: u32,
+    t: RowAt,
+    items: &mut Vec<Item>,
+) -> Result<(), NoMemory>
+    requires marker { IsMarker marker.now }
+    requires nested { AreNested (all_of marker.now) nested.now }
+    ensures { OnOk result (items.new.items ≡ items.old.items ++ other_items (all_of marker.now) kinds t) }
+{
+    let impls = impls_by(alloc, marker, kinds, t)?;
+    add_nested_by(alloc, marker, nested, kinds, t, items)?;
+    add_items(
+        marker.tables.world.recs.as_slice(),
+        Kind::Interface,
+        impls.as_slice(),
+        items,
+    )
+}
+
+/// Puts the members of a type that kinds name at the end: constructors of the type itself; methods, fields, properties and events
+/// of the type and its bases, the last two with all their accessors; nested types with all that they hold; interface rows.
+#[tactic(auto, unfolding(mark_rules::specs::Members::members_by), using(crate::proofs::Lists::members_put))]
+pub fn add_members_by(
+    alloc: Global,
+    marker: &Marker<'_>,
+    nested: &NestedTypes,
+    kinds: u32,
+    t: RowAt,
+    items: &mut Vec<Item>,
+) -> Result<(), NoMemory>
+    requires marker { IsMarker marker.now }
+    requires nested { AreNested (all_of marker.now) nested.now }
+    ensures { OnOk result (items.new.items ≡ items.old.items ++ members_by (all_of marker.now) kinds t) }
+{
+    add_methods_and_fields(alloc, marker, kinds, t, items)?;
+    add_mapped(alloc, marker, kinds, t, items)?;
+    add_others(alloc, marker, nested, kinds, t, items)
+}
