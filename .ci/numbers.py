@@ -19,7 +19,7 @@ RULES = [
     ("a table has a name in il_base::table", rf"\bfile\.\w+\((?:alloc, )?{NUMBER}"),
     ("a token is made by world_model::token_of, or is FIRST_TYPE_DEF", r"(?<!/ )\b0x(?:[0-2][0-9a-f]|70)00_?[0-9a-f]{4}\b"),
     ("a token is taken apart by world_model::table_of and row_of", r"\btoken\)* *[/%] *(?:0x100_?0000|16777216)\b"),
-    ("flags are tested by il_base::has_flag and access_of", r"\b\w*flags\b\)* *[/%&](?!&) *"),
+    ("flags are tested by il_base::has_flag and access_of", r"\b\w*flags\b\)* *[/%&](?!&)(?! *seen_flags::) *"),
 ]
 # In the crates on linking and types every number of one or two hexadecimal digits is a table's, a flag or an element type.
 NAMED = ("ECMA-335 has a name for it", r"\b0x[0-9a-f]{1,2}\b")
@@ -40,7 +40,7 @@ EXCEPTIONS = {
 }
 # Thin records and their crates name tables and tokens by their numbers.
 THIN = re.compile(r"crates/(?:thin_\w+|trim_\w+|restriction|agreement|written_\w+)/|crates/world_model/specs/Thin\.antt")
-SKIPPED = re.compile(r"/tests(?:/|\.rt$)|/specs/(?:Sample|Examples)\.antt$")
+SKIPPED = re.compile(r"/tests(?:/|\.rt$)|^crates/format_tests/|/specs/(?:Sample|Examples)\.antt$")
 
 
 def plain(path, line):

@@ -4,9 +4,9 @@
     times.py --run LOG [NAME..]    runs `rt ci` (of these crates) into LOG, and ends with its code
     times.py LOG                   prints a table of what that run checked: seconds for proofs, tests and edits
 
-`rt ci` prints no times, so --run looks each half second which of its checks run, and adds a line to LOG for each one that
-ended. A time is that of the clock, with the other checks beside it. That of the edits is a sum over all of a crate and the
-check that they begin with. What an earlier run kept takes no time, and isn't in the table.
+`rt ci` prints no times, so --run looks each half second which of its checks run, and adds a line to LOG for each one as soon
+as it has ended. A time is that of the processors, whatever else runs beside. That of the edits is a sum over all of a crate
+and the check that they begin with. What an earlier run kept takes no time, and isn't in the table.
 """
 import os
 import re
@@ -20,7 +20,7 @@ TICKS = os.sysconf("SC_CLK_TCK")
 
 
 def processes():
-    """Of each process its parent and the second since the machine's start at which it began."""
+    """Of each process its parent, its beginning in seconds since the machine's start, and the seconds that it and its children took."""
     found = {}
     for name in filter(str.isdigit, os.listdir("/proc")):
         try:
@@ -28,7 +28,7 @@ def processes():
                 parts = stat.read().rpartition(")")[2].split()
         except OSError:
             continue
-        found[int(name)] = int(parts[1]), int(parts[19]) / TICKS
+        found[int(name)] = int(parts[1]), int(parts[19]) / TICKS, sum(map(int, parts[11:15])) / TICKS
     return found
 
 
@@ -52,33 +52,32 @@ def check_of(pid):
     return kind, words[words.index("--crate-name") + 1]
 
 
-def now():
-    with open("/proc/uptime") as uptime:
-        return float(uptime.read().split()[0])
-
-
 def look(top, seen):
-    """Notes each check below a process with its beginning and the last second at which it was seen."""
+    """Notes what each check below a process is and has taken so far, and returns those that have ended."""
     found = processes()
-    for pid, (parent, began) in found.items():
+    for pid, (parent, began, taken) in found.items():
         if pid != top and is_below(pid, top, found):
             check = check_of(pid)
             # The jobs of one check are its children.
             if check and check_of(parent) != check:
-                seen[pid, began] = check, now() - began
+                seen[pid, began] = check, taken
+    ended = [key for key in seen if key[0] not in found or found[key[0]][1] != key[1]]
+    return [seen.pop(key) for key in ended]
 
 
 def run(log, names):
     seen = {}
-    with open(log, "w") as out:
-        gate = subprocess.Popen(["rt", "ci", *names], cwd=ROOT, stdin=subprocess.DEVNULL, stdout=out, stderr=subprocess.STDOUT)
-        while gate.poll() is None:
-            look(gate.pid, seen)
-            time.sleep(0.5)
     with open(log, "a") as out:
-        for (kind, crate), seconds in seen.values():
-            out.write("time: %.1f %s %s\n" % (seconds, kind, crate))
-    return gate.returncode
+        gate = subprocess.Popen(["rt", "ci", *names], cwd=ROOT, stdin=subprocess.DEVNULL, stdout=out, stderr=subprocess.STDOUT)
+        while True:
+            is_over = gate.poll() is not None
+            ended = look(gate.pid, seen)
+            for (kind, crate), seconds in [*ended, *(seen.values() if is_over else [])]:
+                out.write("time: %.1f %s %s\n" % (seconds, kind, crate))
+            out.flush()
+            if is_over:
+                return gate.returncode
+            time.sleep(0.5)
 
 
 def order():

@@ -28,6 +28,7 @@ use Rattle.cil_values.specs.declared.layout.Shape.{Shape}
 use Rattle.cil_values.specs.declared.resolved.Use.TheVariants.{Typ as typ, Method as method, Field as field}
 use Rattle.cil_values.specs.declared.layout.Shape.TheVariants.{Structure as structure}
 use Rattle.step_rules.specs.Queries.{Queries}
+use Rattle.step_rules.specs.Closing.{plain}
 use Rattle.change_rules.specs.Change.{Keep}
 use Rattle.change_rules.specs.States.{keeps_cell}
 
@@ -59,7 +60,8 @@ keeps_expr k e = (names_of k e).kept
 abbrev pub shows_expr : Keep → TypeExpr → Bool
 shows_expr k e = both (names_of k e)
 
--- whether a flag is set for the definition that a type is of; an array and a primitive have none and pass, a parameter doesn't
+-- whether a flag is set for the definition that a type without modifiers is of; an array and a primitive have none and pass, a
+-- parameter doesn't
 abbrev pub definition_passes : (ℕ → Bool) → TypeExpr-F TypeExpr → Bool
 definition_passes flag (TypeExpr-F.Def t) = flag t.0
 definition_passes flag (TypeExpr-F.Inst t args) = flag t.0
@@ -68,10 +70,10 @@ definition_passes flag (TypeExpr-F.MVar n) = false
 definition_passes flag _ = true
 
 unfoldable pub makes_expr : Keep → TypeExpr → Bool
-makes_expr k e = definition_passes k.made (out-TypeExpr e)
+makes_expr k e = definition_passes k.made (out-TypeExpr (plain e))
 
 unfoldable pub begins_expr : Keep → TypeExpr → Bool
-begins_expr k e = definition_passes k.begun (out-TypeExpr e)
+begins_expr k e = definition_passes k.begun (out-TypeExpr (plain e))
 
 -- the type of an object
 abbrev pub keeps_made : Keep → TypeExpr → Bool

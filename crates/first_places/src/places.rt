@@ -1,6 +1,6 @@
 ghost use Rattle.std.specs.Prelude.{◌≡◌, IfOk};
-ghost use Rattle.std.specs.Option.{option_copied};
 
+use crate::near::{near_at, near_count, near_places};
 use il_base::NoMemory;
 use std::alloc::Global;
 use std::collections::HashMap;
@@ -9,6 +9,8 @@ use std::collections::HashMap;
 #[derive(Drop)]
 pub struct Places {
     map: HashMap<u32, usize>,
+    /// What the map has for the numbers from 0 on, so that IL offsets are looked up by an index.
+    near: Vec<Option<usize>>,
 }
 
 impl Places {
@@ -24,13 +26,17 @@ impl Places {
                 map.insert(*key, i)?;
             }
         }
-        Ok(Places { map })
+        let near = near_places(alloc, &map, near_count(keys))?;
+        Ok(Places { map, near })
     }
 
     /// The first place of a key, None where it isn't in the list.
     pub fn get(&self, key: u32) -> Option<usize>
         ensures { result ≡ place_in self.now key }
     {
-        self.map.get(&key).copied()
+        match near_at(self.near.as_slice(), key) {
+            Some(found) => found,
+            None => self.map.get(&key).copied(),
+        }
     }
 }

@@ -17,6 +17,7 @@ use Rattle.change_rules.specs.Keeps.{keeps_expr, keeps_value}
 use Rattle.change_rules.specs.Agree.{Agree}
 use Rattle.change_laws.proofs.Values.{move_null, move_i4, move_i8, move_native, move_object, move_pointer, move_handle, move_field_handle, keeps_i4, keeps_i8, keeps_native, parts_moved, move_opened}
 use Rattle.change_laws.proofs.Same.{same_exprs_moved}
+use Rattle.lock_words.proofs.Cases.{alike}
 
 -- ---- references, pointers, numbers
 
@@ -51,15 +52,7 @@ module _ (r : Rho) where
 
   pub worth_moved : (code : ℕ) (v : Value) → worth code (move_value r v) ≡ worth code v
   unfolding worth roll-Value denote.Hole.Carrier.roll out-Value denote.Hole.Carrier.out
-  worth_moved code value.Null = ap (worth code) (move_null r)
-  worth_moved code (value.I4 n) = ap (worth code) (move_i4 r n)
-  worth_moved code (value.I8 n) = ap (worth code) (move_i8 r n)
-  worth_moved code (value.Native n) = ap (worth code) (move_native r n)
-  worth_moved code (value.Object a) = ap (worth code) (move_object r a)
-  worth_moved code (value.Pointer p) = ap (worth code) (move_pointer r p)
-  worth_moved code (value.Handle t) = ap (worth code) (move_handle r t)
-  worth_moved code (value.FieldHandle f) = ap (worth code) (move_field_handle r f)
-  worth_moved code v = ap (worth code) (move_opened r v)
+  worth_moved code v = alike r (worth code) (λ p. refl) (λ e cells. refl) (λ e. refl) (λ f. refl) v
 
   number_by : (b c : Bool) (n : ℤ) → move_value r (if b then value.Native n else if c then value.I8 n else value.I4 n) ≡ (if b then value.Native n else if c then value.I8 n else value.I4 n)
   number_by true c n = move_native r n

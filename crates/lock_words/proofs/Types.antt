@@ -11,7 +11,7 @@ use Rattle.world_model.specs.declared.expr.TypeExpr.TheOpen.{TypeExpr-F}
 use Rattle.world_model.specs.declared.expr.TypeExpr.TheVariants as expr
 use Rattle.world_model.specs.Exprs as exprs
 use Rattle.step_rules.specs.Queries.{Queries}
-use Rattle.step_rules.specs.Closing.{plain_layer, plain, whole_of, whole_if, alone_if, takes, is_whole, is_sound, Standing, standing_layer, standing, is_void_in, is_void, if_so, closed_return, closed_slot}
+use Rattle.step_rules.specs.Closing.{plain_layer, plain, whole_of, whole_if, alone_if, takes, is_whole, is_sound, Standing, standing_layer, standing, is_void_in, is_void, if_so, closed_return, closed_slot, closed_cell_by, closed_cell, closed_arg}
 use Rattle.change_rules.specs.Change.{Rho, Keep, Change}
 use Rattle.change_rules.specs.Moves.{move_expr, move_exprs}
 use Rattle.change_rules.specs.Keeps.{Names, both, names_layer, names_of, keeps_expr, shows_expr}
@@ -187,13 +187,20 @@ module _ (k : Change) (after before : Queries) (a : Agree k after before) where
   standing_moved = ind-TypeExpr StandsAlike (λ x y is. subst (λ z. StandsAlike (roll-TypeExpr z)) is (stand_rolled y))
 
   module _ (targs margs : List TypeExpr) (ts : IsTrue (list_all (shows_expr k.keep) targs)) (ms : IsTrue (list_all (shows_expr k.keep) margs)) where
-    abbrev In : TypeExpr → TypeExpr
+    abbrev pub In : TypeExpr → TypeExpr
     In e = plain (exprs.subst targs margs e)
 
     in_stays : (e : TypeExpr) → IsTrue (keeps_expr k.keep e) → IsTrue (keeps_expr k.keep (In e))
     in_stays e h = (plain_stays k.keep (exprs.subst targs margs e)).kept ((subst_stays k.keep targs margs ts ms e).kept h)
 
-    in_moves : (e : TypeExpr) → plain (exprs.subst (move_exprs k.rho targs) (move_exprs k.rho margs) (move_expr k.rho e)) ≡ move_expr k.rho (In e)
+    -- what is kept stays kept in a closed type, what is shown too stays shown
+    pub in_names : (e : TypeExpr) → Stays (names_of k.keep e) (names_of k.keep (In e))
+    in_names e =
+        let one : Stays (names_of k.keep e) (names_of k.keep (exprs.subst targs margs e)) = subst_stays k.keep targs margs ts ms e in
+        let two : Stays (names_of k.keep (exprs.subst targs margs e)) (names_of k.keep (In e)) = plain_stays k.keep (exprs.subst targs margs e) in
+        record { kept = λ h. two.kept (one.kept h); shown = λ h. two.shown (one.shown h) }
+
+    pub in_moves : (e : TypeExpr) → plain (exprs.subst (move_exprs k.rho targs) (move_exprs k.rho margs) (move_expr k.rho e)) ≡ move_expr k.rho (In e)
     in_moves e = ap plain (sym (subst_moves k.rho targs margs e)) ∙ plain_moved k.rho (exprs.subst targs margs e)
 
     so_moved : (b : Bool) (c : TypeExpr) → if_so b (move_expr k.rho c) ≡ option_map (move_expr k.rho) (if_so b c)
@@ -246,3 +253,49 @@ module _ (k : Change) (after before : Queries) (a : Agree k after before) where
     pub closed_slot_kept : (e c : TypeExpr) → IsTrue (keeps_expr k.keep e) → closed_slot before targs margs e ≡ Some c → IsTrue (keeps_expr k.keep c)
     unfolding closed_slot
     closed_slot_kept e c h is = closed_return_kept e c h (slot_from (closed_return before targs margs e) c is)
+
+    pub closed_return_is : (e c : TypeExpr) → closed_return before targs margs e ≡ Some c → In e ≡ c
+    unfolding closed_return
+    closed_return_is e c is = so_is (is_sound (standing before.head (In e))) (In e) c is
+
+    pub closed_slot_is : (e c : TypeExpr) → closed_slot before targs margs e ≡ Some c → In e ≡ c
+    unfolding closed_slot
+    closed_slot_is e c is = closed_return_is e c (slot_from (closed_return before targs margs e) c is)
+
+    pub closed_slot_shown : (e c : TypeExpr) → IsTrue (shows_expr k.keep e) → closed_slot before targs margs e ≡ Some c → IsTrue (shows_expr k.keep c)
+    closed_slot_shown e c h is = subst (λ (d : TypeExpr). IsTrue (shows_expr k.keep d)) (closed_slot_is e c is) ((in_names e).shown h)
+
+    -- ---- elements, fields and owners
+
+    pub closed_cell_moved : (e : TypeExpr) → IsTrue (keeps_expr k.keep e)
+        → closed_cell after (move_exprs k.rho targs) (move_exprs k.rho margs) (move_expr k.rho e) ≡ option_map (move_expr k.rho) (closed_cell before targs margs e)
+    unfolding closed_cell_by
+    closed_cell_moved e h =
+        ap (λ (c : TypeExpr). if_so (is_whole (standing after.head c)) c) (in_moves e)
+        ∙ ap (λ s. if_so (is_whole s) (move_expr k.rho (In e))) (standing_moved (In e) (in_stays e h))
+        ∙ so_moved (is_whole (standing before.head (In e))) (In e)
+
+    pub closed_cell_is : (e c : TypeExpr) → closed_cell before targs margs e ≡ Some c → In e ≡ c
+    unfolding closed_cell_by
+    closed_cell_is e c is = so_is (is_whole (standing before.head (In e))) (In e) c is
+
+    pub closed_cell_kept : (e c : TypeExpr) → IsTrue (keeps_expr k.keep e) → closed_cell before targs margs e ≡ Some c → IsTrue (keeps_expr k.keep c)
+    closed_cell_kept e c h is = subst (λ (d : TypeExpr). IsTrue (keeps_expr k.keep d)) (closed_cell_is e c is) (in_stays e h)
+
+    pub closed_cell_shown : (e c : TypeExpr) → IsTrue (shows_expr k.keep e) → closed_cell before targs margs e ≡ Some c → IsTrue (shows_expr k.keep c)
+    closed_cell_shown e c h is = subst (λ (d : TypeExpr). IsTrue (shows_expr k.keep d)) (closed_cell_is e c is) ((in_names e).shown h)
+
+    -- ---- arguments, which keep their modifiers
+
+    pub closed_arg_moved : (e : TypeExpr) → IsTrue (keeps_expr k.keep e)
+        → closed_arg after (move_exprs k.rho targs) (move_exprs k.rho margs) (move_expr k.rho e) ≡ option_map (move_expr k.rho) (closed_arg before targs margs e)
+    closed_arg_moved e h =
+        let c : TypeExpr = exprs.subst targs margs e in
+        ap (λ (c : TypeExpr). if_so (is_whole (standing after.head c)) c) (sym (subst_moves k.rho targs margs e))
+        ∙ ap (λ s. if_so (is_whole s) (move_expr k.rho c)) (standing_moved c ((subst_stays k.keep targs margs ts ms e).kept h))
+        ∙ so_moved (is_whole (standing before.head c)) c
+
+    pub closed_arg_shown : (e c : TypeExpr) → IsTrue (shows_expr k.keep e) → closed_arg before targs margs e ≡ Some c → IsTrue (shows_expr k.keep c)
+    closed_arg_shown e c h is =
+        let d : TypeExpr = exprs.subst targs margs e in
+        subst (λ (d : TypeExpr). IsTrue (shows_expr k.keep d)) (so_is (is_whole (standing before.head d)) d c is) ((subst_stays k.keep targs margs ts ms e).shown h)

@@ -1,6 +1,6 @@
 -- One lemma for each word in which a form is written.
 use Rattle.std.proofs.Common.{◌≡◌, ℕ, List, [], ◌∷◌, ◌++◌, length, Bool, true, false, Option, Some, None, refl, sym, subst}
-use Rattle.std.specs.Prelude.{IsTrue}
+use Rattle.std.specs.Prelude.{IsTrue, if◌then◌else◌}
 use Rattle.std.specs.Option.{option_map}
 use Rattle.std.proofs.lemmas.List.{length-map, map-append}
 use Rattle.std.proofs.lemmas.List.Folds.{list_all-map}
@@ -41,6 +41,15 @@ module _ (k : Change) (q : Queries) where
   given_lock None s f g h = stuck_lock s
   given_lock (Some x) s f g h = h x refl
 
+  pub given_same : {A : Type 0} (n o : Option A) (s : State) (f g : A → Next) → n ≡ o → ((x : A) → o ≡ Some x → Lock k q (f x) (g x))
+      → Lock k q (given n (move_state k q s) f) (given o s g)
+  given_same {A} n o s f g e h = subst (λ (m : Option A). Lock k q (given m (move_state k q s) f) (given o s g)) (sym e) (given_lock o s f g h)
+
+  pub had_lock : {A : Type 0} (o : Option A) (s : State) (f g : A → Next) → ((x : A) → o ≡ Some x → Lock k q (f x) (g x))
+      → Lock k q (had o (move_state k q s) f) (had o s g)
+  had_lock None s f g h = stopped_lock s
+  had_lock (Some x) s f g h = h x refl
+
   -- one whose answer moves
   pub given_moved : {A B : Type 0} (move : A → B) (o : Option A) (n : Option B) (s : State) (f : B → Next) (g : A → Next) → n ≡ option_map move o
       → ((x : A) → o ≡ Some x → Lock k q (f (move x)) (g x)) → Lock k q (given n (move_state k q s) f) (given o s g)
@@ -80,6 +89,14 @@ module _ (k : Change) (q : Queries) where
       by_cases true h = h refl
       by_cases false h = stopped_lock s
 
+  -- a test that both sides do alike
+  pub if_lock : (a b : Bool) (x y z w : Next) → a ≡ b → (b ≡ true → Lock k q x y) → (b ≡ false → Lock k q z w) → Lock k q (if a then x else z) (if b then y else w)
+  if_lock a b x y z w e f g = subst (λ (c : Bool). Lock k q (if c then x else z) (if b then y else w)) (sym e) (by_cases b f g)
+    where
+      by_cases : (b : Bool) → (b ≡ true → Lock k q x y) → (b ≡ false → Lock k q z w) → Lock k q (if b then x else z) (if b then y else w)
+      by_cases true f g = f refl
+      by_cases false f g = g refl
+
   pub popped_lock : (stack : List Value) (s : State) (f g : Value → List Value → Next) → IsTrue (keeps_values k.keep stack)
       → ((v : Value) (rest : List Value) → IsTrue (keeps_value k.keep v) → IsTrue (keeps_values k.keep rest) → Lock k q (f (move_value k.rho v) (move_values k.rho rest)) (g v rest))
       → Lock k q (popped (move_values k.rho stack) (move_state k q s) f) (popped stack s g)
@@ -118,6 +135,13 @@ module _ (k : Change) (q : Queries) where
   pushes_lock here i w v s e c h =
       subst (λ (x : Value). Lock k q (goes (move_here k.rho here) (move_instruction k.rho i) (x ∷ move_values k.rho s.top.stack) (move_state k q s)) (goes here i (v ∷ s.top.stack) s)) (sym e)
       (goes_lock here i (v ∷ s.top.stack) s c (all_push (keeps_value k.keep) v s.top.stack h c.top.stack))
+
+  -- onto what is left of the stack
+  pub push_lock : (here : Here) (i : Instruction) (w v : Value) (stack : List Value) (s : State) → w ≡ move_value k.rho v → Covered k.keep q s → IsTrue (keeps_value k.keep v) → IsTrue (keeps_values k.keep stack)
+      → Lock k q (goes (move_here k.rho here) (move_instruction k.rho i) (w ∷ move_values k.rho stack) (move_state k q s)) (goes here i (v ∷ stack) s)
+  push_lock here i w v stack s e c h st =
+      subst (λ (x : Value). Lock k q (goes (move_here k.rho here) (move_instruction k.rho i) (x ∷ move_values k.rho stack) (move_state k q s)) (goes here i (v ∷ stack) s)) (sym e)
+      (goes_lock here i (v ∷ stack) s c (all_push (keeps_value k.keep) v stack h st))
 
   pub branches_lock : (here : Here) (i : Instruction) (to : ℕ) (stack : List Value) (s : State) → Covered k.keep q s → IsTrue (keeps_values k.keep stack)
       → Lock k q (branches (move_here k.rho here) (move_instruction k.rho i) to (move_values k.rho stack) (move_state k q s)) (branches here i to stack s)

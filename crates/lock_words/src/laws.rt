@@ -1,6 +1,13 @@
-ghost use Rattle.lock_words.specs.Laws.{SlotsLock};
+ghost use Rattle.lock_words.specs.Laws.{SlotsLock, MadeStay, BegunStay};
 
 /// A law: the forms on arguments, locals, constants and the stack keep step. It does nothing.
 pub fn slots_lock()
     ensures { SlotsLock }
+{}
+
+/// A law: a type of which there can be objects stays one with arguments put in and without modifiers, and so does a type whose
+/// initializer an access can begin. It does nothing.
+pub fn closed_types_stay()
+    ensures made { MadeStay }
+    ensures begun { BegunStay }
 {}

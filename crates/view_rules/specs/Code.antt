@@ -22,7 +22,7 @@ use Rattle.body_grammar.specs.BodySpelling.{instr_bytes}
 use Rattle.link_rules.specs.Signatures.{names_at, token_type}
 use Rattle.link_rules.specs.Members.{arguments_of}
 use Rattle.mark_rules.specs.Naming.{method_named, field_named}
-use Rattle.mark_rules.specs.Bodies.{is_field_token, is_method_token}
+use Rattle.mark_rules.specs.Bodies.{is_field_token, is_method_token, is_catch}
 use Rattle.cil_values.specs.declared.resolved.Use.{Use}
 use Rattle.cil_values.specs.declared.resolved.Instruction.{Instruction}
 use Rattle.cil_values.specs.declared.resolved.ClauseKind.{ClauseKind as Kind}
@@ -75,6 +75,10 @@ instruction_of recs a rec i = record { at = i.at; next = (i.at + length (instr_b
 abbrev pub kind_by : ℕ → Kind
 kind_by n = if n == 0 then catches else if n == 2 then finally else fault
 
+-- the type of a catch clause; another clause has none
+abbrev pub caught_by : List AsmRec → ℕ → AsmRec → Handler → Known TypeExpr
+caught_by recs a rec h = if is_catch h then token_type recs a rec h.token else Bad Unresolved
+
 unfoldable pub clause_of : List AsmRec → ℕ → AsmRec → Handler → Clause
 clause_of recs a rec h = record {
   kind = kind_by h.kind;
@@ -82,7 +86,7 @@ clause_of recs a rec h = record {
   try_end = h.try_at + h.try_len;
   at = h.at;
   end = h.at + h.len;
-  caught = token_type recs a rec h.token;
+  caught = caught_by recs a rec h;
 }
 
 -- ---- locals (II.23.2.6)

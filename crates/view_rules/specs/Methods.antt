@@ -1,5 +1,5 @@
--- What a world answers on methods, fields and type definitions.
-use Rattle.std.specs.Prelude.{ℕ, suc, List, [], ◌∷◌, length, codes, Option, Some, None, slice_get, ◌==◌, ◌&&◌, Bool, not, if◌then◌else◌}
+-- What a world answers on methods, fields and type definitions. Of their flags it tells those that a step looks at.
+use Rattle.std.specs.Prelude.{ℕ, suc, List, [], ◌∷◌, length, codes, Option, Some, None, slice_get, bit_and, ◌==◌, ◌&&◌, Bool, not, if◌then◌else◌}
 use Rattle.std.specs.List.{list_any, flat_map}
 use Rattle.std.specs.Option.{option_and_then, option_map}
 use Rattle.il_base.specs.declared.body.Body.{Body}
@@ -35,6 +35,7 @@ use Rattle.cil_values.specs.declared.definition.Head.{Head}
 use Rattle.cil_values.specs.declared.definition.First.{First}
 use Rattle.cil_values.specs.declared.resolved.Code.{Code}
 use Rattle.cil_values.specs.declared.definition.First.TheVariants.{Blank as blank, Bytes as bytes, EmptyText as empty_text}
+use Rattle.view_rules.specs.declared.seen_flags.TheConstants as seen
 use Rattle.view_rules.specs.Code.{code_of}
 
 -- ---- methods
@@ -60,7 +61,7 @@ body_of recs at rec m =
 
 abbrev pub method_by : List AsmRec → RowAt → AsmRec → MethodDefRow → RowAt → Method
 method_by recs at rec m owner = record {
-  flags = m.flags;
+  flags = bit_and m.flags seen.METHOD;
   owner = (type_id recs owner.asm owner.row).0;
   constructor = same_name m.name (codes ".ctor");
   signature = known_map signature_by (known_then (method_type (names_at recs at.asm rec)) m.signature);
@@ -107,7 +108,7 @@ field_owner at rec = option_map (at_row at.asm) (owner_of_field rec at.row)
 
 abbrev pub field_by : List AsmRec → RowAt → AsmRec → FieldRow → FieldDef
 field_by recs at rec f =
-    record { flags = f.flags; typ = field_type recs at rec (field_owner at rec) f; first = first_of recs at rec (field_owner at rec) }
+    record { flags = bit_and f.flags seen.FIELD; typ = field_type recs at rec (field_owner at rec) f; first = first_of recs at rec (field_owner at rec) }
 
 abbrev pub field_at : List AsmRec → RowAt → Option FieldDef
 field_at recs at = option_and_then (λ (rec : AsmRec). option_map (field_by recs at rec) (slice_get rec.field at.row)) (rec_at recs at)
@@ -119,7 +120,7 @@ field_query recs f = option_and_then (field_at recs) (home_from fields_in 0 recs
 
 abbrev pub head_at : List AsmRec → RowAt → Option Head
 head_at recs at =
-    option_and_then (λ (rec : AsmRec). option_map (λ (t : TypeDefRow). record { flags = t.flags; params = param_count rec at.row }) (slice_get rec.type_def at.row)) (rec_at recs at)
+    option_and_then (λ (rec : AsmRec). option_map (λ (t : TypeDefRow). record { flags = bit_and t.flags seen.TYPE; params = param_count rec at.row }) (slice_get rec.type_def at.row)) (rec_at recs at)
 
 unfoldable pub head_query : List AsmRec → ℕ → Option Head
 head_query recs t = option_and_then (head_at recs) (type_home recs (record { 0 = t }))

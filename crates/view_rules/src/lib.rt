@@ -2,6 +2,8 @@
 //! what types hold, initializers, virtual calls, members of the core library. The functions are laws that state examples.
 #![tactic(auto)]
 
+pub mod seen_flags;
+
 ghost use Rattle.view_rules.specs.Examples.{HasBytes, HasNone, ClassIsReference, StructHasCells, EnumIsNumber, EnumOfEnum, TooDeep, NumberIsThere};
 
 /// What fields of a small input have at first. It does nothing.

@@ -4,7 +4,7 @@ ghost use Rattle.std.specs.Prelude.{◌≡◌, ◌+◌, ◌%◌, length, map, If
 ghost use Rattle.std.specs.Option.{option_copied};
 ghost use Rattle.body_grammar.specs.BodySpelling.{instr_bytes};
 ghost use Rattle.mark_tables.specs.Assemblies.{recs_of, place_of, rec_of, IsAssembly};
-ghost use Rattle.view_rules.specs.Code.{instruction_of, clause_of, kind_by, locals_of, locals_row, code_of};
+ghost use Rattle.view_rules.specs.Code.{instruction_of, clause_of, caught_by, kind_by, locals_of, locals_row, code_of};
 
 use crate::operands::use_by;
 use crate::tokens::type_named;
@@ -83,6 +83,18 @@ fn end_of(at: u32, len: u32) -> Result<u32, NoMemory>
     }
 }
 
+/// The type of a catch clause; another clause has none.
+fn caught_by(alloc: Global, asm: &Assembly<'_>, h: &Handler) -> Result<Known<TypeExpr>, NoMemory>
+    requires { IsAssembly asm.now }
+    ensures { IfOk result (λ c. c ≡ caught_by (recs_of asm.now) (place_of asm.now) (rec_of asm.now) h.now) }
+{
+    if h.kind != CATCH {
+        return Ok(Known::Bad(BadKind::Unresolved));
+    }
+    let caught = type_named(alloc, asm, h.token)?;
+    Ok(caught)
+}
+
 /// An exception handling clause.
 #[tactic(auto, unfolding(view_rules::specs::Code::clause_of))]
 fn clause(alloc: Global, asm: &Assembly<'_>, h: &Handler) -> Result<Clause, NoMemory>
@@ -91,7 +103,7 @@ fn clause(alloc: Global, asm: &Assembly<'_>, h: &Handler) -> Result<Clause, NoMe
 {
     let try_end = end_of(h.try_at, h.try_len)?;
     let end = end_of(h.at, h.len)?;
-    let caught = type_named(alloc, asm, h.token)?;
+    let caught = caught_by(alloc, asm, h)?;
     Ok(Clause {
         kind: kind_by(h.kind),
         try_at: h.try_at,

@@ -22,6 +22,7 @@ use mark_tables::assembly::Assembly;
 use mark_tables::marker::Marker;
 use member_search::method_types::open_type;
 use std::alloc::Global;
+use view_rules::seen_flags;
 use world_methods::outside::{is_core, is_global, type_row_at};
 use world_model::{AsmRec, BadKind, FieldRow, FieldRvaRow, Known, TypeDefRow, TypeExpr, token_of};
 
@@ -186,7 +187,7 @@ fn field_by(
     let typ = field_type(alloc, asm, row, owner, f)?;
     let first = first_of(alloc, asm, places, row, owner)?;
     Ok(FieldDef {
-        flags: f.flags,
+        flags: f.flags & seen_flags::FIELD,
         typ,
         first,
     })

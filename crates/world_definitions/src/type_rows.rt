@@ -13,6 +13,7 @@ use mark_tables::marker::Marker;
 use member_search::params::{ParamCounts, param_count};
 use std::alloc::Global;
 use type_tables::methods::method_id;
+use view_rules::seen_flags;
 
 /// The head of a type in a row of an assembly.
 pub(crate) fn head_at(
@@ -33,7 +34,7 @@ pub(crate) fn head_at(
     };
     let params = param_count(rec, params, at.row)?;
     Ok(Some(Head {
-        flags: t.flags,
+        flags: t.flags & seen_flags::TYPE,
         params,
     }))
 }

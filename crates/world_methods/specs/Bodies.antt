@@ -1,5 +1,5 @@
 -- Methods whose type is known.
-use Rattle.std.specs.Prelude.{List, codes, Option, Some, None, if◌then◌else◌}
+use Rattle.std.specs.Prelude.{List, codes, bit_and, Option, Some, None, if◌then◌else◌}
 use Rattle.std.specs.Option.{option_map}
 use Rattle.il_base.specs.declared.outside.TheConstants.{PLATFORM, INTERFACE_BODY, GLOBAL_MEMBER}
 use Rattle.world_model.specs.declared.known.Known.{Known}
@@ -14,6 +14,7 @@ use Rattle.link_rules.specs.Signatures.{names_at, method_type}
 use Rattle.mark_rules.specs.BadItems.{is_global, is_platform}
 use Rattle.cil_values.specs.declared.definition.Method.{Method}
 use Rattle.cil_values.specs.declared.resolved.Code.{Code}
+use Rattle.view_rules.specs.declared.seen_flags.TheConstants.{METHOD}
 use Rattle.view_rules.specs.Methods.{signature_by, body_by, is_core_row}
 use Rattle.world_methods.specs.Outside.{is_bad_there}
 
@@ -29,7 +30,7 @@ body_in recs at rec owner m =
 -- `method_by` of a method in a type
 abbrev pub method_in : List AsmRec → RowAt → AsmRec → MethodDefRow → RowAt → Option RowAt → Method
 method_in recs at rec m owner among = record {
-  flags = m.flags;
+  flags = bit_and m.flags METHOD;
   owner = (type_id recs owner.asm owner.row).0;
   constructor = same_name m.name (codes ".ctor");
   signature = known_map signature_by (known_then (method_type (names_at recs at.asm rec)) m.signature);

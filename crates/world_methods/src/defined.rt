@@ -15,6 +15,7 @@ use mark_tables::assembly::Assembly;
 use mark_tables::marker::Marker;
 use std::alloc::Global;
 use type_tables::methods::type_of_method;
+use view_rules::seen_flags;
 use world_code::code::code_of;
 use world_model::{BadKind, Known, MethodDefRow};
 
@@ -79,7 +80,7 @@ fn method_in(
     let signature = signature_of(alloc, asm, &m.signature)?;
     let body = body_in(alloc, asm, row, owner, m)?;
     Ok(Method {
-        flags: m.flags,
+        flags: m.flags & seen_flags::METHOD,
         owner: place,
         constructor: is_constructor(m),
         signature,

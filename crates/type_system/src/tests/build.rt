@@ -215,25 +215,6 @@ pub fn class_with_field(
     define(rec, alloc, 0x0010_0001, name, extends, 1, methods)
 }
 
-/// A struct with one instance field of the type of a TypeDef row, by way of the TypeRef row of System.ValueType.
-pub fn value_with_field(
-    rec: &mut AsmRec,
-    alloc: Global,
-    name: &[u8],
-    base: u32,
-    field: u32,
-) -> Result<(), NoMemory> {
-    define(rec, alloc, 0x0010_0109, name, base, 1, 0)?;
-    rec.field.push(FieldRow {
-        flags: 0x06,
-        name: text(alloc, b"field")?,
-        signature: Known::Good(Sig::Named {
-            value: true,
-            token: field,
-        }),
-    })
-}
-
 /// An interface without methods whose row has a base, which no interface has.
 pub fn interface_with_base(
     rec: &mut AsmRec,

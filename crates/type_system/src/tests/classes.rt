@@ -63,32 +63,6 @@ fn hidden_slots(rt: HostRuntime) -> Result<(), Fail> {
     Ok(())
 }
 
-/// Types 1 to 3, methods 0 A.M and 1 C.M:
-///
-/// ```text
-/// class A     { public virtual void M(); }
-/// class B : A {}
-/// class C : B { public override void M(); }
-/// ```
-fn fill_inherited(rec: &mut AsmRec, alloc: Global) -> Result<(), NoMemory> {
-    begin(rec, alloc, b"App")?;
-    class(rec, alloc, b"A", OBJECT, 1)?;
-    method(rec, alloc, b"M", VIRTUAL)?;
-    class(rec, alloc, b"B", 0x0200_0002, 0)?;
-    class(rec, alloc, b"C", 0x0200_0003, 1)?;
-    method(rec, alloc, b"M", OVERRIDE)
-}
-
-/// A class without the method has that of its base.
-#[test]
-fn inherited_methods(rt: HostRuntime) -> Result<(), Fail> {
-    let alloc = rt.alloc();
-    let world = built(alloc, fill_inherited)?;
-    let found = answers(alloc, &world, &[(2, 0), (3, 0)])?;
-    assert_eq!(rt; found.as_slice(), [Some(0), Some(1)].as_slice());
-    Ok(())
-}
-
 /// Types 1 to 3, each with one method, 0 to 2:
 ///
 /// ```text
@@ -114,55 +88,5 @@ fn slots_by_method_impl(rt: HostRuntime) -> Result<(), Fail> {
     let world = built(alloc, fill_renamed)?;
     let found = answers(alloc, &world, &[(2, 0), (3, 0), (3, 1)])?;
     assert_eq!(rt; found.as_slice(), [Some(1), Some(1), Some(2)].as_slice());
-    Ok(())
-}
-
-/// Types 1 and 2, methods 0 B.M, 1 B.N, 2 S.M:
-///
-/// ```text
-/// class B     { public virtual void M(); public virtual void N(); .override B::M with B::N }
-/// class S : B { public new virtual void M(); }
-/// ```
-fn fill_renamed_base(rec: &mut AsmRec, alloc: Global) -> Result<(), NoMemory> {
-    begin(rec, alloc, b"App")?;
-    class(rec, alloc, b"B", OBJECT, 2)?;
-    method(rec, alloc, b"M", VIRTUAL)?;
-    method(rec, alloc, b"N", VIRTUAL)?;
-    override_by(rec, 0x0200_0002, 0x0600_0002, 0x0600_0001)?;
-    class(rec, alloc, b"S", 0x0200_0002, 1)?;
-    method(rec, alloc, b"M", VIRTUAL)
-}
-
-/// A MethodImpl row of a base is for the base's slot, and for no slot that hides it.
-#[test]
-fn hidden_slots_by_method_impl(rt: HostRuntime) -> Result<(), Fail> {
-    let alloc = rt.alloc();
-    let world = built(alloc, fill_renamed_base)?;
-    let found = answers(alloc, &world, &[(2, 0), (2, 2)])?;
-    assert_eq!(rt; found.as_slice(), [Some(1), Some(2)].as_slice());
-    Ok(())
-}
-
-/// Types 1 and 2, each with one method, 0 and 1:
-///
-/// ```text
-/// class A          { public void M(); }
-/// abstract class B { public abstract void M(); }
-/// ```
-fn fill_plain(rec: &mut AsmRec, alloc: Global) -> Result<(), NoMemory> {
-    begin(rec, alloc, b"App")?;
-    class(rec, alloc, b"A", OBJECT, 1)?;
-    method(rec, alloc, b"M", PLAIN)?;
-    class(rec, alloc, b"B", OBJECT, 1)?;
-    method(rec, alloc, b"M", ABSTRACT)
-}
-
-/// A method that isn't virtual has no slot. An abstract one has, and is what is found there.
-#[test]
-fn plain_and_abstract_methods(rt: HostRuntime) -> Result<(), Fail> {
-    let alloc = rt.alloc();
-    let world = built(alloc, fill_plain)?;
-    let found = answers(alloc, &world, &[(1, 0), (2, 1)])?;
-    assert_eq!(rt; found.as_slice(), [None, Some(1)].as_slice());
     Ok(())
 }

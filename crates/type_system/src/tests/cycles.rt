@@ -19,57 +19,6 @@ fn fault_of<F: FnOnce(&mut AsmRec, Global) -> Result<(), NoMemory>>(
     fault(alloc, recs)
 }
 
-/// Types 1 to 3: `class T {}`, `class A : B {}` and `class B : A {}`.
-fn fill_bases(rec: &mut AsmRec, alloc: Global) -> Result<(), NoMemory> {
-    begin(rec, alloc, b"App")?;
-    class(rec, alloc, b"T", OBJECT, 0)?;
-    class(rec, alloc, b"A", 0x0200_0004, 0)?;
-    class(rec, alloc, b"B", 0x0200_0003, 0)
-}
-
-#[test]
-fn bases(rt: HostRuntime) -> Result<(), Fail> {
-    let alloc = rt.alloc();
-    assert_eq!(rt; fault_of(alloc, fill_bases)?, Some((0, 15, 0x0200_0003)));
-    Ok(())
-}
-
-/// Types 1 to 3: `class T : J {}`, `interface I : J {}` and `interface J : I {}`.
-fn fill_interfaces(rec: &mut AsmRec, alloc: Global) -> Result<(), NoMemory> {
-    begin(rec, alloc, b"App")?;
-    class(rec, alloc, b"T", OBJECT, 0)?;
-    interface(rec, alloc, b"I", 0)?;
-    interface(rec, alloc, b"J", 0)?;
-    implement(rec, 0x0200_0002, 0x0200_0004)?;
-    implement(rec, 0x0200_0003, 0x0200_0004)?;
-    implement(rec, 0x0200_0004, 0x0200_0003)
-}
-
-#[test]
-fn interfaces(rt: HostRuntime) -> Result<(), Fail> {
-    let alloc = rt.alloc();
-    assert_eq!(rt;
-        fault_of(alloc, fill_interfaces)?,
-        Some((0, 15, 0x0200_0003))
-    );
-    Ok(())
-}
-
-/// Types 1 and 2: `class T {}` and `struct S { S field; }`.
-fn fill_values(rec: &mut AsmRec, alloc: Global) -> Result<(), NoMemory> {
-    begin(rec, alloc, b"App")?;
-    mention(rec, alloc, 0x2300_0001, b"System", b"ValueType")?;
-    class(rec, alloc, b"T", OBJECT, 0)?;
-    value_with_field(rec, alloc, b"S", 0x0100_0002, 0x0200_0003)
-}
-
-#[test]
-fn values(rt: HostRuntime) -> Result<(), Fail> {
-    let alloc = rt.alloc();
-    assert_eq!(rt; fault_of(alloc, fill_values)?, Some((0, 15, 0x0200_0003)));
-    Ok(())
-}
-
 /// Types 1 and 2: `class C : I {}`, and an interface `I` whose Extends names `C`, and which has a row of InterfaceImpl for
 /// `C`. Both name no type above an interface.
 fn fill_mixed(rec: &mut AsmRec, alloc: Global) -> Result<(), NoMemory> {

@@ -50,36 +50,6 @@ fn fill_interface(rec: &mut AsmRec, alloc: Global) -> Result<(), NoMemory> {
     method(rec, alloc, b"M", ABSTRACT)
 }
 
-/// Types 1 to 4, methods 0 I.M, 1 A.M, 2 B.M, 3 C.M:
-///
-/// ```text
-/// interface I    { void M(); }
-/// class A : I    { public virtual void M(); }
-/// class B : A, I { public new virtual void M(); }
-/// class C : A    { public new virtual void M(); }
-/// ```
-fn fill_implemented_again(rec: &mut AsmRec, alloc: Global) -> Result<(), NoMemory> {
-    fill_interface(rec, alloc)?;
-    class(rec, alloc, b"A", OBJECT, 1)?;
-    method(rec, alloc, b"M", VIRTUAL)?;
-    class(rec, alloc, b"B", 0x0200_0003, 1)?;
-    method(rec, alloc, b"M", VIRTUAL)?;
-    class(rec, alloc, b"C", 0x0200_0003, 1)?;
-    method(rec, alloc, b"M", VIRTUAL)?;
-    implement(rec, 0x0200_0003, 0x0200_0002)?;
-    implement(rec, 0x0200_0004, 0x0200_0002)
-}
-
-/// A new method is the interface's only where its class lists the interface.
-#[test]
-fn interfaces_that_are_listed_again(rt: HostRuntime) -> Result<(), Fail> {
-    let alloc = rt.alloc();
-    let world = built(alloc, fill_implemented_again)?;
-    let found = answers(alloc, &world, &[2, 3, 4])?;
-    assert_eq!(rt; found.as_slice(), [Some(1), Some(2), Some(1)].as_slice());
-    Ok(())
-}
-
 /// Types 1 to 3, methods 0 I.M, 1 A.I.M, 2 A.M:
 ///
 /// ```text
@@ -108,84 +78,6 @@ fn explicit_implementations(rt: HostRuntime) -> Result<(), Fail> {
     Ok(())
 }
 
-/// Types 1 to 4, methods 0 I.M, 1 B.N, 2 D.N:
-///
-/// ```text
-/// interface I    { void M(); }
-/// class B        { public virtual void N(); }
-/// class C : B, I { .override I::M with B::N }
-/// class D : C    { public override void N(); }
-/// ```
-fn fill_base_body(rec: &mut AsmRec, alloc: Global) -> Result<(), NoMemory> {
-    fill_interface(rec, alloc)?;
-    class(rec, alloc, b"B", OBJECT, 1)?;
-    method(rec, alloc, b"N", VIRTUAL)?;
-    class(rec, alloc, b"C", 0x0200_0003, 0)?;
-    class(rec, alloc, b"D", 0x0200_0004, 1)?;
-    method(rec, alloc, b"N", OVERRIDE)?;
-    implement(rec, 0x0200_0004, 0x0200_0002)?;
-    override_by(rec, 0x0200_0004, 0x0600_0002, 0x0600_0001)
-}
-
-/// The body of a MethodImpl row can be a base's, and what overrides it then answers.
-#[test]
-fn bodies_of_bases(rt: HostRuntime) -> Result<(), Fail> {
-    let alloc = rt.alloc();
-    let world = built(alloc, fill_base_body)?;
-    let found = answers(alloc, &world, &[3, 4])?;
-    assert_eq!(rt; found.as_slice(), [Some(1), Some(2)].as_slice());
-    Ok(())
-}
-
-/// Types 1 to 3, methods 0 I.M, 1 A.M:
-///
-/// ```text
-/// interface I     { void M(); }
-/// interface J : I {}
-/// class A : J     { public virtual void M(); }
-/// ```
-fn fill_implied(rec: &mut AsmRec, alloc: Global) -> Result<(), NoMemory> {
-    fill_interface(rec, alloc)?;
-    interface(rec, alloc, b"J", 0)?;
-    class(rec, alloc, b"A", OBJECT, 1)?;
-    method(rec, alloc, b"M", VIRTUAL)?;
-    implement(rec, 0x0200_0003, 0x0200_0002)?;
-    implement(rec, 0x0200_0004, 0x0200_0003)
-}
-
-/// An interface brings those that it lists itself.
-#[test]
-fn interfaces_of_interfaces(rt: HostRuntime) -> Result<(), Fail> {
-    let alloc = rt.alloc();
-    let world = built(alloc, fill_implied)?;
-    let found = answers(alloc, &world, &[3])?;
-    assert_eq!(rt; found.as_slice(), [Some(1)].as_slice());
-    Ok(())
-}
-
-/// Types 1 and 2, methods 0 I.M, 1 A.M:
-///
-/// ```text
-/// interface I { void M(); }
-/// class A : I { protected virtual void M(); }
-/// ```
-fn fill_protected(rec: &mut AsmRec, alloc: Global) -> Result<(), NoMemory> {
-    fill_interface(rec, alloc)?;
-    class(rec, alloc, b"A", OBJECT, 1)?;
-    method(rec, alloc, b"M", FAMILY)?;
-    implement(rec, 0x0200_0003, 0x0200_0002)
-}
-
-/// By its name a method is an interface's only if it is public.
-#[test]
-fn methods_that_are_not_public(rt: HostRuntime) -> Result<(), Fail> {
-    let alloc = rt.alloc();
-    let world = built(alloc, fill_protected)?;
-    let found = answers(alloc, &world, &[2])?;
-    assert_eq!(rt; found.as_slice(), [None].as_slice());
-    Ok(())
-}
-
 /// Types 1 to 3, methods 0 I.M, 1 B.M:
 ///
 /// ```text
@@ -208,41 +100,5 @@ fn methods_of_bases(rt: HostRuntime) -> Result<(), Fail> {
     let world = built(alloc, fill_of_base)?;
     let found = answers(alloc, &world, &[3])?;
     assert_eq!(rt; found.as_slice(), [Some(1)].as_slice());
-    Ok(())
-}
-
-/// Type 1, method 0: `class A : I { public virtual void M(); }` of `I` of another assembly.
-fn fill_plugin(rec: &mut AsmRec, alloc: Global) -> Result<(), NoMemory> {
-    begin(rec, alloc, b"App")?;
-    refer(rec, alloc, b"Lib")?;
-    mention(rec, alloc, 0x2300_0002, b"", b"I")?;
-    class(rec, alloc, b"A", OBJECT, 1)?;
-    method(rec, alloc, b"M", VIRTUAL)?;
-    implement(rec, 0x0200_0002, 0x0100_0002)
-}
-
-/// Type 3 behind those of the first assembly, method 1: `interface I { void M(); }`.
-fn fill_lib(rec: &mut AsmRec, alloc: Global) -> Result<(), NoMemory> {
-    begin(rec, alloc, b"Lib")?;
-    interface(rec, alloc, b"I", 1)?;
-    method(rec, alloc, b"M", ABSTRACT)
-}
-
-fn plugin_world(alloc: Global) -> Result<World, NoMemory>
-    ensures { IfOk result IsWorld }
-{
-    let mut recs = Seq::new(alloc);
-    push_filled(&mut recs, alloc, fill_plugin)?;
-    push_filled(&mut recs, alloc, fill_lib)?;
-    world(alloc, recs)
-}
-
-/// An interface of another assembly.
-#[test]
-fn interfaces_of_other_assemblies(rt: HostRuntime) -> Result<(), Fail> {
-    let alloc = rt.alloc();
-    let world = plugin_world(alloc)?;
-    let types = Types::new(alloc, &world)?;
-    assert_eq!(rt; answer(alloc, &types, &def(1), &def(3), 1)?, Some(0));
     Ok(())
 }

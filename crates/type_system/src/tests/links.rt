@@ -25,51 +25,6 @@ pub fn fault(alloc: Global, recs: Seq<AsmRec>) -> Result<Option<(u32, u8, u32)>,
     }
 }
 
-fn push_one_name(alloc: Global, recs: &mut Seq<AsmRec>) -> Result<(), NoMemory> {
-    recs.push(named(alloc, b"App")?)?;
-    recs.push(named(alloc, b"App")?)
-}
-
-#[test]
-fn assemblies_of_one_name(rt: HostRuntime) -> Result<(), Fail> {
-    let alloc = rt.alloc();
-    let mut recs = Seq::new(alloc);
-    push_one_name(alloc, &mut recs)?;
-    assert_eq!(rt; fault(alloc, recs)?, Some((1, 14, 0)));
-    Ok(())
-}
-
-/// The type of a token is nested in that of another.
-fn nest(rec: &mut AsmRec, nested_class: u32, enclosing_class: u32) -> Result<(), NoMemory> {
-    rec.nested_class.push(NestedClassRow {
-        nested_class,
-        enclosing_class,
-    })
-}
-
-/// Types 1 and 2, each of them nested in the other.
-fn fill_enclosing(rec: &mut AsmRec, alloc: Global) -> Result<(), NoMemory> {
-    begin(rec, alloc, b"Lib")?;
-    class(rec, alloc, b"Outer", OBJECT, 0)?;
-    class(rec, alloc, b"Inner", OBJECT, 0)?;
-    nest(rec, 0x0200_0002, 0x0200_0003)?;
-    nest(rec, 0x0200_0003, 0x0200_0002)
-}
-
-fn push_enclosing(alloc: Global, recs: &mut Seq<AsmRec>) -> Result<(), NoMemory> {
-    recs.push(named(alloc, b"App")?)?;
-    push_filled(recs, alloc, fill_enclosing)
-}
-
-#[test]
-fn types_that_enclose_each_other(rt: HostRuntime) -> Result<(), Fail> {
-    let alloc = rt.alloc();
-    let mut recs = Seq::new(alloc);
-    push_enclosing(alloc, &mut recs)?;
-    assert_eq!(rt; fault(alloc, recs)?, Some((1, 16, 0x2900_0001)));
-    Ok(())
-}
-
 /// An assembly that forwards the type `T` to another.
 fn fill_forwarding(rec: &mut AsmRec, alloc: Global, own: &[u8], to: &[u8]) -> Result<(), NoMemory> {
     begin(rec, alloc, own)?;
@@ -95,33 +50,6 @@ fn forwarding(alloc: Global, own: &[u8], to: &[u8]) -> Result<AsmRec, NoMemory> 
     let mut rec = no_rows(alloc);
     fill_forwarding(&mut rec, alloc, own, to)?;
     Ok(rec)
-}
-
-/// `App`, `A` and `B`, where `A` forwards `T` to `B` and `B` to `A`.
-fn push_forwarding(alloc: Global, recs: &mut Seq<AsmRec>) -> Result<(), NoMemory> {
-    push_filled(recs, alloc, fill_user)?;
-    recs.push(forwarding(alloc, b"A", b"B")?)?;
-    recs.push(forwarding(alloc, b"B", b"A")?)
-}
-
-/// Whether the reference of `App` names nothing.
-fn is_unresolved(alloc: Global, recs: Seq<AsmRec>) -> Result<bool, NoMemory> {
-    let world = world(alloc, recs)?;
-    match world.type_at(AsmId(0), 0x0100_0002) {
-        Some(Known::Bad(BadKind::Unresolved)) => Ok(true),
-        Some(Known::Bad(_)) => Ok(false),
-        Some(Known::Good(_)) => Ok(false),
-        None => Ok(false),
-    }
-}
-
-#[test]
-fn assemblies_that_forward_to_each_other(rt: HostRuntime) -> Result<(), Fail> {
-    let alloc = rt.alloc();
-    let mut recs = Seq::new(alloc);
-    push_forwarding(alloc, &mut recs)?;
-    assert!(rt; is_unresolved(alloc, recs)?);
-    Ok(())
 }
 
 /// The same, with `int modopt(T)` as a TypeSpec row.
@@ -164,19 +92,6 @@ fn names_that_only_modifiers_use(rt: HostRuntime) -> Result<(), Fail> {
     Ok(())
 }
 
-/// compiler-controlled
-const COMPILER_CONTROLLED: u16 = 0x00;
-
-/// `class A`, whose method `M` is compiler-controlled and whose method `N` is public, and references to both.
-fn fill_controlled(rec: &mut AsmRec, alloc: Global) -> Result<(), NoMemory> {
-    begin(rec, alloc, b"App")?;
-    class(rec, alloc, b"A", OBJECT, 2)?;
-    method(rec, alloc, b"M", COMPILER_CONTROLLED)?;
-    method(rec, alloc, b"N", PLAIN)?;
-    method_ref(rec, alloc, 0x0200_0002, b"M")?;
-    method_ref(rec, alloc, 0x0200_0002, b"N")
-}
-
 /// Whether a method token of the first assembly names a method; None where it is bad otherwise than unresolved.
 fn is_found(world: &World, token: u32) -> Option<bool> {
     match world.method_at(AsmId(0), token) {
@@ -185,16 +100,6 @@ fn is_found(world: &World, token: u32) -> Option<bool> {
         Some(Known::Bad(_)) => None,
         None => None,
     }
-}
-
-#[test]
-fn references_to_compiler_controlled_methods(rt: HostRuntime) -> Result<(), Fail> {
-    let alloc = rt.alloc();
-    let world = built(alloc, fill_controlled)?;
-    assert_eq!(rt; is_found(&world, 0x0a00_0001), Some(false));
-    assert_eq!(rt; is_found(&world, 0x0a00_0002), Some(true));
-    assert_eq!(rt; is_found(&world, 0x0600_0001), Some(true));
-    Ok(())
 }
 
 /// A reference to `M` of `C<B>`, which only `B` has.

@@ -51,14 +51,3 @@ fn methods_by_name(rt: HostRuntime) -> Result<(), Fail> {
     assert_eq!(rt; found.as_slice(), wanted.as_slice());
     Ok(())
 }
-
-/// A static member of a base isn't found.
-#[test]
-fn fields_by_name(rt: HostRuntime) -> Result<(), Fail> {
-    let alloc = rt.alloc();
-    let world = built(alloc, fill_members)?;
-    assert!(rt; named(alloc, &world, 2, b"F")?.is_empty());
-    let found = named(alloc, &world, 1, b"F")?;
-    assert_eq!(rt; found.as_slice(), [Item::Field(FieldId(0))].as_slice());
-    Ok(())
-}

@@ -69,15 +69,6 @@ fn has_text(alloc: Global, world: &World, ty: TypeExpr, expected: &[u8]) -> Resu
 }
 
 #[test]
-fn texts(rt: HostRuntime) -> Result<(), Fail> {
-    let alloc = rt.alloc();
-    let world = built(alloc, fill_boxes)?;
-    assert!(rt; has_text(alloc, &world, def(1), b"Plain")?);
-    assert!(rt; has_text(alloc, &world, int32(), b"System.Int32")?);
-    Ok(())
-}
-
-#[test]
 fn texts_of_made_types(rt: HostRuntime) -> Result<(), Fail> {
     let alloc = rt.alloc();
     let world = built(alloc, fill_boxes)?;

@@ -1,0 +1,5 @@
+pub mod NameRows
+pub mod Firsts
+pub mod Tokens
+pub mod Stepping
+pub mod Ranging

@@ -1,0 +1,5 @@
+pub mod Joined
+pub mod Numbered
+pub mod Grouping
+pub mod Running
+pub mod Among

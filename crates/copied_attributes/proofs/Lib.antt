@@ -1,0 +1,3 @@
+pub mod Constructors
+pub mod Tokens
+pub mod Walk

@@ -1,0 +1,2 @@
+pub mod CoreRefs
+pub mod Firsts

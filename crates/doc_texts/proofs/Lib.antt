@@ -1,0 +1,2 @@
+pub mod DocLayers
+pub mod Collecting

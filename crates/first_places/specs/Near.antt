@@ -1,0 +1,10 @@
+-- A table of what a function has for the numbers from 0 on.
+use Rattle.std.specs.Prelude.{◌≡◌, ℕ, List, Option, Some, None, slice_get}
+
+-- what a table has for a number, and past its end what the function has
+abbrev pub near_or : Option (Option ℕ) → Option ℕ → Option ℕ
+near_or (Some found) far = found
+near_or None far = far
+
+abbrev pub AgreesWith : (ℕ → Option ℕ) → List (Option ℕ) → Type 0
+AgreesWith far near = (key : ℕ) → near_or (slice_get near key) (far key) ≡ far key

@@ -1,0 +1,3 @@
+pub mod Invoking
+pub mod Making
+pub mod Returning

@@ -1,0 +1,4 @@
+pub mod Texts
+pub mod Layouts
+pub mod Statics
+pub mod Fields

@@ -1,0 +1,5 @@
+pub mod Giving
+pub mod Objects
+pub mod Texts
+pub mod Console
+pub mod Members

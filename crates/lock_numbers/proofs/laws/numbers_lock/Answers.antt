@@ -1,0 +1,13 @@
+use Rattle.lock_numbers.proofs.Forms as forms
+use Rattle.lock_numbers.proofs.laws.numbers_lock.Goals as goal
+
+pub returns : goal.returns
+returns c =
+    record {
+      branch = λ k q' q a here i s r y c. forms.branch_lock k q' q a here i s c;
+      branch_if = λ k q' q a here i s r y c. forms.branch_if_lock k q' q a here i s c;
+      switch = λ k q' q a here i s r y c. forms.switch_lock k q' q a here i s c;
+      binary = λ k q' q a here i s r y c. forms.binary_lock k q' q a here i s c;
+      unary = λ k q' q a here i s r y c. forms.unary_lock k q' q a here i s c;
+      convert = λ k q' q a here i s r y c. forms.convert_lock k q' q a here i s c;
+    }

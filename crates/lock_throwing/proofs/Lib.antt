@@ -1,0 +1,4 @@
+pub mod Objects
+pub mod Here
+pub mod Searching
+pub mod Forms

@@ -1,0 +1,13 @@
+pub mod Ids
+pub mod Homes
+pub mod Bases
+pub mod Lookups
+pub mod Wholes
+pub mod Texts
+pub mod Standings
+pub mod Shapes
+pub mod Cells
+pub mod Covered
+pub mod Runs
+pub mod Starts
+pub mod Slots

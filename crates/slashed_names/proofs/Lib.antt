@@ -1,0 +1,4 @@
+pub mod ChainLemmas
+pub mod Ranging
+pub mod Naming
+pub mod Zipping
