@@ -2,6 +2,7 @@
 
 ghost use Rattle.std.specs.Prelude.{◌≡◌, ◌++◌, IfOk, OnOk};
 ghost use Rattle.std.specs.List.{filter, flat_map};
+ghost use Rattle.il_base.specs.Flags.{access_of};
 ghost use Rattle.mark_rules.specs.Members.{is_nested_public, nested_counts, whole_nested, nested_by};
 ghost use Rattle.mark_tables.specs.Assemblies.{all_of, IsMarker};
 ghost use Rattle.nested_types.specs.Nested.{AreNested};
@@ -15,6 +16,13 @@ use nested_types::nested::NestedTypes;
 use std::alloc::Global;
 use world_model::AsmRec;
 
+/// The visibility of a type: its low three flags (II.23.1.15).
+fn visibility(bits: u32) -> u32
+    ensures { result ≡ access_of bits }
+{
+    bits % 8
+}
+
 /// Whether a type is there, and nested and public (II.23.1.15).
 fn is_nested_public(all: &[AsmRec], at: RowAt) -> bool
     ensures { result ≡ is_nested_public all.now at }
@@ -23,7 +31,7 @@ fn is_nested_public(all: &[AsmRec], at: RowAt) -> bool
         None => false,
         Some(rec) => match rec.type_def.get(at.row as usize) {
             None => false,
-            Some(t) => t.flags % 8 == type_flags::NESTED_PUBLIC,
+            Some(t) => visibility(t.flags) == type_flags::NESTED_PUBLIC,
         },
     }
 }
