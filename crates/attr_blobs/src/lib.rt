@@ -12,6 +12,8 @@ mod mark;
 mod name;
 mod put;
 mod read;
+#[cfg(test)]
+mod tests;
 mod text;
 mod value;
 mod write;

@@ -8,3 +8,6 @@ mod sections;
 
 pub use rvas::{CODE_RVA, image_length};
 pub use sections::{Parts, image};
+
+#[cfg(test)]
+mod tests;

@@ -12,3 +12,6 @@ mod stretches;
 
 pub use image::Image;
 pub use map::ImageMap;
+
+#[cfg(test)]
+mod tests;

@@ -11,6 +11,8 @@ mod index;
 mod links;
 mod names;
 mod references;
+#[cfg(test)]
+mod tests;
 
 pub use assemblies::assembly_named;
 pub use index::TypeIndex;

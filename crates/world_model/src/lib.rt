@@ -53,3 +53,6 @@ pub use types::{
     ModuleRow, NestedClassRow, TypeDefRow, TypeRefRow, TypeSpecRow,
 };
 pub use world::{FieldLink, Home, MethodLink, TypeLink, World};
+
+#[cfg(test)]
+mod tests;

@@ -10,3 +10,6 @@ mod tables;
 
 pub use cli_format::TablesError as RecordError;
 pub use record::{read_record, row_place};
+
+#[cfg(test)]
+mod tests;

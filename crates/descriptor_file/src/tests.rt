@@ -1,4 +1,4 @@
-use descriptor_file::*;
+use super::*;
 use il_base::Seq;
 use std::alloc::Global;
 use std::test::Fail;

@@ -1,4 +1,4 @@
-use attr_blobs::{
+use super::{
     Arg, AttrError, AttrValue, EnumSize, NameRead, ParamKind, parse_name, read_attribute,
     write_attribute,
 };
