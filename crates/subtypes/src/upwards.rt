@@ -1,11 +1,11 @@
-//! One step up from a type: its base and its interfaces; System.Object from an interface (I.8.7).
+//! One step up from a type: its base and its interfaces; System.Object from a type without a base (I.8.7).
 
-ghost use Rattle.std.specs.Prelude.{◌≡◌, ◌++◌, IfOk, OnOk};
+ghost use Rattle.std.specs.Prelude.{◌≡◌, ◌++◌, None, IfOk, OnOk};
 ghost use Rattle.std.specs.Option.{option_map};
 ghost use Rattle.world_model.specs.declared.expr.TypeExpr as expr;
 ghost use Rattle.link_rules.specs.Members.{array_type, base_at};
 ghost use Rattle.link_rules.specs.Cycles.{listed, interfaces_at};
-ghost use Rattle.type_rules.specs.Subtypes.{bases_of, interfaces_of, object_above, up};
+ghost use Rattle.type_rules.specs.Subtypes.{bases_of, interfaces_of, is_object_at, object_over, object_at, object_above, up};
 ghost use Rattle.type_tables.specs.Tables.{IsTables};
 ghost use Rattle.subtypes.specs.Named.{with_args};
 
@@ -13,7 +13,7 @@ use crate::interfaces::{add_interfaces, add_type};
 use il_base::NoMemory;
 use il_base::element::OBJECT;
 use link_rules::RowAt;
-use member_search::bases::{args_of, array_type, base_at, definition, is_interface};
+use member_search::bases::{args_of, array_type, base_at, definition};
 use std::alloc::Global;
 use type_tables::tables::Tables;
 use world_model::{AsmRec, TypeExpr};
@@ -70,18 +70,61 @@ fn add_supertypes_of_type(
     }
 }
 
-/// Puts System.Object at the end where a type is an interface.
-fn add_object(all: &[AsmRec], ty: &TypeExpr, found: &mut Vec<TypeExpr>) -> Result<(), NoMemory>
-    ensures { OnOk result (found.new.items ≡ found.old.items ++ object_above all.now ty.now) }
+/// Whether a type definition is System.Object's.
+fn is_object_at(all: &[AsmRec], at: RowAt) -> Result<bool, NoMemory>
+    ensures { IfOk result (λ is. is ≡ is_object_at all.now at) }
 {
-    let is = is_interface(all, ty)?;
-    if is {
+    match definition(all, &TypeExpr::Prim(OBJECT)) {
+        Ok(Some(object)) => Ok(at.asm == object.asm && at.row == object.row),
+        Ok(None) => Ok(false),
+        Err(error) => Err(error),
+    }
+}
+
+/// Puts System.Object at the end, unless this type definition is its own.
+fn add_object_but(all: &[AsmRec], at: RowAt, found: &mut Vec<TypeExpr>) -> Result<(), NoMemory>
+    ensures { OnOk result (found.new.items ≡ found.old.items ++ object_over all.now at None) }
+{
+    let is = is_object_at(all, at)?;
+    if !is {
         found.push(TypeExpr::Prim(OBJECT))?;
     }
     Ok(())
 }
 
-/// Puts the base and the interfaces of a type at the end, then System.Object where it is an interface.
+/// Puts System.Object at the end where a type definition, another than its own, has no base.
+fn add_object_over(
+    tables: &Tables<'_>,
+    at: RowAt,
+    found: &mut Vec<TypeExpr>,
+) -> Result<(), NoMemory>
+    requires { IsTables tables.now }
+    ensures { OnOk result (found.new.items ≡ found.old.items ++ object_at tables.now.world.now.recs at) }
+{
+    let linked = tables.linked();
+    match base_at(&linked, at) {
+        Some(_) => Ok(()),
+        None => add_object_but(tables.world.recs.as_slice(), at, found),
+    }
+}
+
+/// Puts System.Object at the end where the definition of a type has no base.
+fn add_object(
+    tables: &Tables<'_>,
+    ty: &TypeExpr,
+    found: &mut Vec<TypeExpr>,
+) -> Result<(), NoMemory>
+    requires { IsTables tables.now }
+    ensures { OnOk result (found.new.items ≡ found.old.items ++ object_above tables.now.world.now.recs ty.now) }
+{
+    match definition(tables.world.recs.as_slice(), ty) {
+        Ok(Some(at)) => add_object_over(tables, at, found),
+        Ok(None) => Ok(()),
+        Err(error) => Err(error),
+    }
+}
+
+/// Puts the base and the interfaces of a type at the end, then System.Object where it has no base.
 fn add_supertypes(
     alloc: Global,
     tables: &Tables<'_>,
@@ -92,7 +135,7 @@ fn add_supertypes(
     ensures { OnOk result (found.new.items ≡ found.old.items ++ (bases_of tables.now.world.now.recs ty.now ++ (interfaces_of tables.now.world.now.recs ty.now ++ object_above tables.now.world.now.recs ty.now))) }
 {
     add_supertypes_of_type(alloc, tables, ty, found)?;
-    add_object(tables.world.recs.as_slice(), ty, found)?;
+    add_object(tables, ty, found)?;
     Ok(())
 }
 
@@ -110,8 +153,8 @@ fn add_array(all: &[AsmRec], found: &mut Vec<TypeExpr>) -> Result<(), NoMemory>
     }
 }
 
-/// Puts what is one step above a type at the end: its base, then its interfaces; System.Object for an interface,
-/// System.Array for an array.
+/// Puts what is one step above a type at the end: its base, then its interfaces; System.Object for a type without a
+/// base, System.Array for an array.
 #[tactic(auto, unfolding(type_rules::specs::Subtypes::up))]
 pub(crate) fn add_up(
     alloc: Global,
@@ -134,8 +177,8 @@ pub(crate) fn add_up(
     }
 }
 
-/// What is one step above a type: its base, then its interfaces, with the type's arguments put in; for an interface
-/// System.Object after these, for an array System.Array.
+/// What is one step above a type: its base, then its interfaces, with the type's arguments put in; for a type without
+/// a base System.Object after these, for an array System.Array.
 pub fn up(alloc: Global, tables: &Tables<'_>, ty: &TypeExpr) -> Result<Vec<TypeExpr>, NoMemory>
     requires { IsTables tables.now }
     ensures { IfOk result (λ found. found.items ≡ up tables.now.world.now.recs ty.now) }

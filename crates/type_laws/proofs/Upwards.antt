@@ -17,7 +17,7 @@ use Rattle.world_model.specs.declared.types.TypeDefRow.{TypeDefRow}
 use Rattle.link_rules.specs.Signatures.{token_type}
 use Rattle.link_rules.specs.Members.{array_type, type_home, owner_in, owner_of, args_of, is_named_in, is_named, only_named, good_type, is_interface_row, base_in, base_at}
 use Rattle.link_rules.specs.Cycles.{listed, same_row, home_of, is_row_of, is_interface_at, is_interface, only_interface, interface_of, interfaces_in, interfaces_at, base_rows, interface_rows}
-use Rattle.type_rules.specs.Subtypes.{bases_of, interfaces_of, object_above, up_in, up}
+use Rattle.type_rules.specs.Subtypes.{bases_of, interfaces_of, is_object_at, object_over, object_at, object_above, up_in, up}
 use Rattle.type_laws.proofs.Places.{rows_decide}
 use Rattle.type_laws.proofs.Within.{In, in_front, in_behind, in_parts, in_listed, listed_in, in_map, in_flat, flat_in}
 use Rattle.type_laws.proofs.Reaching.{Walks}
@@ -264,25 +264,42 @@ module _ (recs : List AsmRec) (top : RowAt) (top_home : home_of recs (expr.Prim 
         leads = λ to is. to_interface recs top b.0 to (step_interface recs b.0 to m.0 b.2 (sym (kept_home (args_of e) m.0 n) ∙ ap (home_of recs) (sym m.2) ∙ is));
       }
 
-  -- an interface is another definition than System.Object's
-  pub not_top : (x : RowAt) → is_interface_at recs x ≡ true → x ≡ top → ⊥
-  not_top x h same = true≢false (sym h ∙ ap (is_interface_at recs) same ∙ top_class)
+  -- what no test of System.Object's definition finds is another one
+  other_row : (at : RowAt) → is_object_at recs at ≡ false → at ≡ top → ⊥
+  other_row at is same =
+      let found = ap (λ (b : Bool). b || false) ((rows_decide at top).1 same) in
+      true≢false (sym found ∙ sym (ap (λ (o : Option RowAt). list_any (same_row at) (listed o)) top_home) ∙ is)
 
-  object_by : (e y : TypeExpr) (b : Bool) → is_interface recs e ≡ b → In y (if b then expr.Prim 0x1c ∷ [] else []) → Above e y
-  object_by e y false is h = absurd h
-  object_by e y true is (inr h) = absurd h
-  object_by e y true is (inl same) =
-      let home = homed recs e is in
-      record {
-        named = ap is_named same ∙ named_as recs [] (TypeExpr-F.Prim 0x1c) (expr.Prim 0x1c) (expr.rolls-Prim 0x1c) refl;
-        home = home.0;
-        is = home.1;
-        leads = λ to at. transport (λ (x : RowAt). In x (ways recs top home.0)) (some_row top to (sym top_home ∙ ap (home_of recs) (sym same) ∙ at)) (to_top recs top home.0 (not_top home.0 home.2));
-      }
+  -- System.Object stands above another definition than its own
+  record OverOther (at : RowAt) (y : TypeExpr) : Type 0 where
+    object : y ≡ expr.Prim 0x1c
+    other : at ≡ top → ⊥
+
+  over_by : (at : RowAt) (y : TypeExpr) (b : Bool) → is_object_at recs at ≡ b → In y (if b then [] else expr.Prim 0x1c ∷ []) → OverOther at y
+  over_by at y true is h = absurd h
+  over_by at y false is (inl same) = record { object = same; other = other_row at is }
+  over_by at y false is (inr h) = absurd h
+
+  over : (at : RowAt) (o : Option TypeExpr) (y : TypeExpr) → In y (object_over recs at o) → OverOther at y
+  over at (Some base) y h = absurd h
+  over at None y h = over_by at y (is_object_at recs at) refl h
+
+  object_row_above : (e y : TypeExpr) (home : RowAt) → home_of recs e ≡ Some home → OverOther home y → Above e y
+  object_row_above e y home is o = record {
+    named = ap is_named o.object ∙ named_as recs [] (TypeExpr-F.Prim 0x1c) (expr.Prim 0x1c) (expr.rolls-Prim 0x1c) refl;
+    home = home;
+    is = is;
+    leads = λ to at. transport (λ (x : RowAt). In x (ways recs top home)) (some_row top to (sym top_home ∙ ap (home_of recs) (sym o.object) ∙ at)) (to_top recs top home o.other);
+  }
+
+  object_is_above : (e y : TypeExpr) → In y (object_above recs e) → Above e y
+  object_is_above e y h =
+      let m = in_flat (object_at recs) y (listed (home_of recs e)) h in
+      object_row_above e y m.0 (in_listed m.0 (home_of recs e) m.1) (over m.0 (base_at recs m.0) y m.2)
 
   rest_above : (e y : TypeExpr) → In y (interfaces_of recs e) ⊎ In y (object_above recs e) → Above e y
   rest_above e y (inl h) = interface_above e y h
-  rest_above e y (inr h) = object_by e y (is_interface recs e) refl h
+  rest_above e y (inr h) = object_is_above e y h
 
   either_above : (e y : TypeExpr) → In y (bases_of recs e) ⊎ In y (interfaces_of recs e ++ object_above recs e) → Above e y
   either_above e y (inl h) = base_above e y h

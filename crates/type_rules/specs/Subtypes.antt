@@ -1,5 +1,5 @@
 -- Which types a type can stand for (I.8.7), without variance: itself, its base, its interfaces, and all that these can stand
--- for; an interface also for Object. T[] also stands for U[] where T is a reference type that stands for U.
+-- for; a type without a base also for Object. T[] also stands for U[] where T is a reference type that stands for U.
 use Rattle.std.specs.Prelude.{ℕ, zero, suc, List, [], ◌∷◌, ◌++◌, map, Option, Some, None, ◌==◌, ◌&&◌, ◌||◌, Bool, true, false, not, IsTrue, if◌then◌else◌}
 use Rattle.std.specs.List.{list_any, flat_map}
 use Rattle.std.specs.Option.{option_map, option_and_then}
@@ -10,7 +10,7 @@ use Rattle.world_model.specs.declared.record.AsmRec.{AsmRec}
 use Rattle.world_model.specs.Exprs.{subst, levels, same_expr}
 use Rattle.link_rules.specs.declared.row_at.RowAt.{RowAt}
 use Rattle.link_rules.specs.Members.{array_type, args_of, base_at, type_count}
-use Rattle.link_rules.specs.Cycles.{listed, led_to, home_of, is_interface, interfaces_at, is_value_type}
+use Rattle.link_rules.specs.Cycles.{listed, led_to, home_of, same_row, interfaces_at, is_value_type}
 use Rattle.il_base.specs.declared.element.TheConstants.{OBJECT, STRING}
 
 -- ---- one step up
@@ -27,9 +27,20 @@ bases_of recs e = put_in e (listed (option_and_then (base_at recs) (home_of recs
 unfoldable pub interfaces_of : List AsmRec → TypeExpr → List TypeExpr
 interfaces_of recs e = put_in e (flat_map (interfaces_at recs) (listed (home_of recs e)))
 
--- System.Object for an interface, which has no base (I.8.7)
+-- System.Object's own definition
+abbrev pub is_object_at : List AsmRec → RowAt → Bool
+is_object_at recs at = list_any (same_row at) (listed (home_of recs (expr.Prim OBJECT)))
+
+-- System.Object for every other definition without a base: an interface, and a class whose row names none (I.8.7)
+abbrev pub object_over : List AsmRec → RowAt → Option TypeExpr → List TypeExpr
+object_over recs at (Some base) = []
+object_over recs at None = if is_object_at recs at then [] else expr.Prim OBJECT ∷ []
+
+abbrev pub object_at : List AsmRec → RowAt → List TypeExpr
+object_at recs at = object_over recs at (base_at recs at)
+
 abbrev pub object_above : List AsmRec → TypeExpr → List TypeExpr
-object_above recs e = if is_interface recs e then expr.Prim OBJECT ∷ [] else []
+object_above recs e = flat_map (object_at recs) (listed (home_of recs e))
 
 -- of an array it is System.Array (I.8.9.1)
 abbrev pub up_in : List AsmRec → TypeExpr → TypeExpr-F TypeExpr → List TypeExpr

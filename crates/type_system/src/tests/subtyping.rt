@@ -61,6 +61,8 @@ fn interfaces_and_bases(rt: HostRuntime) -> Result<(), Fail> {
     assert!(rt; is_below(alloc, &world, def(3), def(3))?);
     assert!(rt; !is_below(alloc, &world, def(1), def(3))?);
     assert!(rt; !is_below(alloc, &world, def(3), def(4))?);
+    assert!(rt; is_below(alloc, &world, def(1), object())?);
+    assert!(rt; is_below(alloc, &world, def(5), object())?);
     Ok(())
 }
 
