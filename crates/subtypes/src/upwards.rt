@@ -109,11 +109,7 @@ fn add_object_over(
 }
 
 /// Puts System.Object at the end where the definition of a type has no base.
-fn add_object(
-    tables: &Tables<'_>,
-    ty: &TypeExpr,
-    found: &mut Vec<TypeExpr>,
-) -> Result<(), NoMemory>
+fn add_object(tables: &Tables<'_>, ty: &TypeExpr, found: &mut Vec<TypeExpr>) -> Result<(), NoMemory>
     requires { IsTables tables.now }
     ensures { OnOk result (found.new.items ≡ found.old.items ++ object_above tables.now.world.now.recs ty.now) }
 {
