@@ -3,18 +3,39 @@
 ghost use Rattle.std.specs.Prelude.{◌≡◌, IfOk};
 ghost use Rattle.std.specs.Bool.{Decides};
 ghost use Rattle.std.specs.Option.{option_copied};
-ghost use Rattle.type_rules.specs.Subtypes.{leads_up, element_of, is_subtype, IsSubtype};
+ghost use Rattle.type_rules.specs.Subtypes.{is_defined, is_under_object, leads_up, element_of, is_subtype, IsSubtype};
 ghost use Rattle.type_tables.specs.Tables.{IsTables};
 
 use crate::references::is_reference;
 use crate::rounds::{above, is_among};
 use il_base::NoMemory;
+use il_base::element::OBJECT;
+use member_search::bases::definition;
 use std::alloc::Global;
 use type_laws::laws::subtype_decides;
 use type_tables::tables::Tables;
-use world_model::TypeExpr;
+use world_model::{AsmRec, TypeExpr};
 
-/// Whether steps up from a type lead to another.
+/// Whether a type has a definition.
+fn is_defined(all: &[AsmRec], ty: &TypeExpr) -> Result<bool, NoMemory>
+    ensures { IfOk result (λ is. is ≡ is_defined all.now ty.now) }
+{
+    match definition(all, ty) {
+        Ok(Some(_)) => Ok(true),
+        Ok(None) => Ok(false),
+        Err(error) => Err(error),
+    }
+}
+
+/// Whether a type has a definition, and the other is System.Object.
+fn is_under_object(all: &[AsmRec], a: &TypeExpr, b: &TypeExpr) -> Result<bool, NoMemory>
+    ensures { IfOk result (λ is. is ≡ is_under_object all.now a.now b.now) }
+{
+    let is = is_defined(all, a)?;
+    Ok(is && b.is_same(&TypeExpr::Prim(OBJECT)))
+}
+
+/// Whether steps up from a type lead to another, or the other is System.Object.
 fn leads_up(
     alloc: Global,
     tables: &Tables<'_>,
@@ -24,6 +45,10 @@ fn leads_up(
     requires { IsTables tables.now }
     ensures { IfOk result (λ yes. yes ≡ leads_up tables.now.world.now.recs a.now b.now) }
 {
+    let under = is_under_object(tables.world.recs.as_slice(), a, b)?;
+    if under {
+        return Ok(true);
+    }
     let found = above(alloc, tables, a)?;
     let yes = is_among(found.as_slice(), b);
     Ok(yes)
@@ -82,7 +107,7 @@ fn is_below(
 
 /// Whether a value of the first type can stand where one of the second is wanted: they are one, the second is a base or an
 /// interface of the first or of one of these, or both are arrays and the first one's element is a reference type that can
-/// stand for the second one's (I.8.7). An array can stand for System.Array, an interface for System.Object.
+/// stand for the second one's (I.8.7). An array can stand for System.Array, every type of a definition for System.Object.
 pub fn is_subtype(
     alloc: Global,
     tables: &Tables<'_>,

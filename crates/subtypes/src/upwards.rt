@@ -1,17 +1,16 @@
-//! One step up from a type: its base and its interfaces; System.Object from a type without a base (I.8.7).
+//! One step up from a type: its base and its interfaces (I.8.7).
 
-ghost use Rattle.std.specs.Prelude.{◌≡◌, ◌++◌, None, IfOk, OnOk};
+ghost use Rattle.std.specs.Prelude.{◌≡◌, ◌++◌, IfOk, OnOk};
 ghost use Rattle.std.specs.Option.{option_map};
 ghost use Rattle.world_model.specs.declared.expr.TypeExpr as expr;
 ghost use Rattle.link_rules.specs.Members.{array_type, base_at};
 ghost use Rattle.link_rules.specs.Cycles.{listed, interfaces_at};
-ghost use Rattle.type_rules.specs.Subtypes.{bases_of, interfaces_of, is_object_at, object_over, object_at, object_above, up};
+ghost use Rattle.type_rules.specs.Subtypes.{bases_of, interfaces_of, up};
 ghost use Rattle.type_tables.specs.Tables.{IsTables};
 ghost use Rattle.subtypes.specs.Named.{with_args};
 
 use crate::interfaces::{add_interfaces, add_type};
 use il_base::NoMemory;
-use il_base::element::OBJECT;
 use link_rules::RowAt;
 use member_search::bases::{args_of, array_type, base_at, definition};
 use std::alloc::Global;
@@ -70,71 +69,6 @@ fn add_supertypes_of_type(
     }
 }
 
-/// Whether a type definition is System.Object's.
-fn is_object_at(all: &[AsmRec], at: RowAt) -> Result<bool, NoMemory>
-    ensures { IfOk result (λ is. is ≡ is_object_at all.now at) }
-{
-    match definition(all, &TypeExpr::Prim(OBJECT)) {
-        Ok(Some(object)) => Ok(at.asm == object.asm && at.row == object.row),
-        Ok(None) => Ok(false),
-        Err(error) => Err(error),
-    }
-}
-
-/// Puts System.Object at the end, unless this type definition is its own.
-fn add_object_but(all: &[AsmRec], at: RowAt, found: &mut Vec<TypeExpr>) -> Result<(), NoMemory>
-    ensures { OnOk result (found.new.items ≡ found.old.items ++ object_over all.now at None) }
-{
-    let is = is_object_at(all, at)?;
-    if !is {
-        found.push(TypeExpr::Prim(OBJECT))?;
-    }
-    Ok(())
-}
-
-/// Puts System.Object at the end where a type definition, another than its own, has no base.
-fn add_object_over(
-    tables: &Tables<'_>,
-    at: RowAt,
-    found: &mut Vec<TypeExpr>,
-) -> Result<(), NoMemory>
-    requires { IsTables tables.now }
-    ensures { OnOk result (found.new.items ≡ found.old.items ++ object_at tables.now.world.now.recs at) }
-{
-    let linked = tables.linked();
-    match base_at(&linked, at) {
-        Some(_) => Ok(()),
-        None => add_object_but(tables.world.recs.as_slice(), at, found),
-    }
-}
-
-/// Puts System.Object at the end where the definition of a type has no base.
-fn add_object(tables: &Tables<'_>, ty: &TypeExpr, found: &mut Vec<TypeExpr>) -> Result<(), NoMemory>
-    requires { IsTables tables.now }
-    ensures { OnOk result (found.new.items ≡ found.old.items ++ object_above tables.now.world.now.recs ty.now) }
-{
-    match definition(tables.world.recs.as_slice(), ty) {
-        Ok(Some(at)) => add_object_over(tables, at, found),
-        Ok(None) => Ok(()),
-        Err(error) => Err(error),
-    }
-}
-
-/// Puts the base and the interfaces of a type at the end, then System.Object where it has no base.
-fn add_supertypes(
-    alloc: Global,
-    tables: &Tables<'_>,
-    ty: &TypeExpr,
-    found: &mut Vec<TypeExpr>,
-) -> Result<(), NoMemory>
-    requires { IsTables tables.now }
-    ensures { OnOk result (found.new.items ≡ found.old.items ++ (bases_of tables.now.world.now.recs ty.now ++ (interfaces_of tables.now.world.now.recs ty.now ++ object_above tables.now.world.now.recs ty.now))) }
-{
-    add_supertypes_of_type(alloc, tables, ty, found)?;
-    add_object(tables, ty, found)?;
-    Ok(())
-}
-
 /// Puts System.Array at the end.
 fn add_array(all: &[AsmRec], found: &mut Vec<TypeExpr>) -> Result<(), NoMemory>
     ensures { OnOk result (found.new.items ≡ found.old.items ++ listed (option_map (λ t. expr.Def t) (array_type all.now))) }
@@ -149,8 +83,7 @@ fn add_array(all: &[AsmRec], found: &mut Vec<TypeExpr>) -> Result<(), NoMemory>
     }
 }
 
-/// Puts what is one step above a type at the end: its base, then its interfaces; System.Object for a type without a
-/// base, System.Array for an array.
+/// Puts what is one step above a type at the end: its base, then its interfaces; System.Array for an array.
 #[tactic(auto, unfolding(type_rules::specs::Subtypes::up))]
 pub(crate) fn add_up(
     alloc: Global,
@@ -163,18 +96,18 @@ pub(crate) fn add_up(
 {
     match ty {
         TypeExpr::Array(_) => add_array(tables.world.recs.as_slice(), found),
-        TypeExpr::Prim(_) => add_supertypes(alloc, tables, ty, found),
-        TypeExpr::Def(_) => add_supertypes(alloc, tables, ty, found),
-        TypeExpr::Inst(_, _) => add_supertypes(alloc, tables, ty, found),
-        TypeExpr::ByRef(_) => add_supertypes(alloc, tables, ty, found),
-        TypeExpr::Var(_) => add_supertypes(alloc, tables, ty, found),
-        TypeExpr::MVar(_) => add_supertypes(alloc, tables, ty, found),
-        TypeExpr::Mod { .. } => add_supertypes(alloc, tables, ty, found),
+        TypeExpr::Prim(_) => add_supertypes_of_type(alloc, tables, ty, found),
+        TypeExpr::Def(_) => add_supertypes_of_type(alloc, tables, ty, found),
+        TypeExpr::Inst(_, _) => add_supertypes_of_type(alloc, tables, ty, found),
+        TypeExpr::ByRef(_) => add_supertypes_of_type(alloc, tables, ty, found),
+        TypeExpr::Var(_) => add_supertypes_of_type(alloc, tables, ty, found),
+        TypeExpr::MVar(_) => add_supertypes_of_type(alloc, tables, ty, found),
+        TypeExpr::Mod { .. } => add_supertypes_of_type(alloc, tables, ty, found),
     }
 }
 
-/// What is one step above a type: its base, then its interfaces, with the type's arguments put in; for a type without
-/// a base System.Object after these, for an array System.Array.
+/// What is one step above a type: its base, then its interfaces, with the type's arguments put in; for an array
+/// System.Array.
 pub fn up(alloc: Global, tables: &Tables<'_>, ty: &TypeExpr) -> Result<Vec<TypeExpr>, NoMemory>
     requires { IsTables tables.now }
     ensures { IfOk result (λ found. found.items ≡ up tables.now.world.now.recs ty.now) }

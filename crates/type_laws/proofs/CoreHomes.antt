@@ -2,7 +2,7 @@
 use Rattle.std.proofs.Common.{◌≡◌, ℕ, zero, suc, ◌-◌, ◌<◌, Bool, true, false, List, [], ◌∷◌, ◌++◌, length, Option, Some, None, nat_lt, refl, sym, ap, subst, ◌∙◌, arith}
 use Rattle.std.specs.Prelude.{slice_get, position, ◌==◌, ◌||◌, if◌then◌else◌}
 use Rattle.std.specs.List.{list_any, flat_map}
-use Rattle.std.specs.Option.{option_map, option_and_then}
+use Rattle.std.specs.Option.{is_some, option_map, option_and_then, IsSome}
 use Rattle.std.proofs.lemmas.Bool.{lt-ltb, eq-eqb}
 use Rattle.std.proofs.lemmas.List.{length-append}
 use Rattle.world_model.specs.declared.expr.TypeExpr.{TypeExpr}
@@ -215,11 +215,17 @@ module _ (inputs : List AsmRec) (names : List CoreTypeName) where
       ∙ ap (λ (b : Bool). if b || is_interface_row object.row then None else only_named (good_type (token_type recs last core object.row.extends)))
       (eq-eqb object.row.extends 0 object.base)
 
+  array_home : (x : TypeExpr) → home_of recs (expr.Array x) ≡ Some (at_row last 21)
+  array_home x =
+      let one : length recs - 1 ≡ last = omega (arith, long) in
+      let row = array_row names in
+      ap (option_and_then (type_home recs)) (owner_as recs [] (TypeExpr-F.Array x) (expr.Array x) (expr.rolls-Array x) ∙ ap (λ (a : ℕ). Some (type_id recs a 21)) one) ∙ core_home 21 row.row row.there
+
+  pub array_homed : (x : TypeExpr) → IsSome (home_of recs (expr.Array x))
+  array_homed x = ap is_some (array_home x)
+
   pub array_class : (x : TypeExpr) → is_interface recs (expr.Array x) ≡ false
   unfolding is_interface
   array_class x =
-      let one : length recs - 1 ≡ last = omega (arith, long) in
       let row = array_row names in
-      ap (λ (o : Option RowAt). list_any (is_interface_at recs) (listed o))
-      (ap (option_and_then (type_home recs)) (owner_as recs [] (TypeExpr-F.Array x) (expr.Array x) (expr.rolls-Array x) ∙ ap (λ (a : ℕ). Some (type_id recs a 21)) one) ∙ core_home 21 row.row row.there)
-      ∙ ap (λ (b : Bool). b || false) (class_at 21 row.row row.there row.class)
+      ap (λ (o : Option RowAt). list_any (is_interface_at recs) (listed o)) (array_home x) ∙ ap (λ (b : Bool). b || false) (class_at 21 row.row row.there row.class)

@@ -1,5 +1,6 @@
 -- The search for a subtype answers as the relation has it.
 use Rattle.std.proofs.Common.{◌≡◌, ℕ, zero, suc, true, List, Option, Some, None, ◌⊎◌, inl, inr, refl, sym, ap, subst, ◌∙◌}
+use Rattle.std.specs.Prelude.{IsTrue}
 use Rattle.std.specs.List.{list_any}
 use Rattle.std.proofs.lemmas.Bool.{and_parts, and_from, or_left, or_right, or_cases}
 use Rattle.world_model.specs.declared.expr.TypeExpr.{TypeExpr, out-TypeExpr, roll-TypeExpr, roll-out-TypeExpr}
@@ -11,13 +12,13 @@ use Rattle.world_model.proofs.ExprLayers.{levels_array}
 use Rattle.world_model.proofs.SameExpr.{same_decides}
 use Rattle.link_rules.specs.Members.{is_named_in, is_named}
 use Rattle.link_rules.specs.Linked.{assemblies, link_fault_of}
-use Rattle.type_rules.specs.Subtypes.{up_in, up, is_reference, IsSubtype, leads_up, element_in, element_of, are_elements, is_below, is_subtype}
+use Rattle.type_rules.specs.Subtypes.{up_in, up, is_reference, above, is_defined, is_under_object, IsSubtype, leads_up, element_in, element_of, are_elements, is_below, is_subtype}
 use Rattle.type_rules.specs.Subtypes as sub
 use Rattle.type_laws.specs.Decisions.{SubtypeDecides}
 use Rattle.type_laws.proofs.Within.{In, in_any, any_in}
 use Rattle.type_laws.proofs.Reaching.{Leads}
 use Rattle.type_laws.proofs.Upwards.{out_is}
-use Rattle.type_laws.proofs.Ways.{up_all_named, up_found, way}
+use Rattle.type_laws.proofs.Ways.{up_all_named, up_all_homed, array_of_homed, none_above_object, up_found, Upward, upward}
 
 -- ---- elements of arrays
 
@@ -49,6 +50,10 @@ named_by (TypeExpr-F.Var n) h = refl
 named_by (TypeExpr-F.MVar n) h = refl
 named_by (TypeExpr-F.Mod required by x) h = refl
 
+prim_named : is_named (expr.Prim 0x1c) ≡ true
+unfolding is_named
+prim_named = ap is_named_in (out_is (TypeExpr-F.Prim 0x1c) (expr.Prim 0x1c) (expr.rolls-Prim 0x1c))
+
 no_element : (e : TypeExpr) → is_named e ≡ true → element_of e ≡ None
 unfolding is_named element_of
 no_element e h = named_by (out-TypeExpr e) h
@@ -60,8 +65,12 @@ module _ (recs : List AsmRec) where
   climbs zero a b l = subst (λ (x : TypeExpr). IsSubtype recs a x) l (sub.same a)
   climbs (suc k) a b l = sub.step a l.0 b (any_in same_expr same_decides l.0 (up recs a) l.1) (climbs k l.0 b l.2)
 
+  upward_sound : (a b : TypeExpr) → Upward recs a b → IsSubtype recs a b
+  upward_sound a b (Upward.under_object is same) = subst (λ (x : TypeExpr). IsSubtype recs a x) (sym same) (sub.object a is)
+  upward_sound a b (Upward.led_up w) = climbs w.steps a b w.leads
+
   led_sound : (a b : TypeExpr) → leads_up recs a b ≡ true → IsSubtype recs a b
-  led_sound a b e = let w = way recs a b e in climbs w.steps a b w.leads
+  led_sound a b e = upward_sound a b (upward recs a b e)
 
   arrays_sound : (a b x y : TypeExpr) → a ≡ expr.Array x → b ≡ expr.Array y → is_reference recs x ≡ true → IsSubtype recs x y → IsSubtype recs a b
   arrays_sound a b x y e f r s =
@@ -162,24 +171,51 @@ module _ (inputs : List AsmRec) (sound : link_fault_of inputs ≡ None) where
   itself : (a : TypeExpr) → is_subtype all a a ≡ true
   itself a = led_found 0 a a refl
 
+  -- each type of a definition is found below System.Object
+  object_found : (a d : TypeExpr) → IsTrue (is_defined all a) → d ≡ expr.Prim 0x1c → is_subtype all a d ≡ true
+  object_found a d is same =
+      led_below all (levels a) a d
+      (or_left (is_under_object all a d) (list_any (same_expr d) (above all a)) (and_from (is_defined all a) (same_expr d (expr.Prim 0x1c)) is ((same_decides d (expr.Prim 0x1c)).1 same)))
+
+  step_by : (a b d : TypeExpr) → In b (up all a) → Upward all b d → is_subtype all a d ≡ true
+  step_by a b d i (Upward.under_object is same) = object_found a d (up_all_homed inputs sound a b i) same
+  step_by a b d i (Upward.led_up w) = led_found (suc w.steps) a d (b, i, w.leads)
+
   step_found : (a b d : TypeExpr) → list_any (same_expr b) (up all a) ≡ true → is_subtype all b d ≡ true → is_subtype all a d ≡ true
   step_found a b d is h =
       let i = in_any same_expr same_decides b (up all a) is in
-      let w = way all b d (named_below all (levels b) b d (up_all_named inputs sound a b i) h) in
-      led_found (suc w.steps) a d (b, i, w.leads)
+      step_by a b d i (upward all b d (named_below all (levels b) b d (up_all_named inputs sound a b i) h))
+
+  -- what System.Object is found below is itself
+  only_object_by : (d : TypeExpr) → Upward all (expr.Prim 0x1c) d → d ≡ expr.Prim 0x1c
+  only_object_by d (Upward.under_object is same) = same
+  only_object_by d (Upward.led_up w) = only_object_way d w.steps w.leads
+    where
+      only_object_way : (d : TypeExpr) (k : ℕ) → Leads (up all) k (expr.Prim 0x1c) d → d ≡ expr.Prim 0x1c
+      only_object_way d zero l = sym l
+      only_object_way d (suc k) l = absurd (none_above_object inputs sound l.0 l.1)
+
+  only_object : (d : TypeExpr) → is_subtype all (expr.Prim 0x1c) d ≡ true → d ≡ expr.Prim 0x1c
+  only_object d h = only_object_by d (upward all (expr.Prim 0x1c) d (named_below all (levels (expr.Prim 0x1c)) (expr.Prim 0x1c) d prim_named h))
 
   array_way : (x y d : TypeExpr) (k : ℕ) → Leads (up all) k (expr.Array y) d → is_reference all x ≡ true → ((e : TypeExpr) → is_subtype all y e ≡ true → is_subtype all x e ≡ true)
       → is_subtype all (expr.Array x) d ≡ true
   array_way x y d zero l r more = subst (λ (e : TypeExpr). is_subtype all (expr.Array x) e ≡ true) l (arrays_below all x y r (more y (itself y)))
   array_way x y d (suc k) l r more = led_found (suc k) (expr.Array x) d (l.0, subst (λ (es : List TypeExpr). In l.0 es) (same_up all y x) l.1, l.2)
 
+  array_upward : (x y d : TypeExpr) → Upward all (expr.Array y) d → is_reference all x ≡ true → ((e : TypeExpr) → is_subtype all y e ≡ true → is_subtype all x e ≡ true)
+      → is_subtype all (expr.Array x) d ≡ true
+  array_upward x y d (Upward.under_object is same) r more = object_found (expr.Array x) d (array_of_homed inputs sound x) same
+  array_upward x y d (Upward.led_up w) r more = array_way x y d w.steps w.leads r more
+
   array_over : (x y d : TypeExpr) → Over all y d → is_reference all x ≡ true → ((e : TypeExpr) → is_subtype all y e ≡ true → is_subtype all x e ≡ true) → is_subtype all (expr.Array x) d ≡ true
-  array_over x y d (Over.led_to e) r more = let w = way all (expr.Array y) d e in array_way x y d w.steps w.leads r more
+  array_over x y d (Over.led_to e) r more = array_upward x y d (upward all (expr.Array y) d e) r more
   array_over x y d (Over.of_element z e h) r more = subst (λ (c : TypeExpr). is_subtype all (expr.Array x) c ≡ true) (sym e) (arrays_below all x z r (more z h))
 
   -- what stands above a supertype is found above the type
   extended : (a b : TypeExpr) → IsSubtype all a b → (d : TypeExpr) → is_subtype all b d ≡ true → is_subtype all a d ≡ true
   extended _ _ (sub.same e) d h = h
+  extended _ _ (sub.object a is) d h = object_found a d is (only_object d h)
   extended _ _ (sub.step a b c is s) d h = step_found a b d is (extended b c s d h)
   extended _ _ (sub.array a b c r s t) d h = array_over a b d (over all b d (extended (expr.Array b) c t d h)) r (extended a b s)
 

@@ -3,7 +3,7 @@ use Rattle.std.proofs.Common.{◌≡◌, ℕ, zero, suc, Bool, true, false, List
 use Rattle.std.specs.Prelude.{slice_get, ◌==◌, ◌||◌, if◌then◌else◌}
 use Rattle.std.specs.List.{list_any, flat_map}
 use Rattle.std.proofs.lemmas.Bool.{true≢false}
-use Rattle.std.specs.Option.{option_map, option_and_then}
+use Rattle.std.specs.Option.{is_some, option_map, option_and_then, IsSome}
 use Rattle.il_base.specs.declared.ids.TypeId.{TypeId}
 use Rattle.world_model.specs.declared.expr.TypeExpr.{TypeExpr, out-TypeExpr, roll-TypeExpr, roll-out-TypeExpr, out-roll-TypeExpr}
 use Rattle.world_model.specs.declared.expr.TypeExpr.TheOpen.{TypeExpr-F}
@@ -17,7 +17,7 @@ use Rattle.world_model.specs.declared.types.TypeDefRow.{TypeDefRow}
 use Rattle.link_rules.specs.Signatures.{token_type}
 use Rattle.link_rules.specs.Members.{array_type, type_home, owner_in, owner_of, args_of, is_named_in, is_named, only_named, good_type, is_interface_row, base_in, base_at}
 use Rattle.link_rules.specs.Cycles.{listed, same_row, home_of, is_row_of, is_interface_at, is_interface, only_interface, interface_of, interfaces_in, interfaces_at, base_rows, interface_rows}
-use Rattle.type_rules.specs.Subtypes.{bases_of, interfaces_of, is_object_at, object_over, object_at, object_above, up_in, up}
+use Rattle.type_rules.specs.Subtypes.{bases_of, interfaces_of, up_in, up}
 use Rattle.type_laws.proofs.Places.{rows_decide}
 use Rattle.type_laws.proofs.Within.{In, in_front, in_behind, in_parts, in_listed, listed_in, in_map, in_flat, flat_in}
 use Rattle.type_laws.proofs.Reaching.{Walks}
@@ -264,49 +264,15 @@ module _ (recs : List AsmRec) (top : RowAt) (top_home : home_of recs (expr.Prim 
         leads = λ to is. to_interface recs top b.0 to (step_interface recs b.0 to m.0 b.2 (sym (kept_home (args_of e) m.0 n) ∙ ap (home_of recs) (sym m.2) ∙ is));
       }
 
-  -- what no test of System.Object's definition finds is another one
-  other_row : (at : RowAt) → is_object_at recs at ≡ false → at ≡ top → ⊥
-  other_row at is same =
-      let found = ap (λ (b : Bool). b || false) ((rows_decide at top).1 same) in
-      true≢false (sym found ∙ sym (ap (λ (o : Option RowAt). list_any (same_row at) (listed o)) top_home) ∙ is)
+  above_homed : (e y : TypeExpr) → Above e y → IsSome (home_of recs e)
+  above_homed e y a = ap is_some a.is
 
-  -- System.Object stands above another definition than its own
-  record OverOther (at : RowAt) (y : TypeExpr) : Type 0 where
-    object : y ≡ expr.Prim 0x1c
-    other : at ≡ top → ⊥
-
-  over_by : (at : RowAt) (y : TypeExpr) (b : Bool) → is_object_at recs at ≡ b → In y (if b then [] else expr.Prim 0x1c ∷ []) → OverOther at y
-  over_by at y true is h = absurd h
-  over_by at y false is (inl same) = record { object = same; other = other_row at is }
-  over_by at y false is (inr h) = absurd h
-
-  over : (at : RowAt) (o : Option TypeExpr) (y : TypeExpr) → In y (object_over recs at o) → OverOther at y
-  over at (Some base) y h = absurd h
-  over at None y h = over_by at y (is_object_at recs at) refl h
-
-  object_row_above : (e y : TypeExpr) (home : RowAt) → home_of recs e ≡ Some home → OverOther home y → Above e y
-  object_row_above e y home is o = record {
-    named = ap is_named o.object ∙ named_as recs [] (TypeExpr-F.Prim 0x1c) (expr.Prim 0x1c) (expr.rolls-Prim 0x1c) refl;
-    home = home;
-    is = is;
-    leads = λ to at. transport (λ (x : RowAt). In x (ways recs top home)) (some_row top to (sym top_home ∙ ap (home_of recs) (sym o.object) ∙ at)) (to_top recs top home o.other);
-  }
-
-  object_is_above : (e y : TypeExpr) → In y (object_above recs e) → Above e y
-  object_is_above e y h =
-      let m = in_flat (object_at recs) y (listed (home_of recs e)) h in
-      object_row_above e y m.0 (in_listed m.0 (home_of recs e) m.1) (over m.0 (base_at recs m.0) y m.2)
-
-  rest_above : (e y : TypeExpr) → In y (interfaces_of recs e) ⊎ In y (object_above recs e) → Above e y
-  rest_above e y (inl h) = interface_above e y h
-  rest_above e y (inr h) = object_is_above e y h
-
-  either_above : (e y : TypeExpr) → In y (bases_of recs e) ⊎ In y (interfaces_of recs e ++ object_above recs e) → Above e y
+  either_above : (e y : TypeExpr) → In y (bases_of recs e) ⊎ In y (interfaces_of recs e) → Above e y
   either_above e y (inl h) = base_above e y h
-  either_above e y (inr h) = rest_above e y (in_parts y (interfaces_of recs e) (object_above recs e) h)
+  either_above e y (inr h) = interface_above e y h
 
-  above_in : (e y : TypeExpr) → In y (bases_of recs e ++ (interfaces_of recs e ++ object_above recs e)) → Above e y
-  above_in e y h = either_above e y (in_parts y (bases_of recs e) (interfaces_of recs e ++ object_above recs e) h)
+  above_in : (e y : TypeExpr) → In y (bases_of recs e ++ interfaces_of recs e) → Above e y
+  above_in e y h = either_above e y (in_parts y (bases_of recs e) (interfaces_of recs e) h)
 
   named_above_in : (e y : TypeExpr) (x : TypeExpr-F TypeExpr) → is_named_in x ≡ true → In y (up_in recs e x) → Above e y
   named_above_in e y (TypeExpr-F.Prim n) named h = above_in e y h
@@ -342,6 +308,21 @@ module _ (recs : List AsmRec) (top : RowAt) (top_home : home_of recs (expr.Prim 
   pub up_named : (e y : TypeExpr) → In y (up recs e) → is_named y ≡ true
   unfolding up
   up_named e y h = up_named_in e y (out-TypeExpr e) h
+
+  -- what something stands above has a definition, where arrays have one
+  up_homed_in : (e y : TypeExpr) (x : TypeExpr-F TypeExpr) → roll-TypeExpr x ≡ e → ((z : TypeExpr) → IsSome (home_of recs (expr.Array z))) → In y (up_in recs e x) → IsSome (home_of recs e)
+  up_homed_in e y (TypeExpr-F.Prim n) is arrays h = above_homed e y (above_in e y h)
+  up_homed_in e y (TypeExpr-F.Def t) is arrays h = above_homed e y (above_in e y h)
+  up_homed_in e y (TypeExpr-F.Inst t args) is arrays h = above_homed e y (above_in e y h)
+  up_homed_in e y (TypeExpr-F.Array x) is arrays h = transport (λ (z : TypeExpr). IsSome (home_of recs z)) (sym (expr.rolls-Array x) ∙ is) (arrays x)
+  up_homed_in e y (TypeExpr-F.ByRef x) is arrays h = above_homed e y (above_in e y h)
+  up_homed_in e y (TypeExpr-F.Var n) is arrays h = above_homed e y (above_in e y h)
+  up_homed_in e y (TypeExpr-F.MVar n) is arrays h = above_homed e y (above_in e y h)
+  up_homed_in e y (TypeExpr-F.Mod required by x) is arrays h = above_homed e y (above_in e y h)
+
+  pub up_homed : (e y : TypeExpr) → ((z : TypeExpr) → IsSome (home_of recs (expr.Array z))) → In y (up recs e) → IsSome (home_of recs e)
+  unfolding up
+  up_homed e y arrays h = up_homed_in e y (out-TypeExpr e) (roll-out-TypeExpr e) arrays h
 
   -- the definitions on a way up from a named type
   pub record Homes (n : ℕ) (e : TypeExpr) : Type 0 where

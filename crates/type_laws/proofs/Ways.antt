@@ -1,15 +1,18 @@
 -- In a linked world a way up passes each definition once, so the search finds its end.
 use Rattle.std.proofs.Common.{◌≡◌, ℕ, zero, suc, ◌+◌, ◌<◌, ◌≤◌, Bool, true, false, List, [], ◌∷◌, ◌++◌, length, Option, Some, None, ◌⊎◌, inl, inr, refl, sym, ap, subst, ◌∙◌, arith}
-use Rattle.std.specs.Prelude.{slice_get, ◌||◌, if◌then◌else◌}
-use Rattle.std.specs.Option.{option_and_then}
-use Rattle.std.proofs.lemmas.Bool.{or_parts, cases_lt, true≢false}
+use Rattle.std.specs.Prelude.{slice_get, ◌||◌, IsTrue, if◌then◌else◌}
+use Rattle.std.specs.List.{list_any, flat_map}
+use Rattle.std.specs.Option.{option_and_then, IsSome}
+use Rattle.std.proofs.lemmas.Bool.{and_parts, or_parts, or_right, or_cases, cases_lt, true≢false}
 use Rattle.std.proofs.lemmas.List.{length-append}
 use Rattle.il_base.specs.declared.ids.TypeId.{TypeId}
 use Rattle.world_model.specs.declared.expr.TypeExpr.{TypeExpr}
+use Rattle.world_model.specs.declared.expr.TypeExpr.TheOpen.{TypeExpr-F}
 use Rattle.world_model.specs.declared.expr.TypeExpr.TheVariants as expr
 use Rattle.world_model.specs.declared.types.TypeDefRow.{TypeDefRow}
 use Rattle.world_model.specs.declared.record.AsmRec.{AsmRec}
 use Rattle.world_model.specs.Exprs.{same_expr}
+use Rattle.world_model.specs.Exprs as exprs
 use Rattle.world_model.proofs.SameExpr.{same_decides}
 use Rattle.core_table.specs.Record.{core_record}
 use Rattle.link_rules.specs.declared.link_error.LinkError.{LinkError}
@@ -17,18 +20,18 @@ use Rattle.link_rules.specs.declared.row_at.RowAt.{RowAt}
 use Rattle.link_rules.specs.CoreNames.{missing_names, core_with}
 use Rattle.link_rules.specs.Types.{or_else, at_row}
 use Rattle.link_rules.specs.declared.core_type_name.CoreTypeName.{CoreTypeName}
-use Rattle.link_rules.specs.Members.{type_home, owner_of, is_named, base_at, type_count}
-use Rattle.link_rules.specs.Cycles.{is_on_cycle, same_row, home_of, is_interface_at, is_interface, base_rows, interface_rows, field_values}
+use Rattle.link_rules.specs.Members.{type_home, owner_of, args_of, is_named, base_at, type_count}
+use Rattle.link_rules.specs.Cycles.{listed, is_on_cycle, same_row, home_of, is_interface_at, is_interface, interfaces_at, base_rows, interface_rows, field_values}
 use Rattle.link_rules.specs.Faults.{first_of, is_cyclic_type, cyclic_type, cyclic_types, duplicate_assembly, cyclic_nesting, duplicate_member, link_fault}
 use Rattle.link_rules.specs.Linked.{assemblies, link_fault_of}
-use Rattle.type_rules.specs.Subtypes.{up, above, leads_up}
-use Rattle.type_laws.proofs.Within.{In, in_any, any_in}
+use Rattle.type_rules.specs.Subtypes.{put_in, bases_of, interfaces_of, up_in, up, above, is_defined, is_under_object, leads_up}
+use Rattle.type_laws.proofs.Within.{In, in_any, any_in, in_parts, in_listed, in_map, in_flat}
 use Rattle.type_laws.proofs.Reaching.{Leads, Walks, walks, found, Led, led, cyclic}
 use Rattle.type_laws.proofs.Bounded.{no_walk}
-use Rattle.type_laws.proofs.Upwards.{ways, base_step, interface_step, up_named, homes}
+use Rattle.type_laws.proofs.Upwards.{out_is, ways, base_step, interface_step, step_interface, are_interfaces, homed, up_named, up_homed, homes}
 use Rattle.type_laws.proofs.Rising.{Step, step, no_round}
 use Rattle.type_laws.proofs.CoreRows.{place_front}
-use Rattle.type_laws.proofs.CoreHomes.{object_home, object_class, object_no_interface, object_no_base, array_class, no_base_cycle, no_interface_cycle}
+use Rattle.type_laws.proofs.CoreHomes.{object_home, object_class, object_no_interface, object_no_base, array_class, array_homed, no_base_cycle, no_interface_cycle}
 use Rattle.type_laws.proofs.Places.{rows_decide, IsType, id_of, id_below, one_by_id, home_is_type, TypeAt, type_at, place_within, place_has}
 
 -- ---- no fault
@@ -141,6 +144,10 @@ module _ (inputs : List AsmRec) (sound : link_fault_of inputs ≡ None) where
   unfolding assemblies
   arrays x = array_class inputs names x
 
+  arrays_homed : (x : TypeExpr) → IsSome (home_of all (expr.Array x))
+  unfolding assemblies
+  arrays_homed x = array_homed inputs names x
+
   -- ---- no definition comes back to itself
 
   never_by : (n : ℕ) (x : RowAt) (at : TypeAt all x) → (x.asm < length inputs) ⊎ (length inputs ≤ x.asm) → n ≤ type_count all
@@ -187,6 +194,40 @@ module _ (inputs : List AsmRec) (sound : link_fault_of inputs ≡ None) where
   pub up_all_named : (e y : TypeExpr) → In y (up all e) → is_named y ≡ true
   up_all_named e y h = up_named all top top_home top_class arrays e y h
 
+  -- what something stands above has a definition
+  pub up_all_homed : (e y : TypeExpr) → In y (up all e) → IsSome (home_of all e)
+  up_all_homed e y h = up_homed all top top_home top_class arrays e y arrays_homed h
+
+  pub array_of_homed : (x : TypeExpr) → IsSome (home_of all (expr.Array x))
+  array_of_homed x = arrays_homed x
+
+  -- nothing stands above System.Object
+  no_base_above : (y : TypeExpr) → In y (bases_of all (expr.Prim 0x1c)) → ⊥
+  no_base_above y h =
+      let none = ap (option_and_then (base_at all)) top_home ∙ top_base in
+      subst (λ (o : Option TypeExpr). In y (put_in (expr.Prim 0x1c) (listed o))) none h
+
+  no_interface_above : (y : TypeExpr) → In y (interfaces_of all (expr.Prim 0x1c)) → ⊥
+  unfolding interfaces_of
+  no_interface_above y h =
+      let m = in_map (exprs.subst (args_of (expr.Prim 0x1c)) []) y (flat_map (interfaces_at all) (listed (home_of all (expr.Prim 0x1c)))) h in
+      let b = in_flat (interfaces_at all) m.0 (listed (home_of all (expr.Prim 0x1c))) m.1 in
+      let at : b.0 ≡ top = (let f = sym (in_listed b.0 (home_of all (expr.Prim 0x1c)) b.1) ∙ top_home in cc) in
+      let i = homed all m.0 (are_interfaces all b.0 m.0 b.2) in
+      let s = step_interface all b.0 i.0 m.0 b.2 i.1 in
+      subst (λ (ys : List RowAt). In i.0 ys) top_interfaces (subst (λ (x : RowAt). In i.0 (interface_rows all x)) at s)
+
+  none_above_either : (y : TypeExpr) → In y (bases_of all (expr.Prim 0x1c)) ⊎ In y (interfaces_of all (expr.Prim 0x1c)) → ⊥
+  none_above_either y (inl h) = no_base_above y h
+  none_above_either y (inr h) = no_interface_above y h
+
+  pub none_above_object : (y : TypeExpr) → In y (up all (expr.Prim 0x1c)) → ⊥
+  unfolding up
+  none_above_object y h =
+      none_above_either y
+      (in_parts y (bases_of all (expr.Prim 0x1c)) (interfaces_of all (expr.Prim 0x1c))
+      (subst (λ (x : TypeExpr-F TypeExpr). In y (up_in all (expr.Prim 0x1c) x)) (out_is (TypeExpr-F.Prim 0x1c) (expr.Prim 0x1c) (expr.rolls-Prim 0x1c)) h))
+
   no_way : (e : TypeExpr) → Walks (up all) (suc (suc (type_count all))) e → ⊥
   no_way e w =
       let h = homes all top top_home top_class arrays (type_count all) w.0 (up_all_named e w.0 w.1) w.2 in
@@ -194,14 +235,14 @@ module _ (inputs : List AsmRec) (sound : link_fault_of inputs ≡ None) where
 
   -- ---- the search up
 
-  up_by : (k : ℕ) (a b : TypeExpr) → Leads (up all) k a b → (suc (type_count all) < k) ⊎ (k ≤ suc (type_count all)) → leads_up all a b ≡ true
+  up_by : (k : ℕ) (a b : TypeExpr) → Leads (up all) k a b → (suc (type_count all) < k) ⊎ (k ≤ suc (type_count all)) → list_any (same_expr b) (above all a) ≡ true
   unfolding above
   up_by k a b l (inl lt) = absurd (no_way a (walks (up all) (suc (suc (type_count all))) k a b lt l))
   up_by k a b l (inr le) =
       any_in same_expr same_decides b _ (found same_expr same_decides (up all) (suc (type_count all)) k a b (a ∷ []) le (inl refl) l)
 
   pub up_found : (k : ℕ) (a b : TypeExpr) → Leads (up all) k a b → leads_up all a b ≡ true
-  up_found k a b l = up_by k a b l (cases_lt (suc (type_count all)) k)
+  up_found k a b l = or_right (is_under_object all a b) (list_any (same_expr b) (above all a)) (up_by k a b l (cases_lt (suc (type_count all)) k))
 
 -- what the search finds is led to, in any world
 pub record Way (recs : List AsmRec) (a b : TypeExpr) : Type 0 where
@@ -213,8 +254,22 @@ module _ (recs : List AsmRec) (a b : TypeExpr) where
   way_by l (inl e) = record { steps = l.steps; leads = subst (λ (x : TypeExpr). Leads (up recs) l.steps x b) e l.leads }
   way_by l (inr h) = absurd h
 
-  pub way : leads_up recs a b ≡ true → Way recs a b
+  pub way : list_any (same_expr b) (above recs a) ≡ true → Way recs a b
   unfolding above
   way e =
       let l = led same_expr same_decides (up recs) (suc (type_count recs)) (a ∷ []) b (in_any same_expr same_decides b _ e) in
       way_by l l.is
+
+  -- what the search answers
+  pub data Upward : Type 0 where
+    under_object : IsTrue (is_defined recs a) → b ≡ expr.Prim 0x1c → Upward
+    led_up : Way recs a b → Upward
+
+  upward_by : (is_under_object recs a b ≡ true) ⊎ (list_any (same_expr b) (above recs a) ≡ true) → Upward
+  upward_by (inl h) =
+      let q = and_parts (is_defined recs a) (same_expr b (expr.Prim 0x1c)) h in
+      Upward.under_object q.0 ((same_decides b (expr.Prim 0x1c)).0 q.1)
+  upward_by (inr h) = Upward.led_up (way h)
+
+  pub upward : leads_up recs a b ≡ true → Upward
+  upward e = upward_by (or_cases (is_under_object recs a b) (list_any (same_expr b) (above recs a)) e)

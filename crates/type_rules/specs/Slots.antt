@@ -1,6 +1,6 @@
 -- Virtual methods and their slots (II.10.3, II.12.2, II.23.1.10): a method that is newslot, or that finds none of its name
 -- and signature in the bases, is its own slot; any other has that of the nearest one.
-use Rattle.std.specs.Prelude.{ℕ, zero, suc, ◌/◌, ◌%◌, List, [], ◌∷◌, Option, Some, None, slice_get, ◌==◌, ◌&&◌, Bool, false, not, if◌then◌else◌}
+use Rattle.std.specs.Prelude.{ℕ, zero, suc, List, [], ◌∷◌, Option, Some, None, slice_get, ◌==◌, ◌&&◌, Bool, false, not, if◌then◌else◌}
 use Rattle.std.specs.List.{position_from}
 use Rattle.std.specs.Option.{option_map, option_and_then}
 use Rattle.il_base.specs.declared.ids.MethodId.{MethodId}

@@ -1,8 +1,8 @@
--- Which types a type can stand for (I.8.7), without variance: itself, its base, its interfaces, and all that these can stand
--- for; a type without a base also for Object. T[] also stands for U[] where T is a reference type that stands for U.
-use Rattle.std.specs.Prelude.{ℕ, zero, suc, List, [], ◌∷◌, ◌++◌, map, Option, Some, None, ◌==◌, ◌&&◌, ◌||◌, Bool, true, false, not, IsTrue, if◌then◌else◌}
+-- Which types a type can stand for (I.8.7), without variance: itself, Object, its base, its interfaces, and all that these
+-- can stand for. T[] also stands for U[] where T is a reference type that stands for U.
+use Rattle.std.specs.Prelude.{ℕ, zero, suc, List, [], ◌∷◌, ◌++◌, map, Option, Some, None, ◌==◌, ◌&&◌, ◌||◌, Bool, true, false, not, IsTrue}
 use Rattle.std.specs.List.{list_any, flat_map}
-use Rattle.std.specs.Option.{option_map, option_and_then}
+use Rattle.std.specs.Option.{is_some, option_map, option_and_then}
 use Rattle.world_model.specs.declared.expr.TypeExpr.{TypeExpr, out-TypeExpr}
 use Rattle.world_model.specs.declared.expr.TypeExpr.TheOpen.{TypeExpr-F}
 use Rattle.world_model.specs.declared.expr.TypeExpr as expr
@@ -10,7 +10,7 @@ use Rattle.world_model.specs.declared.record.AsmRec.{AsmRec}
 use Rattle.world_model.specs.Exprs.{subst, levels, same_expr}
 use Rattle.link_rules.specs.declared.row_at.RowAt.{RowAt}
 use Rattle.link_rules.specs.Members.{array_type, args_of, base_at, type_count}
-use Rattle.link_rules.specs.Cycles.{listed, led_to, home_of, same_row, interfaces_at, is_value_type}
+use Rattle.link_rules.specs.Cycles.{listed, led_to, home_of, interfaces_at, is_value_type}
 use Rattle.il_base.specs.declared.element.TheConstants.{OBJECT, STRING}
 
 -- ---- one step up
@@ -27,25 +27,10 @@ bases_of recs e = put_in e (listed (option_and_then (base_at recs) (home_of recs
 unfoldable pub interfaces_of : List AsmRec → TypeExpr → List TypeExpr
 interfaces_of recs e = put_in e (flat_map (interfaces_at recs) (listed (home_of recs e)))
 
--- System.Object's own definition
-abbrev pub is_object_at : List AsmRec → RowAt → Bool
-is_object_at recs at = list_any (same_row at) (listed (home_of recs (expr.Prim OBJECT)))
-
--- System.Object for every other definition without a base: an interface, and a class whose row names none (I.8.7)
-abbrev pub object_over : List AsmRec → RowAt → Option TypeExpr → List TypeExpr
-object_over recs at (Some base) = []
-object_over recs at None = if is_object_at recs at then [] else expr.Prim OBJECT ∷ []
-
-abbrev pub object_at : List AsmRec → RowAt → List TypeExpr
-object_at recs at = object_over recs at (base_at recs at)
-
-abbrev pub object_above : List AsmRec → TypeExpr → List TypeExpr
-object_above recs e = flat_map (object_at recs) (listed (home_of recs e))
-
 -- of an array it is System.Array (I.8.9.1)
 abbrev pub up_in : List AsmRec → TypeExpr → TypeExpr-F TypeExpr → List TypeExpr
 up_in recs e (TypeExpr-F.Array x) = listed (option_map (λ t. expr.Def t) (array_type recs))
-up_in recs e _ = bases_of recs e ++ (interfaces_of recs e ++ object_above recs e)
+up_in recs e _ = bases_of recs e ++ interfaces_of recs e
 
 unfoldable pub up : List AsmRec → TypeExpr → List TypeExpr
 up recs e = up_in recs e (out-TypeExpr e)
@@ -68,9 +53,14 @@ is_reference_in recs e _ = false
 unfoldable pub is_reference : List AsmRec → TypeExpr → Bool
 is_reference recs e = is_reference_in recs e (out-TypeExpr e)
 
--- the least relation that is so
+-- whether a type has a definition
+abbrev pub is_defined : List AsmRec → TypeExpr → Bool
+is_defined recs e = is_some (home_of recs e)
+
+-- the least relation that is so; every type of a definition is below System.Object, whether or not it has a base
 pub data IsSubtype (recs : List AsmRec) : TypeExpr → TypeExpr → Type 0 where
   same : (e : TypeExpr) → IsSubtype recs e e
+  object : (a : TypeExpr) → IsTrue (is_defined recs a) → IsSubtype recs a (expr.Prim OBJECT)
   step : (a b c : TypeExpr) → IsTrue (list_any (same_expr b) (up recs a)) → IsSubtype recs b c → IsSubtype recs a c
   array : (a b c : TypeExpr) → IsTrue (is_reference recs a) → IsSubtype recs a b → IsSubtype recs (expr.Array b) c → IsSubtype recs (expr.Array a) c
 
@@ -80,8 +70,11 @@ pub data IsSubtype (recs : List AsmRec) : TypeExpr → TypeExpr → Type 0 where
 unfoldable pub above : List AsmRec → TypeExpr → List TypeExpr
 above recs e = led_to same_expr (up recs) (suc (type_count recs)) (e ∷ [])
 
+abbrev pub is_under_object : List AsmRec → TypeExpr → TypeExpr → Bool
+is_under_object recs a b = is_defined recs a && same_expr b (expr.Prim OBJECT)
+
 abbrev pub leads_up : List AsmRec → TypeExpr → TypeExpr → Bool
-leads_up recs a b = list_any (same_expr b) (above recs a)
+leads_up recs a b = is_under_object recs a b || list_any (same_expr b) (above recs a)
 
 abbrev pub element_in : TypeExpr-F TypeExpr → Option TypeExpr
 element_in (TypeExpr-F.Array x) = Some x
