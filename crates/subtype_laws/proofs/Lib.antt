@@ -1,0 +1,6 @@
+pub mod Filtered
+pub mod Steps
+pub mod Climbs
+pub mod Whole
+pub mod Below
+pub mod Choices
