@@ -1,5 +1,5 @@
 -- The definition that an instruction shows, by the outermost construct of its type.
-use Rattle.std.proofs.Common.{◌≡◌, ℕ, ◌++◌, Bool, List, [], ◌∷◌, map, refl, sym, ap, ◌∙◌}
+use Rattle.std.proofs.Common.{◌≡◌, ℕ, ◌++◌, Bool, List, [], ◌∷◌, map, refl, sym, ap, ◌∙◌, append_assoc}
 use Rattle.std.proofs.lemmas.List.{append-nil}
 use Rattle.il_base.specs.declared.ids.TypeId.{TypeId}
 use Rattle.world_model.specs.declared.expr.TypeExpr.{TypeExpr, fold-TypeExpr, fold-roll-TypeExpr}
@@ -37,7 +37,7 @@ defined_mvar : (n : ℕ) → definitions_in (expr.MVar n) ≡ []
 unfolding definitions_in
 defined_mvar n = ap (fold-TypeExpr (List TypeId) shown_layer) (sym (expr.rolls-MVar n)) ∙ fold-roll-TypeExpr (List TypeId) shown_layer (TypeExpr-F.MVar n)
 
-defined_mod : (required : Bool) (by : TypeId) (e : TypeExpr) → definitions_in (expr.Mod required by e) ≡ definitions_in e
+defined_mod : (required : Bool) (by : TypeId) (e : TypeExpr) → definitions_in (expr.Mod required by e) ≡ by ∷ definitions_in e
 unfolding definitions_in
 defined_mod required by e = ap (fold-TypeExpr (List TypeId) shown_layer) (sym (expr.rolls-Mod required by e)) ∙ fold-roll-TypeExpr (List TypeId) shown_layer (TypeExpr-F.Mod required by e)
 
@@ -63,8 +63,8 @@ module _ (out : List Fact) where
   pub show_mvar : (n : ℕ) → out ++ map shown (definitions_in (expr.MVar n)) ≡ out
   show_mvar n = rw (defined_mvar n) (append-nil out)
 
-  pub show_mod : (required : Bool) (by : TypeId) (e : TypeExpr) → out ++ map shown (definitions_in (expr.Mod required by e)) ≡ out ++ map shown (definitions_in e)
-  show_mod required by e = rw (defined_mod required by e) refl
+  pub show_mod : (required : Bool) (by : TypeId) (e : TypeExpr) → out ++ map shown (definitions_in (expr.Mod required by e)) ≡ (out ++ shown by ∷ []) ++ map shown (definitions_in e)
+  show_mod required by e = rw (defined_mod required by e) (sym (append_assoc out (shown by ∷ []) (map shown (definitions_in e))))
 
 -- what is shown at the end, one level of a type at a time
 pub ruleset defining = (show_prim, show_def, show_inst, show_array, show_by_ref, show_var, show_mvar, show_mod)

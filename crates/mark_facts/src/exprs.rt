@@ -63,7 +63,7 @@ pub fn say_all(facts: &mut Facts, said: Said, types: &[TypeExpr]) -> Result<(), 
     Ok(())
 }
 
-/// Shows the definition of a type, or that of its elements.
+/// Shows the definition of a type, or that of its elements, with what modifiers around these name.
 #[tactic(auto, using(crate::proofs::ShownLayers::defining))]
 pub fn show_definition(facts: &mut Facts, ty: &TypeExpr) -> Result<(), NoMemory>
     ensures { OnOk result (facts.new ≡ facts.old ++ map shown (definitions_in ty.now)) }
@@ -76,6 +76,9 @@ pub fn show_definition(facts: &mut Facts, ty: &TypeExpr) -> Result<(), NoMemory>
         TypeExpr::ByRef(inner) => show_definition(facts, inner.get()),
         TypeExpr::Var(_) => Ok(()),
         TypeExpr::MVar(_) => Ok(()),
-        TypeExpr::Mod { inner, .. } => show_definition(facts, inner.get()),
+        TypeExpr::Mod { by, inner, .. } => match facts.show(*by) {
+            Ok(()) => show_definition(facts, inner.get()),
+            Err(error) => Err(error),
+        },
     }
 }

@@ -90,7 +90,8 @@ showing_parts recs (item.Method m) at = uncaught_parts recs at
 showing_parts recs (item.Event e) at = []
 showing_parts recs i at = parts_of_item recs i at
 
--- ---- instructions that show a type: its definition, or that of its elements
+-- ---- instructions that show a type: its definition, or that of its elements, with what modifiers around these name, as the text of an
+-- array has them
 
 abbrev pub shown_layer : TypeExpr-F (List TypeId) → List TypeId
 shown_layer (TypeExpr-F.Prim n) = []
@@ -100,7 +101,7 @@ shown_layer (TypeExpr-F.Array x) = x
 shown_layer (TypeExpr-F.ByRef x) = x
 shown_layer (TypeExpr-F.Var n) = []
 shown_layer (TypeExpr-F.MVar n) = []
-shown_layer (TypeExpr-F.Mod required by x) = x
+shown_layer (TypeExpr-F.Mod required by x) = by ∷ x
 
 unfoldable pub definitions_in : TypeExpr → List TypeId
 definitions_in = fold-TypeExpr (List TypeId) shown_layer

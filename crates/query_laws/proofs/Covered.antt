@@ -148,9 +148,9 @@ module _ (k : Change) (kept : RowAt → Bool) (p : Places) (after before : List 
     if_kept false o t h e = absurd (cc)
 
     row_by : (a b : Bool) (at : RowAt) → IsTrue (keeps_type_row k.keep before at) → is_value_type before at ≡ b
-        → IsTrue (keeps_shape k.keep (if not a then no_value else if not b then reference else view.or_shape (if is_enum before at then view.enum_shape before args at else None) (view.value_shape before earlier args at)))
-    row_by false b at h is = refl
-    row_by true false at h is = refl
+        → IsTrue (keeps_shape k.keep (if not b then reference else if not a then no_value else view.or_shape (if is_enum before at then view.enum_shape before args at else None) (view.value_shape before earlier args at)))
+    row_by a false at h is = refl
+    row_by false true at h is = refl
     row_by true true at h is =
         or_kept (if is_enum before at then view.enum_shape before args at else None) (view.value_shape before earlier args at)
         (λ t e. if_kept (is_enum before at) (view.enum_shape before args at) t (λ u f. enum_kept (option_and_then (view.cell_type before args) (view.first_or_none (view.instance_fields before at))) u f) e)

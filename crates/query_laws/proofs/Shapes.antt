@@ -307,10 +307,10 @@ module _ (k : Change) (kept : RowAt → Bool) (p : Places) (after before : List 
         ∙ or_moved (if is_enum before at then view.enum_shape before args at else None) _ _ (value_moved at h is)
 
     row_by : (a b : Bool) (at : RowAt) → IsTrue (keeps_type_row k.keep before at) → is_value_type before at ≡ b
-        → (if not a then no_value else if not b then reference else view.or_shape (if is_enum after (p.typ at) then view.enum_shape after (move_exprs k.rho args) (p.typ at) else None) (view.value_shape after later (move_exprs k.rho args) (p.typ at)))
-        ≡ move_shape k.rho (if not a then no_value else if not b then reference else view.or_shape (if is_enum before at then view.enum_shape before args at else None) (view.value_shape before earlier args at))
-    row_by false b at h is = refl
-    row_by true false at h is = refl
+        → (if not b then reference else if not a then no_value else view.or_shape (if is_enum after (p.typ at) then view.enum_shape after (move_exprs k.rho args) (p.typ at) else None) (view.value_shape after later (move_exprs k.rho args) (p.typ at)))
+        ≡ move_shape k.rho (if not b then reference else if not a then no_value else view.or_shape (if is_enum before at then view.enum_shape before args at else None) (view.value_shape before earlier args at))
+    row_by a false at h is = refl
+    row_by false true at h is = refl
     row_by true true at h is = value_row at h is
 
     fits_moved : (at : RowAt) → IsTrue (keeps_type_row k.keep before at) → view.fits_params after (p.typ at) (move_exprs k.rho args) ≡ view.fits_params before at args
@@ -319,7 +319,7 @@ module _ (k : Change) (kept : RowAt → Bool) (p : Places) (after before : List 
     row_moved : (at : RowAt) → IsTrue (keeps_type_row k.keep before at)
         → view.row_shape after later (move_exprs k.rho args) (p.typ at) ≡ move_shape k.rho (view.row_shape before earlier args at)
     row_moved at h =
-        (λ i. if not (fits_moved at h i) then no_value else if not (value_type_moved k kept p after before r keeps at h i) then reference
+        (λ i. if not (value_type_moved k kept p after before r keeps at h i) then reference else if not (fits_moved at h i) then no_value
         else view.or_shape (if is_enum after (p.typ at) then view.enum_shape after (move_exprs k.rho args) (p.typ at) else None) (view.value_shape after later (move_exprs k.rho args) (p.typ at)))
         ∙ row_by (view.fits_params before at args) (is_value_type before at) at h refl
 

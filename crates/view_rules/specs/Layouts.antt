@@ -111,8 +111,8 @@ or_shape (Some s) other = s
 
 abbrev pub row_shape : List AsmRec → (TypeExpr → Shape) → List TypeExpr → RowAt → Shape
 row_shape recs below args at =
-    if not (fits_params recs at args) then no_value
-    else if not (is_value_type recs at) then reference
+    if not (is_value_type recs at) then reference
+    else if not (fits_params recs at args) then no_value
     else or_shape (if is_enum recs at then enum_shape recs args at else None) (value_shape recs below args at)
 
 abbrev pub home_shape : List AsmRec → (TypeExpr → Shape) → List TypeExpr → Option RowAt → Shape

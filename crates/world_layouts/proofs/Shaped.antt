@@ -46,10 +46,10 @@ module _ (recs : List AsmRec) (at : RowAt) (args : List TypeExpr) where
 -- ---- a definition
 
 pick : (fit value en th fh : Bool) (num : Option Shape) (st : Shape)
-    → (if not fit then no_value else if not value then reference else or_shape (if en then num else None) (if th then type_handle else if fh then field_handle else st))
-    ≡ or_shape (if not fit then Some no_value else if not value then Some reference else or_handle (if en then num else None) (if th then Some handle.OfType else if fh then Some handle.OfField else None)) st
-pick false value en th fh num st = refl
-pick true false en th fh num st = refl
+    → (if not value then reference else if not fit then no_value else or_shape (if en then num else None) (if th then type_handle else if fh then field_handle else st))
+    ≡ or_shape (if not value then Some reference else if not fit then Some no_value else or_handle (if en then num else None) (if th then Some handle.OfType else if fh then Some handle.OfField else None)) st
+pick fit false en th fh num st = refl
+pick false true en th fh num st = refl
 pick true true true th fh (Some s) st = refl
 pick true true true true fh None st = refl
 pick true true true false true None st = refl

@@ -36,8 +36,8 @@ or_handle (Some s) h = Some s
 -- of a type definition, with these arguments; None for a struct, whose shape is that of its cells
 unfoldable pub settled_kind : List AsmRec → TypeId → List TypeExpr → TypeKind → Option Shape
 settled_kind recs t args k =
-    if not (takes (head_query recs t.0) (length args)) then Some no_value
-    else if not k.value then Some reference
+    if not k.value then Some reference
+    else if not (takes (head_query recs t.0) (length args)) then Some no_value
     else or_handle (if k.enumeration then enum_of recs args k.fields else None) k.handle
 
 abbrev pub settled_home : List AsmRec → TypeId → List TypeExpr → Option TypeKind → Option Shape

@@ -89,11 +89,11 @@ fn settled_kind(
 ) -> Result<Option<Shape>, NoMemory>
     ensures { IfOk result (λ shape. shape ≡ settled_kind layouts.now.recs ty args.now kind.now) }
 {
-    if !takes(layouts.definitions(), ty, args.len()) {
-        return Ok(Some(Shape::NoValue));
-    }
     if !kind.value {
         return Ok(Some(Shape::Reference));
+    }
+    if !takes(layouts.definitions(), ty, args.len()) {
+        return Ok(Some(Shape::NoValue));
     }
     if kind.enumeration {
         match enum_of(alloc, layouts, args, kind.fields.as_slice()) {
