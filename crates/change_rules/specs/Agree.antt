@@ -16,7 +16,7 @@ use Rattle.change_rules.specs.Change.{Keep, Change}
 use Rattle.change_rules.specs.Moves.{move_expr, move_use}
 use Rattle.change_rules.specs.Answers.{move_method, move_field, move_layout, move_shape}
 use Rattle.change_rules.specs.States.{mask}
-use Rattle.change_rules.specs.Keeps.{keeps_expr, shows_expr, makes_expr, keeps_made, keeps_use, keeps_method, keeps_field, keeps_layout, keeps_shape}
+use Rattle.change_rules.specs.Keeps.{keeps_expr, keeps_defined, shows_expr, makes_expr, keeps_made, keeps_use, keeps_method, keeps_field, keeps_layout, keeps_shape}
 
 -- the types of the core library that a step asks for by name: of exceptions that it raises, of objects of reflection
 unfoldable pub is_asked : CoreName → Bool
@@ -56,7 +56,7 @@ pub record Agree (k : Change) (after before : Queries) : Type 0 where
   pub cells : (e : TypeExpr) → IsTrue (keeps_expr k.keep e)
       → after.cells (move_expr k.rho e) ≡ map (move_layout k.rho) (keep (mask k.keep (before.cells e)) (before.cells e))
   pub starts : (t : ℕ) → IsTrue (k.keep.begun t) → after.starts (k.rho.typ t) ≡ option_map k.rho.method (before.starts t)
-  pub below : (a b : TypeExpr) → IsTrue (keeps_expr k.keep a) → IsTrue (keeps_expr k.keep b)
+  pub below : (a b : TypeExpr) → IsTrue (keeps_expr k.keep a) → IsTrue (keeps_defined k.keep b)
       → after.below (move_expr k.rho a) (move_expr k.rho b) ≡ before.below a b
   pub answers : (e owner : TypeExpr) (m : ℕ) → IsTrue (keeps_made k.keep e) → IsTrue (keeps_expr k.keep owner) → IsTrue (k.keep.method m)
       → after.answers (move_expr k.rho e) (move_expr k.rho owner) (k.rho.method m) ≡ option_map (move_use k.rho) (before.answers e owner m)

@@ -1,9 +1,10 @@
 -- Whether all that something names is kept.
-use Rattle.std.specs.Prelude.{ℕ, List, Bool, true, false, not, ◌&&◌, ◌||◌, Option, Some, None}
+use Rattle.std.specs.Prelude.{ℕ, List, Bool, true, false, not, ◌&&◌, ◌||◌, ◌==◌, Option, Some, None}
 use Rattle.std.specs.List.{list_all}
 use Rattle.il_base.specs.declared.body.Form.{Form}
 use Rattle.il_base.specs.declared.body.Form.TheVariants as form
 use Rattle.il_base.specs.declared.field_flags.TheConstants.{STATIC}
+use Rattle.il_base.specs.declared.opcode.TheConstants.{CONSTRAINED}
 use Rattle.il_base.specs.Flags.{has_flag}
 use Rattle.world_model.specs.declared.known.Known.{Known}
 use Rattle.world_model.specs.declared.known.Known.TheVariants.{Good, Bad}
@@ -34,6 +35,9 @@ use Rattle.change_rules.specs.States.{keeps_cell}
 
 -- ---- types
 
+abbrev pub itself : Bool → Bool
+itself b = b
+
 -- of a type: whether what it names is kept, with generic arguments that are shown, and whether its text may be printed
 pub record Names : Type 0 where
   pub kept : Bool
@@ -56,6 +60,18 @@ names_of k = fold-TypeExpr Names (names_layer k)
 abbrev pub keeps_expr : Keep → TypeExpr → Bool
 keeps_expr k e = (names_of k e).kept
 
+-- whether each definition that a type names is kept, in its generic arguments too, which needn't be shown
+abbrev pub defined_layer : Keep → TypeExpr-F Bool → Bool
+defined_layer k (TypeExpr-F.Def t) = k.typ t.0
+defined_layer k (TypeExpr-F.Inst t args) = k.typ t.0 && list_all itself args
+defined_layer k (TypeExpr-F.Array x) = x
+defined_layer k (TypeExpr-F.ByRef x) = x
+defined_layer k (TypeExpr-F.Mod required by x) = k.typ by.0 && x
+defined_layer k _ = true
+
+unfoldable pub keeps_defined : Keep → TypeExpr → Bool
+keeps_defined k = fold-TypeExpr Bool (defined_layer k)
+
 -- a type that is kept and shown, as each generic argument is
 abbrev pub shows_expr : Keep → TypeExpr → Bool
 shows_expr k e = both (names_of k e)
@@ -69,8 +85,19 @@ definition_passes flag (TypeExpr-F.Var n) = false
 definition_passes flag (TypeExpr-F.MVar n) = false
 definition_passes flag _ = true
 
+-- a parameter passes too
+abbrev pub parameter_passes : (ℕ → Bool) → TypeExpr-F TypeExpr → Bool
+parameter_passes flag (TypeExpr-F.Var n) = true
+parameter_passes flag (TypeExpr-F.MVar n) = true
+parameter_passes flag x = definition_passes flag x
+
+-- a type of which there can be objects; of a parameter, which no object has for its type, nothing is asked
 unfoldable pub makes_expr : Keep → TypeExpr → Bool
-makes_expr k e = definition_passes k.made (out-TypeExpr (plain e))
+makes_expr k e = parameter_passes k.made (out-TypeExpr (plain e))
+
+-- a type of which there can be objects whatever is put in for parameters
+unfoldable pub news_expr : Keep → TypeExpr → Bool
+news_expr k e = definition_passes k.made (out-TypeExpr (plain e))
 
 unfoldable pub begins_expr : Keep → TypeExpr → Bool
 begins_expr k e = definition_passes k.begun (out-TypeExpr (plain e))
@@ -96,9 +123,6 @@ keeps_root k _ = true
 
 abbrev pub keeps_path : Keep → Path → Bool
 keeps_path k p = keeps_root k p.root && keeps_expr k p.of
-
-abbrev pub itself : Bool → Bool
-itself b = b
 
 abbrev pub keeps_value_layer : Keep → Value-F Bool → Bool
 keeps_value_layer k (Value-F.Pointer p) = keeps_path k p
@@ -134,19 +158,20 @@ keeps_operand k q (field u) = if_good (keeps_accessed k q) u
 keeps_operand k q _ = true
 
 -- of objects that an instruction makes, `constrained.` among these, the type is shown; `newobj` makes its owner
-abbrev pub keeps_of_form : Keep → Form → Use → Bool
-keeps_of_form k form.NewObj (method u) = if_good (λ u. keeps_made k u.owner) u
-keeps_of_form k form.Box (typ e) = if_good (shows_expr k) e
-keeps_of_form k form.NewArr (typ e) = if_good (shows_expr k) e
-keeps_of_form k form.Prefix (typ e) = if_good (shows_expr k) e
-keeps_of_form k form.LdToken (typ e) = if_good (shows_expr k) e
-keeps_of_form k _ _ = true
+abbrev pub keeps_of_form : Keep → ℕ → Form → Use → Bool
+keeps_of_form k opcode form.NewObj (method u) = if_good (λ u. shows_expr k u.owner && news_expr k u.owner) u
+keeps_of_form k opcode form.Box (typ e) = if_good (shows_expr k) e
+keeps_of_form k opcode form.NewArr (typ e) = if_good (shows_expr k) e
+keeps_of_form k opcode form.Prefix (typ e) = not (opcode == CONSTRAINED) || if_good (shows_expr k) e
+keeps_of_form k opcode form.LdToken (typ e) = if_good (shows_expr k) e
+keeps_of_form k opcode _ _ = true
 
 abbrev pub keeps_instruction : Keep → Queries → Instruction → Bool
-keeps_instruction k q i = keeps_operand k q i.operand && keeps_of_form k i.form i.operand
+keeps_instruction k q i = keeps_operand k q i.operand && keeps_of_form k i.opcode i.form i.operand
 
+-- a type that is caught shows nothing
 abbrev pub keeps_clause : Keep → Clause → Bool
-keeps_clause k c = if_good (keeps_expr k) c.caught
+keeps_clause k c = if_good (keeps_defined k) c.caught
 
 abbrev pub keeps_code : Keep → Queries → Code → Bool
 keeps_code k q c =

@@ -11,7 +11,7 @@ use Rattle.type_rules.specs.Slots.{nearest}
 use Rattle.type_rules.specs.Dispatch.{choice_in}
 use Rattle.change_rules.specs.Change.{Change}
 use Rattle.change_rules.specs.Moves.{move_expr}
-use Rattle.change_rules.specs.Keeps.{keeps_expr}
+use Rattle.change_rules.specs.Keeps.{keeps_expr, keeps_defined}
 use Rattle.world_change_rules.specs.Places.{Places}
 use Rattle.world_change_rules.specs.Rows.{RowsMove}
 use Rattle.world_change_rules.specs.Kept.{KeepsRows}
@@ -25,7 +25,7 @@ ForLinked P =
     → P k (assemblies outputs) (assemblies inputs)
 
 abbrev pub BelowMoves : Type 0
-BelowMoves = ForLinked (λ k after before. (a b : TypeExpr) → IsTrue (keeps_expr k.keep a) → IsTrue (keeps_expr k.keep b)
+BelowMoves = ForLinked (λ k after before. (a b : TypeExpr) → IsTrue (keeps_expr k.keep a) → IsTrue (keeps_defined k.keep b)
     → is_subtype after (move_expr k.rho a) (move_expr k.rho b) ≡ is_subtype before a b)
 
 abbrev pub ChoicesMove : Type 0
