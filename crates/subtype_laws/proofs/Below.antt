@@ -3,6 +3,7 @@ use Rattle.std.proofs.Common.{◌≡◌, ℕ, zero, suc, ◌+◌, Bool, true, fa
 use Rattle.std.specs.Prelude.{IsTrue, ◌&&◌, ◌||◌, not, if◌then◌else◌}
 use Rattle.std.specs.List.{list_any, filter}
 use Rattle.std.specs.Option.{is_some, option_map}
+use Rattle.std.proofs.lemmas.Bool.{true≢false}
 use Rattle.world_model.specs.declared.expr.TypeExpr.{TypeExpr, out-TypeExpr}
 use Rattle.world_model.specs.declared.expr.TypeExpr.TheOpen.{TypeExpr-F}
 use Rattle.world_model.specs.declared.expr.TypeExpr.TheVariants as expr
@@ -19,7 +20,7 @@ use Rattle.type_laws.proofs.Within.{In}
 use Rattle.type_laws.proofs.Subtypes.{array_is}
 use Rattle.change_rules.specs.Change.{Change}
 use Rattle.change_rules.specs.Moves.{move_expr}
-use Rattle.change_rules.specs.Keeps.{Names, names_of, keeps_expr}
+use Rattle.change_rules.specs.Keeps.{Names, names_of, keeps_expr, keeps_defined}
 use Rattle.change_laws.proofs.Exprs.{moved_in, out_moved, move_prim, move_array}
 use Rattle.change_laws.proofs.Subst.{names_array}
 use Rattle.change_laws.proofs.Same.{same_exprs_moved}
@@ -30,7 +31,8 @@ use Rattle.query_laws.proofs.Homes.{home_moved, home_kept}
 use Rattle.query_laws.proofs.Wholes.{value_type_moved}
 use Rattle.subtype_laws.specs.Gone.{KeepsImplied}
 use Rattle.subtype_laws.specs.Laws.{BelowMoves}
-use Rattle.subtype_laws.proofs.Filtered.{any_kept, led_kept, any_moved, led_moved}
+use Rattle.subtype_laws.proofs.Filtered.{any_other, led_kept, led_split, any_moved, led_moved}
+use Rattle.subtype_laws.proofs.Defined.{defined_array, home_defined}
 use Rattle.subtype_laws.proofs.Climbs.{Goes, kept_up, up_filtered, up_split, up_gone, up_moved, up_kept, goes_unkept}
 use Rattle.subtype_laws.proofs.Whole.{above_whole}
 
@@ -103,10 +105,25 @@ module _ (k : Change) (kept : RowAt → Bool) (p : Places) (outputs inputs : Lis
       (λ i. is_some (home_moved k kept p after before r keeps a h i) && same_expr (move b) (sym (move_prim k.rho 0x1c) i))
       ∙ (λ i. defined_by (home_of before a) i && apart b (expr.Prim 0x1c) i)
 
-  leads_moved : (a b : TypeExpr) → K a ≡ true → K b ≡ true → leads_up after (move a) (move b) ≡ leads_up before a b
+  -- one that goes is no type whose definition is kept
+  other_by : (b x : TypeExpr) → IsTrue (keeps_defined k.keep b) → (K x ≡ true) ⊎ GoesIn x → K x ≡ false → (c : Bool) → same_expr b x ≡ c → c ≡ false
+  other_by b x h (inl s) u c e = absurd (true≢false (sym s ∙ u))
+  other_by b x h (inr g) u true e =
+      let home = ap (home_of before) ((same_decides b x).0 e) ∙ g.is in
+      absurd (true≢false (sym (home_defined k.keep kept before keeps b g.home h home) ∙ g.none 0 g.home refl))
+  other_by b x h (inr g) u false e = refl
+
+  above_split : (a x : TypeExpr) → K a ≡ true → In x (above before a) → (K x ≡ true) ⊎ GoesIn x
+  unfolding above
+  above_split a x h i =
+      led_split same_expr same_decides K (up before) climb GoesIn (up_filtered k kept p after inputs sound r keeps implied) (up_split k kept p after inputs sound r keeps implied)
+      (goes_unkept k kept p after inputs sound r keeps implied) (up_gone k kept p after inputs sound r keeps implied) (suc (type_count before)) (a ∷ []) (λ y j. split a y h j) x i
+
+  leads_moved : (a b : TypeExpr) → K a ≡ true → IsTrue (keeps_defined k.keep b) → leads_up after (move a) (move b) ≡ leads_up before a b
   leads_moved a b h g =
       (λ i. under_moved a b h i || list_any (same_expr (move b)) (above_moved a h i))
-      ∙ ap (λ (c : Bool). is_under_object before a b || c) (any_moved same_expr move apart b (filter K (above before a)) ∙ any_kept same_expr same_decides K b (above before a) g)
+      ∙ ap (λ (c : Bool). is_under_object before a b || c)
+      (any_moved same_expr move apart b (filter K (above before a)) ∙ any_other same_expr same_decides K b (above before a) (λ x i u. other_by b x g (above_split a x h i) u (same_expr b x) refl))
 
   -- ---- reference types
 
@@ -136,6 +153,9 @@ module _ (k : Change) (kept : RowAt → Bool) (p : Places) (outputs inputs : Lis
   element_kept : (a x : TypeExpr) → K a ≡ true → element_of a ≡ Some x → K x ≡ true
   element_kept a x h e = sym (ap (λ (n : Names). n.kept) (ap (λ z. names_of k.keep z) (array_is a x e) ∙ names_array k.keep x)) ∙ h
 
+  element_defined : (b y : TypeExpr) → IsTrue (keeps_defined k.keep b) → element_of b ≡ Some y → IsTrue (keeps_defined k.keep y)
+  element_defined b y h e = sym (ap (λ z. keeps_defined k.keep z) (array_is b y e) ∙ defined_array k.keep y) ∙ h
+
   -- without elements steps up alone tell
   alone : (recs : List AsmRec) (n : ℕ) (a b : TypeExpr) → element_of a ≡ None → is_below recs n a b ≡ leads_up recs a b
   unfolding is_below
@@ -147,14 +167,14 @@ module _ (k : Change) (kept : RowAt → Bool) (p : Places) (outputs inputs : Lis
       or_none false = refl
 
   abbrev Alike : ℕ → Type 0
-  Alike n = (m : ℕ) (a b : TypeExpr) → n ≡ levels a → m ≡ levels (move a) → K a ≡ true → K b ≡ true → is_below after m (move a) (move b) ≡ is_below before n a b
+  Alike n = (m : ℕ) (a b : TypeExpr) → n ≡ levels a → m ≡ levels (move a) → K a ≡ true → IsTrue (keeps_defined k.keep b) → is_below after m (move a) (move b) ≡ is_below before n a b
 
-  elements_moved : (n m : ℕ) → Alike n → (x : TypeExpr) → n ≡ levels x → m ≡ levels (move x) → K x ≡ true → (b : TypeExpr) → K b ≡ true → (o : Option TypeExpr) → element_of b ≡ o
+  elements_moved : (n m : ℕ) → Alike n → (x : TypeExpr) → n ≡ levels x → m ≡ levels (move x) → K x ≡ true → (b : TypeExpr) → IsTrue (keeps_defined k.keep b) → (o : Option TypeExpr) → element_of b ≡ o
       → are_elements after (is_below after m) (Some (move x)) (option_map move o) ≡ are_elements before (is_below before n) (Some x) o
   elements_moved n m again x ln lm h b g None e = refl
-  elements_moved n m again x ln lm h b g (Some y) e = λ i. reference_moved x h i && again m x y ln lm h (element_kept b y g e) i
+  elements_moved n m again x ln lm h b g (Some y) e = λ i. reference_moved x h i && again m x y ln lm h (element_defined b y g e) i
 
-  array_moved : (n m : ℕ) → Alike n → (a b x : TypeExpr) → element_of a ≡ Some x → n ≡ levels x → m ≡ levels (move x) → K a ≡ true → K b ≡ true
+  array_moved : (n m : ℕ) → Alike n → (a b x : TypeExpr) → element_of a ≡ Some x → n ≡ levels x → m ≡ levels (move x) → K a ≡ true → IsTrue (keeps_defined k.keep b)
       → is_below after (suc m) (move a) (move b) ≡ is_below before (suc n) a b
   unfolding is_below
   array_moved n m again a b x e ln lm h g =
@@ -168,7 +188,7 @@ module _ (k : Change) (kept : RowAt → Bool) (p : Places) (outputs inputs : Lis
   deep_moved : (a x : TypeExpr) → element_of a ≡ Some x → levels (move a) ≡ suc (levels (move x))
   deep_moved a x e = ap (λ (z : TypeExpr). levels (move z)) (array_is a x e) ∙ ap levels (move_array k.rho x) ∙ levels_array (move x)
 
-  below_by : (n : ℕ) → ((n' : ℕ) → n ≡ suc n' → Alike n') → (m : ℕ) (a b : TypeExpr) → n ≡ levels a → m ≡ levels (move a) → K a ≡ true → K b ≡ true → (o : Option TypeExpr) → element_of a ≡ o
+  below_by : (n : ℕ) → ((n' : ℕ) → n ≡ suc n' → Alike n') → (m : ℕ) (a b : TypeExpr) → n ≡ levels a → m ≡ levels (move a) → K a ≡ true → IsTrue (keeps_defined k.keep b) → (o : Option TypeExpr) → element_of a ≡ o
       → is_below after m (move a) (move b) ≡ is_below before n a b
   below_by n again m a b ln lm h g None e =
       alone after m (move a) (move b) (element_moved k a ∙ ap (option_map move) e) ∙ leads_moved a b h g ∙ sym (alone before n a b e)
@@ -183,7 +203,7 @@ module _ (k : Change) (kept : RowAt → Bool) (p : Places) (outputs inputs : Lis
   alike zero m a b ln lm h g = below_by zero (λ n' e. absurd (omega arith)) m a b ln lm h g (element_of a) refl
   alike (suc n) m a b ln lm h g = below_by (suc n) (λ n' e. let same : n ≡ n' = omega arith in subst Alike same (alike n)) m a b ln lm h g (element_of a) refl
 
-  pub below_moved : (a b : TypeExpr) → K a ≡ true → K b ≡ true → is_subtype after (move a) (move b) ≡ is_subtype before a b
+  pub below_moved : (a b : TypeExpr) → K a ≡ true → IsTrue (keeps_defined k.keep b) → is_subtype after (move a) (move b) ≡ is_subtype before a b
   below_moved a b h g = alike (levels a) (levels (move a)) a b refl refl h g
 
 pub all_below_moved : BelowMoves

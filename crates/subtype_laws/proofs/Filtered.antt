@@ -68,6 +68,16 @@ module _ {A : Type 0} (same : A → A → Bool) (decides : (x y : A) → Decides
   any_kept y [] h = refl
   any_kept y (x ∷ xs) h = any_by x y xs (K x) refl h (any_kept y xs h)
 
+  other_by : (x y : A) (xs : List A) (b : Bool) → K x ≡ b → (K x ≡ false → same y x ≡ false) → list_any (same y) (filter K xs) ≡ list_any (same y) xs
+      → list_any (same y) (if b then x ∷ filter K xs else filter K xs) ≡ (same y x || list_any (same y) xs)
+  other_by x y xs true is h e = ap (λ (c : Bool). same y x || c) e
+  other_by x y xs false is h e = e ∙ sym (ap (λ (c : Bool). c || list_any (same y) xs) (h is))
+
+  -- so is one that is none of those that go
+  pub any_other : (y : A) (xs : List A) → ((x : A) → In x xs → K x ≡ false → same y x ≡ false) → list_any (same y) (filter K xs) ≡ list_any (same y) xs
+  any_other y [] h = refl
+  any_other y (x ∷ xs) h = other_by x y xs (K x) refl (h x (inl refl)) (any_other y xs (λ z i. h z (inr i)))
+
   kept_one : (xs : List A) (y : A) (c : Bool) → K y ≡ true → filter K (if c then xs else xs ++ y ∷ []) ≡ (if c then filter K xs else filter K xs ++ y ∷ [])
   kept_one xs y true h = refl
   kept_one xs y false h = filter_both K xs (y ∷ []) ∙ ap (λ (b : Bool). filter K xs ++ (if b then y ∷ [] else [])) h

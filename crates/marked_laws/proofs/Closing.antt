@@ -1,0 +1,147 @@
+-- What the rules give of facts that are marked is marked.
+use Rattle.std.proofs.Common.{◌≡◌, ℕ, Bool, true, false, List, [], ◌∷◌, ◌++◌, map, Option, Some, None, ◌⊎◌, inl, inr, refl, sym, ap, subst, ◌∙◌}
+use Rattle.std.specs.Prelude.{IsTrue, ◌||◌}
+use Rattle.std.specs.List.{flat_map}
+use Rattle.std.proofs.lemmas.Bool.{or_left}
+use Rattle.il_base.specs.declared.ids.TypeId.{TypeId}
+use Rattle.il_base.specs.declared.ids.Item.{Item}
+use Rattle.il_base.specs.declared.ids.Item.TheVariants as item
+use Rattle.world_model.specs.declared.known.Known.{Known}
+use Rattle.world_model.specs.declared.known.Known.TheVariants.{Good, Bad}
+use Rattle.world_model.specs.declared.record.AsmRec.{AsmRec}
+use Rattle.link_rules.specs.declared.row_at.RowAt.{RowAt}
+use Rattle.link_rules.specs.Members.{type_home}
+use Rattle.link_rules.specs.Cycles.{listed}
+use Rattle.type_laws.proofs.Within.{In, in_front, in_behind, in_parts, listed_in, in_map, flat_in}
+use Rattle.walk_laws.proofs.Finds.{contains}
+use Rattle.descriptor_file.specs.declared.root.Root.{Root}
+use Rattle.mark_rules.specs.Facts.{Fact, Derived}
+use Rattle.mark_rules.specs.Facts.Fact.{marked, instantiated, reflected, shown}
+use Rattle.mark_rules.specs.Places.{row_of, is_core}
+use Rattle.mark_rules.specs.Naming.{Named, Part, of_known, of_named, of_parts}
+use Rattle.mark_rules.specs.Attributes.{attribute_needs}
+use Rattle.mark_rules.specs.Dependencies.{dependency_needs}
+use Rattle.mark_rules.specs.Roots.{waiting_facts}
+use Rattle.mark_rules.specs.Shown.{arguments_of_part, arguments_of_parts, showing_parts, shown_by_item, item_shows, shows}
+use Rattle.mark_rules.specs.Marking.{row_needs, item_needs, one, of_rows, two, of_three, three, is_core_fact, given, marking, Marks}
+use Rattle.mark_rules.specs.Types.{rows_for}
+use Rattle.mark_rules.specs.Calls.{class_runs, interface_runs}
+use Rattle.marked_laws.specs.Flags.{HasMarks}
+
+-- ---- members of lists that are made of lists
+
+pub mapped_in : {A B : Type 0} (f : A → B) (x : A) (xs : List A) → In x xs → In (f x) (map f xs)
+mapped_in f x [] i = absurd i
+mapped_in f x (y ∷ xs) (inl e) = inl (ap f e)
+mapped_in f x (y ∷ xs) (inr i) = inr (mapped_in f x xs i)
+
+-- what a good part names is among what the parts mark
+pub in_parts_of : (parts : List Part) (p : Part) (n : Named) (f : Fact) → In p parts → p.named ≡ Good n → In f (of_named n) → In f (of_parts parts)
+in_parts_of parts p n f i e h = flat_in (λ (p : Part). of_known of_named p.named) f p parts i (subst (λ (k : Known Named). In f (of_known of_named k)) (sym e) h)
+
+pub in_arguments_of : (parts : List Part) (p : Part) (n : Named) (t : TypeId) → In p parts → p.named ≡ Good n → In t (arguments_of_part (Good n)) → In t (arguments_of_parts parts)
+in_arguments_of parts p n t i e h = flat_in (λ (p : Part). arguments_of_part p.named) t p parts i (subst (λ (k : Known Named). In t (arguments_of_part k)) (sym e) h)
+
+module _ (recs : List AsmRec) (entry : Option RowAt) (roots : List Root) (has : Fact → Bool) (m : HasMarks recs entry roots has) where
+  pub derived : (f : Fact) → IsTrue (has f) → Marks recs entry roots f
+  derived f h = (m.decides f).0 h
+
+  pub holds : (f : Fact) → Marks recs entry roots f → IsTrue (has f)
+  holds f d = (m.decides f).1 d
+
+  given_core : (f : Fact) → is_core_fact recs f ≡ true → IsTrue (given recs entry roots f)
+  unfolding given
+  given_core f h = or_left (is_core_fact recs f) _ h
+
+  core_start : (f : Fact) → IsTrue (given recs entry roots f) → Marks recs entry roots f
+  unfolding marking
+  core_start f h = Derived.start f h
+
+  pub by_core : (i : Item) → is_core recs i ≡ true → IsTrue (has (marked i))
+  by_core i h = holds (marked i) (core_start (marked i) (given_core (marked i) h))
+
+  one_step : (a f : Fact) → Marks recs entry roots a → In f (one recs roots a) → Marks recs entry roots f
+  unfolding marking
+  one_step a f d i = Derived.by_one a f d (contains (one recs roots a) f i)
+
+  pub by_one : (a f : Fact) → IsTrue (has a) → In f (one recs roots a) → IsTrue (has f)
+  by_one a f h i = holds f (one_step a f (derived a h) i)
+
+  two_step : (a b f : Fact) → Marks recs entry roots a → Marks recs entry roots b → In f (two recs a b) → Marks recs entry roots f
+  unfolding marking
+  two_step a b f d e i = Derived.by_two a b f d e (contains (two recs a b) f i)
+
+  pub by_two : (a b f : Fact) → IsTrue (has a) → IsTrue (has b) → In f (two recs a b) → IsTrue (has f)
+  by_two a b f h g i = holds f (two_step a b f (derived a h) (derived b g) i)
+
+  three_step : (a b c f : Fact) → Marks recs entry roots a → Marks recs entry roots b → Marks recs entry roots c → In f (three recs a b c) → Marks recs entry roots f
+  unfolding marking
+  three_step a b c f d e g i = Derived.by_three a b c f d e g (contains (three recs a b c) f i)
+
+  pub by_three : (a b c f : Fact) → IsTrue (has a) → IsTrue (has b) → IsTrue (has c) → In f (three recs a b c) → IsTrue (has f)
+  by_three a b c f h g u i = holds f (three_step a b c f (derived a h) (derived b g) (derived c u) i)
+
+  -- ---- what a marked item needs by its row
+
+  abbrev others : Item → List Fact
+  others i = attribute_needs recs i ++ dependency_needs recs i ++ waiting_facts recs roots i ++ item_shows recs i
+
+  in_item : (i : Item) (at : RowAt) (f : Fact) → row_of recs i ≡ Some at → In f (row_needs recs i at) → In f (item_needs recs roots i)
+  in_item i at f is h =
+      in_front f (flat_map (row_needs recs i) (listed (row_of recs i))) (others i) (flat_in (row_needs recs i) f at (listed (row_of recs i)) (listed_in at (row_of recs i) is) h)
+
+  in_one : (i : Item) (f : Fact) → In f (item_needs recs roots i) → In f (one recs roots (marked i))
+  unfolding one
+  in_one i f h = h
+
+  pub row_gives : (i : Item) (at : RowAt) (f : Fact) → IsTrue (has (marked i)) → row_of recs i ≡ Some at → In f (row_needs recs i at) → IsTrue (has f)
+  row_gives i at f h is g = by_one (marked i) f h (in_one i f (in_item i at f is g))
+
+  -- ---- what it shows
+
+  in_shows : (i : Item) (at : RowAt) (t : TypeId) → row_of recs i ≡ Some at → In t (arguments_of_parts (showing_parts recs i at) ++ shown_by_item recs i at) → In (shown t) (item_shows recs i)
+  unfolding item_shows
+  in_shows i at t is h = flat_in (shows recs i) (shown t) at (listed (row_of recs i)) (listed_in at (row_of recs i) is) (mapped_in shown t (arguments_of_parts (showing_parts recs i at) ++ shown_by_item recs i at) h)
+
+  in_others : (i : Item) (f : Fact) → In f (item_shows recs i) → In f (item_needs recs roots i)
+  in_others i f h =
+      in_behind f (flat_map (row_needs recs i) (listed (row_of recs i))) (others i)
+      (in_behind f (attribute_needs recs i) (dependency_needs recs i ++ waiting_facts recs roots i ++ item_shows recs i)
+      (in_behind f (dependency_needs recs i) (waiting_facts recs roots i ++ item_shows recs i) (in_behind f (waiting_facts recs roots i) (item_shows recs i) h)))
+
+  pub item_gives_shown : (i : Item) (at : RowAt) (t : TypeId) → IsTrue (has (marked i)) → row_of recs i ≡ Some at → In t (arguments_of_parts (showing_parts recs i at) ++ shown_by_item recs i at) → IsTrue (has (shown t))
+  item_gives_shown i at t h is g = by_one (marked i) (shown t) h (in_one i (shown t) (in_others i (shown t) (in_shows i at t is g)))
+
+  -- ---- what a slot runs
+
+  in_of_rows : (f : RowAt → RowAt → List Fact) (x y : RowAt) (a b : Option RowAt) (g : Fact) → a ≡ Some x → b ≡ Some y → In g (f x y) → In g (of_rows recs f a b)
+  in_of_rows f x y a b g ea eb i = flat_in (λ x. flat_map (f x) (listed b)) g x (listed a) (listed_in x a ea) (flat_in (f x) g y (listed b) (listed_in y b eb) i)
+
+  in_of_three : (f : RowAt → RowAt → RowAt → List Fact) (x y z : RowAt) (a b c : Option RowAt) (g : Fact) → a ≡ Some x → b ≡ Some y → c ≡ Some z → In g (f x y z) → In g (of_three recs f a b c)
+  in_of_three f x y z a b c g ea eb ec i =
+      flat_in (λ x. flat_map (λ y. flat_map (f x y) (listed c)) (listed b)) g x (listed a) (listed_in x a ea)
+      (flat_in (λ y. flat_map (f x y) (listed c)) g y (listed b) (listed_in y b eb) (flat_in (f x y) g z (listed c) (listed_in z c ec) i))
+
+  pub rows_give : (t j : TypeId) (x y : RowAt) (f : Fact) → IsTrue (has (marked (item.Typ t))) → IsTrue (has (marked (item.Typ j))) → type_home recs t ≡ Some x → type_home recs j ≡ Some y → In f (rows_for recs x y) → IsTrue (has f)
+  rows_give t j x y f h g ex ey i = by_two (marked (item.Typ t)) (marked (item.Typ j)) f h g (in_two i)
+    where
+      in_two : In f (rows_for recs x y) → In f (two recs (marked (item.Typ t)) (marked (item.Typ j)))
+      unfolding two
+      in_two i = in_of_rows (rows_for recs) x y (type_home recs t) (type_home recs j) f ex ey i
+
+  -- for an instantiated type and a marked slot
+  pub class_gives : (t : TypeId) (i : Item) (x y : RowAt) (f : Fact) → (b : _) → i ≡ item.Method b → IsTrue (has (instantiated t)) → IsTrue (has (marked i)) → type_home recs t ≡ Some x → row_of recs i ≡ Some y → In f (class_runs recs x y) → IsTrue (has f)
+  class_gives t i x y f b same h g ex ey u =
+      by_two (instantiated t) (marked i) f h g (subst (λ (j : Item). In f (two recs (instantiated t) (marked j))) (sym same) (in_two (subst (λ (j : Item). row_of recs j ≡ Some y) same ey)))
+    where
+      in_two : row_of recs (item.Method b) ≡ Some y → In f (two recs (instantiated t) (marked (item.Method b)))
+      unfolding two
+      in_two e = in_of_rows (class_runs recs) x y (type_home recs t) (row_of recs (item.Method b)) f ex e u
+
+  pub interface_gives : (t : TypeId) (b : _) (r : _) (x y z : RowAt) (f : Fact) → IsTrue (has (instantiated t)) → IsTrue (has (marked (item.Method b))) → IsTrue (has (marked (item.Impl r)))
+      → type_home recs t ≡ Some x → row_of recs (item.Method b) ≡ Some y → row_of recs (item.Impl r) ≡ Some z → In f (interface_runs recs x y z) → IsTrue (has f)
+  interface_gives t b r x y z f h g u ex ey ez v = by_three (instantiated t) (marked (item.Method b)) (marked (item.Impl r)) f h g u in_three
+    where
+      in_three : In f (three recs (instantiated t) (marked (item.Method b)) (marked (item.Impl r)))
+      unfolding three
+      in_three = in_of_three (interface_runs recs) x y z (type_home recs t) (row_of recs (item.Method b)) (row_of recs (item.Impl r)) f ex ey ez v

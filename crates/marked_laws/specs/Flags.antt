@@ -1,0 +1,76 @@
+-- What is kept where the marked set is kept: the flags of a change (`change_rules/specs/Change`), by which facts are marked.
+use Rattle.std.specs.Prelude.{ℕ, List, length, Option, Bool, ◌&&◌, ◌||◌}
+use Rattle.std.specs.Bool.{Decides}
+use Rattle.std.specs.List.{list_any, range_with_len}
+use Rattle.std.specs.Option.{option_map}
+use Rattle.il_base.specs.declared.ids.TypeId.{TypeId}
+use Rattle.il_base.specs.declared.ids.MethodId.{MethodId}
+use Rattle.il_base.specs.declared.ids.FieldId.{FieldId}
+use Rattle.il_base.specs.declared.ids.Item.TheVariants as item
+use Rattle.world_model.specs.declared.record.AsmRec.{AsmRec}
+use Rattle.link_rules.specs.declared.row_at.RowAt.{RowAt}
+use Rattle.link_rules.specs.Types.{at_row}
+use Rattle.link_rules.specs.Members.{type_home}
+use Rattle.link_rules.specs.Cycles.{listed, same_row, is_static_field}
+use Rattle.type_rules.specs.Slots.{type_of_method}
+use Rattle.type_rules.specs.Rows.{rec_at, field_row_at, owner_of_field}
+use Rattle.descriptor_file.specs.declared.root.Root.{Root}
+use Rattle.mark_rules.specs.Facts.{Fact}
+use Rattle.mark_rules.specs.Facts.Fact.{marked, instantiated, shown}
+use Rattle.mark_rules.specs.Places.{is_core, marks_method, marks_field, impl_item}
+use Rattle.mark_rules.specs.Marking.{Marks}
+use Rattle.change_rules.specs.Change.{Keep}
+
+-- a flag for each fact, set exactly where the rules derive it
+pub record HasMarks (recs : List AsmRec) (entry : Option RowAt) (roots : List Root) (has : Fact → Bool) : Type 0 where
+  pub decides : (f : Fact) → Decides (has f) (Marks recs entry roots f)
+
+abbrev pub type_numbered : ℕ → TypeId
+type_numbered n = record { 0 = n }
+
+abbrev pub method_numbered : ℕ → MethodId
+method_numbered n = record { 0 = n }
+
+abbrev pub field_numbered : ℕ → FieldId
+field_numbered n = record { 0 = n }
+
+abbrev pub is_core_type : List AsmRec → ℕ → Bool
+is_core_type recs t = is_core recs (item.Typ (type_numbered t))
+
+-- ---- types whose initializer an access can begin: those of a marked method, or of a marked static field
+
+abbrev pub is_of_type : RowAt → Option RowAt → Bool
+is_of_type t owner = list_any (same_row t) (listed owner)
+
+abbrev pub begun_by_method : List AsmRec → (Fact → Bool) → RowAt → ℕ → Bool
+begun_by_method recs has t k = has (marks_method recs (at_row t.asm k)) && is_of_type t (type_of_method recs (at_row t.asm k))
+
+abbrev pub begun_by_field : List AsmRec → (Fact → Bool) → RowAt → AsmRec → ℕ → Bool
+begun_by_field recs has t rec k =
+    has (marks_field recs (at_row t.asm k)) && list_any is_static_field (listed (field_row_at recs (at_row t.asm k))) && is_of_type t (option_map (at_row t.asm) (owner_of_field rec k))
+
+abbrev pub begun_in : List AsmRec → (Fact → Bool) → RowAt → AsmRec → Bool
+begun_in recs has t rec =
+    list_any (begun_by_method recs has t) (range_with_len 0 (length rec.method_def)) || list_any (begun_by_field recs has t rec) (range_with_len 0 (length rec.field))
+
+abbrev pub begun_at : List AsmRec → (Fact → Bool) → RowAt → Bool
+begun_at recs has t = list_any (begun_in recs has t) (listed (rec_at recs t))
+
+unfoldable pub begins : List AsmRec → (Fact → Bool) → ℕ → Bool
+begins recs has t = list_any (begun_at recs has) (listed (type_home recs (type_numbered t)))
+
+-- ---- all flags; types of the core library count as made, shown and begun
+
+unfoldable pub keep_of : List AsmRec → (Fact → Bool) → Keep
+keep_of recs has = record {
+  typ = λ t. has (marked (item.Typ (type_numbered t)));
+  method = λ m. has (marked (item.Method (method_numbered m)));
+  field = λ f. has (marked (item.Field (field_numbered f)));
+  made = λ t. is_core_type recs t || has (instantiated (type_numbered t));
+  shown = λ t. is_core_type recs t || has (shown (type_numbered t));
+  begun = λ t. is_core_type recs t || begins recs has t;
+}
+
+-- interface rows
+abbrev pub kept_of : List AsmRec → (Fact → Bool) → RowAt → Bool
+kept_of recs has at = has (marked (impl_item recs at))
