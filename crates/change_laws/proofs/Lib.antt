@@ -1,5 +1,6 @@
 pub mod Exprs
 pub mod Subst
+pub mod Defined
 pub mod Values
 pub mod Same
 pub mod Lists

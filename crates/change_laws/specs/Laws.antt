@@ -13,7 +13,7 @@ use Rattle.step_rules.specs.Places.{is_global}
 use Rattle.change_rules.specs.Change.{Rho, Undone, Keep}
 use Rattle.change_rules.specs.Moves.{move_expr, move_exprs, move_use, move_field_use, move_path}
 use Rattle.change_rules.specs.States.{move_global, move_started}
-use Rattle.change_rules.specs.Keeps.{keeps_expr, shows_expr}
+use Rattle.change_rules.specs.Keeps.{keeps_expr, keeps_defined, shows_expr}
 
 -- ---- led back
 
@@ -38,6 +38,14 @@ SubstMoves = (rho : Rho) (targs margs : List TypeExpr) (e : TypeExpr)
 abbrev pub SubstKeeps : Type 0
 SubstKeeps = (k : Keep) (targs margs : List TypeExpr) → IsTrue (list_all (shows_expr k) targs) → IsTrue (list_all (shows_expr k) margs)
     → (e : TypeExpr) → IsTrue (keeps_expr k e) → IsTrue (keeps_expr k (subst targs margs e))
+
+-- what is kept names only definitions that are kept
+abbrev pub KeptDefined : Type 0
+KeptDefined = (k : Keep) (e : TypeExpr) → IsTrue (keeps_expr k e) → IsTrue (keeps_defined k e)
+
+abbrev pub SubstDefined : Type 0
+SubstDefined = (k : Keep) (targs margs : List TypeExpr) → IsTrue (list_all (shows_expr k) targs) → IsTrue (list_all (shows_expr k) margs)
+    → (e : TypeExpr) → IsTrue (keeps_defined k e) → IsTrue (keeps_defined k (subst targs margs e))
 
 -- ---- the same
 

@@ -1,4 +1,4 @@
-ghost use Rattle.change_laws.specs.Laws.{ExprsMoveBack, UsesMoveBack, FieldUsesMoveBack, PathsMoveBack, SubstMoves, SubstKeeps, SameExprs, SamePlaces, SameGlobals, SameTypes};
+ghost use Rattle.change_laws.specs.Laws.{ExprsMoveBack, UsesMoveBack, FieldUsesMoveBack, PathsMoveBack, SubstMoves, SubstKeeps, KeptDefined, SubstDefined, SameExprs, SamePlaces, SameGlobals, SameTypes};
 ghost use Rattle.change_laws.specs.CellLaws.{CellsRead, CellsWritten, ZerosMove};
 ghost use Rattle.change_laws.specs.Numbers.{OldOfNew};
 
@@ -14,6 +14,13 @@ pub fn moves_back()
 pub fn substitution_moves()
     ensures moves { SubstMoves }
     ensures keeps { SubstKeeps }
+{}
+
+/// A law: a type that is kept names only definitions that are kept, and a type that names no others still does with arguments put
+/// in. It does nothing.
+pub fn definitions_stay()
+    ensures kept { KeptDefined }
+    ensures substituted { SubstDefined }
 {}
 
 /// A law: two types, two places, and the keys of static fields and initializers are the same after a move exactly where they

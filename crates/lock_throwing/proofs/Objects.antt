@@ -33,12 +33,13 @@ use Rattle.change_rules.specs.Change.{Rho, Keep, Change}
 use Rattle.change_rules.specs.Moves.{move_item, move_expr, move_value}
 use Rattle.change_rules.specs.Answers.{move_cell}
 use Rattle.change_rules.specs.States.{keeps_cell, mask, move_cells, move_obj, move_state}
-use Rattle.change_rules.specs.Keeps.{both, keeps_expr, shows_expr, makes_expr, keeps_made, keeps_value, keeps_values, keeps_layout}
+use Rattle.change_rules.specs.Keeps.{both, keeps_expr, keeps_defined, shows_expr, makes_expr, keeps_made, keeps_value, keeps_values, keeps_layout}
 use Rattle.change_rules.specs.Covered.{Covered, keeps_obj}
 use Rattle.change_rules.specs.Agree.{Agree, is_asked}
 use Rattle.change_rules.specs.Lock.{Lock}
 use Rattle.change_laws.proofs.Exprs.{move_prim, move_def, move_array}
 use Rattle.change_laws.proofs.Subst.{names_prim, names_def, names_array}
+use Rattle.change_laws.proofs.Defined.{kept_defined}
 use Rattle.change_laws.proofs.Values.{move_object, keeps_object}
 use Rattle.change_laws.proofs.Lists.{all_at}
 use Rattle.change_laws.proofs.Cells.{keep_map, keep_all_set, cells_read, cells_written, zeros_move}
@@ -129,15 +130,24 @@ module _ (k : Change) (after before : Queries) (a : Agree k after before) where
   pub object_kept : (s : State) → Covered k.keep before s → (n : ℕ) (o : Obj) → object_at s n ≡ Some o → IsTrue (keeps_obj k.keep before o)
   object_kept s c n o e = all_at (keeps_obj k.keep before) s.heap n o c.heap e
 
+  is_a_defined : (e : TypeExpr) → IsTrue (keeps_defined k.keep e) → (o : Option Obj) → ((x : Obj) → o ≡ Some x → IsTrue (keeps_obj k.keep before x))
+      → is_a after (move_expr k.rho e) (option_map (move_obj k before) o) ≡ is_a before e o
+  is_a_defined e h None f = refl
+  is_a_defined e h (Some o) f =
+      ap (λ (t : TypeExpr). after.below t (move_expr k.rho e)) (type_of_moved o) ∙ a.below (type_of before o) e (type_of_kept o (f o refl)) h
+
+  -- a type that an exception clause names
+  pub is_a_defined_at : (s : State) → Covered k.keep before s → (e : TypeExpr) → IsTrue (keeps_defined k.keep e) → (n : ℕ)
+      → is_a after (move_expr k.rho e) (object_at (move_state k before s) n) ≡ is_a before e (object_at s n)
+  is_a_defined_at s c e h n = ap (is_a after (move_expr k.rho e)) (object_moved s n) ∙ is_a_defined e h (object_at s n) (λ o is. object_kept s c n o is)
+
   pub is_a_moved : (e : TypeExpr) → IsTrue (keeps_expr k.keep e) → (o : Option Obj) → ((x : Obj) → o ≡ Some x → IsTrue (keeps_obj k.keep before x))
       → is_a after (move_expr k.rho e) (option_map (move_obj k before) o) ≡ is_a before e o
-  is_a_moved e h None f = refl
-  is_a_moved e h (Some o) f =
-      ap (λ (t : TypeExpr). after.below t (move_expr k.rho e)) (type_of_moved o) ∙ a.below (type_of before o) e (type_of_kept o (f o refl)) h
+  is_a_moved e h o f = is_a_defined e (kept_defined k.keep e h) o f
 
   pub is_a_at : (s : State) → Covered k.keep before s → (e : TypeExpr) → IsTrue (keeps_expr k.keep e) → (n : ℕ)
       → is_a after (move_expr k.rho e) (object_at (move_state k before s) n) ≡ is_a before e (object_at s n)
-  is_a_at s c e h n = ap (is_a after (move_expr k.rho e)) (object_moved s n) ∙ is_a_moved e h (object_at s n) (λ o is. object_kept s c n o is)
+  is_a_at s c e h n = is_a_defined_at s c e (kept_defined k.keep e h) n
 
   -- ---- cells of objects
 

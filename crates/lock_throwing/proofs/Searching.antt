@@ -39,7 +39,7 @@ use Rattle.change_rules.specs.Change.{Change}
 use Rattle.change_rules.specs.Moves.{move_expr, move_values}
 use Rattle.change_rules.specs.Answers.{move_clause, move_code, move_here}
 use Rattle.change_rules.specs.States.{move_waits, move_frame, move_started, move_state}
-use Rattle.change_rules.specs.Keeps.{keeps_expr, keeps_use, keeps_values, keeps_clause, if_good}
+use Rattle.change_rules.specs.Keeps.{keeps_defined, keeps_use, keeps_values, keeps_clause, if_good}
 use Rattle.change_rules.specs.Covered.{keeps_started, CoveredFrames, Covered}
 use Rattle.change_rules.specs.Agree.{Agree, is_asked}
 use Rattle.change_rules.specs.Lock.{Lock}
@@ -47,8 +47,8 @@ use Rattle.change_laws.proofs.Same.{same_exprs_moved}
 use Rattle.change_laws.proofs.Lists.{change_moved}
 use Rattle.change_laws.proofs.Values.{move_object, keeps_object}
 use Rattle.lock_words.proofs.Words.{stuck_lock, stopped_lock, given_moved, if_lock, made_lock}
-use Rattle.lock_words.proofs.Types.{closed_slot_moved, closed_slot_kept}
-use Rattle.lock_throwing.proofs.Objects.{is_a_at, threw_lock, wrapping_moved, wrapping_kept, new_exception_moved, new_exception_kept}
+use Rattle.lock_words.proofs.Types.{defined_slot_moved, defined_slot_kept}
+use Rattle.lock_throwing.proofs.Objects.{is_a_defined_at, threw_lock, wrapping_moved, wrapping_kept, new_exception_moved, new_exception_kept}
 use Rattle.lock_throwing.proofs.Here.{KeptHere, here_moved, here_kept, still_running_moved, left_moved}
 
 -- ---- initializers
@@ -161,16 +161,16 @@ module _ (k : Change) (after before : Queries) (a : Agree k after before) where
   abbrev CaughtMoves : Here → Known TypeExpr → Type 0
   CaughtMoves here o = (option_and_then (closed_slot after (move_here k.rho here).targs (move_here k.rho here).margs) (good (known_map (move_expr k.rho) o))
       ≡ option_map (move_expr k.rho) (option_and_then (closed_slot before here.targs here.margs) (good o)))
-      × ((e : TypeExpr) → option_and_then (closed_slot before here.targs here.margs) (good o) ≡ Some e → IsTrue (keeps_expr k.keep e))
+      × ((e : TypeExpr) → option_and_then (closed_slot before here.targs here.margs) (good o) ≡ Some e → IsTrue (keeps_defined k.keep e))
 
-  caught_moves : (here : Here) → KeptHere k.keep before here → (o : Known TypeExpr) → IsTrue (if_good (keeps_expr k.keep) o) → CaughtMoves here o
-  caught_moves here r (Good e) h = (closed_slot_moved k after before a here.targs here.margs r.targs r.margs e h, λ d is. closed_slot_kept k after before a here.targs here.margs r.targs r.margs e d h is)
+  caught_moves : (here : Here) → KeptHere k.keep before here → (o : Known TypeExpr) → IsTrue (if_good (keeps_defined k.keep) o) → CaughtMoves here o
+  caught_moves here r (Good e) h = (defined_slot_moved k after before a here.targs here.margs r.targs r.margs e h, λ d is. defined_slot_kept k after before a here.targs here.margs r.targs r.margs e d h is)
   caught_moves here r (Bad why) h = (refl, λ d is. cc)
 
-  catches_by_moved : (s : State) → Covered k.keep before s → (x n : ℕ) (o : Option TypeExpr) → ((e : TypeExpr) → o ≡ Some e → IsTrue (keeps_expr k.keep e)) → (new old : Found) → new ≡ old
+  catches_by_moved : (s : State) → Covered k.keep before s → (x n : ℕ) (o : Option TypeExpr) → ((e : TypeExpr) → o ≡ Some e → IsTrue (keeps_defined k.keep e)) → (new old : Found) → new ≡ old
       → catches_by after (move_state k before s) x n (option_map (move_expr k.rho) o) new ≡ catches_by before s x n o old
   catches_by_moved s c x n None h new old e = refl
-  catches_by_moved s c x n (Some d) h new old e = λ i. if is_a_at k after before a s c d (h d refl) x i then by_clause n else e i
+  catches_by_moved s c x n (Some d) h new old e = λ i. if is_a_defined_at k after before a s c d (h d refl) x i then by_clause n else e i
 
   clause_moved : (here : Here) → KeptHere k.keep before here → (s : State) → Covered k.keep before s → (x at n : ℕ) (cs : List Clause) → IsTrue (list_all (keeps_clause k.keep) cs)
       → clause_for after (move_here k.rho here) (move_state k before s) x at n (map (move_clause k.rho) cs) ≡ clause_for before here s x at n cs

@@ -16,7 +16,7 @@ use Rattle.step_rules.specs.Closing.{plain}
 use Rattle.step_rules.specs.Frames.{definition_in, definition_of}
 use Rattle.change_rules.specs.Change.{Rho, Keep}
 use Rattle.change_rules.specs.Moves.{move_expr, move_exprs}
-use Rattle.change_rules.specs.Keeps.{Names, both, names_of, names_layer, keeps_expr, shows_expr, definition_passes, makes_expr, begins_expr}
+use Rattle.change_rules.specs.Keeps.{Names, both, names_of, names_layer, keeps_expr, shows_expr, definition_passes, parameter_passes, makes_expr, news_expr, begins_expr}
 use Rattle.change_laws.proofs.Exprs.{With, plain_parts, moved_in, out_moved}
 use Rattle.change_laws.proofs.Subst.{names_rolled}
 use Rattle.lock_words.proofs.Types.{plain_in, plain_rolled}
@@ -204,18 +204,40 @@ pub begins_closed : (k : Keep) (targs margs : List TypeExpr) (e : TypeExpr) → 
 unfolding begins_expr
 begins_closed k targs margs e h t is = definition_flag k.begun targs margs e t h is
 
-pub makes_closed : (k : Keep) (targs margs : List TypeExpr) (e : TypeExpr) → IsTrue (makes_expr k e) → IsTrue (makes_expr k (plain (exprs.subst targs margs e)))
-unfolding makes_expr
-makes_closed k targs margs e h = passes_closed k.made targs margs e h
+-- what passes as a definition passes where a parameter does too
+passes_too : (flag : ℕ → Bool) (x : TypeExpr-F TypeExpr) → IsTrue (definition_passes flag x) → IsTrue (parameter_passes flag x)
+passes_too flag (TypeExpr-F.Prim n) h = h
+passes_too flag (TypeExpr-F.Def t) h = h
+passes_too flag (TypeExpr-F.Inst t args) h = h
+passes_too flag (TypeExpr-F.Array x) h = h
+passes_too flag (TypeExpr-F.ByRef x) h = h
+passes_too flag (TypeExpr-F.Var n) h = refl
+passes_too flag (TypeExpr-F.MVar n) h = refl
+passes_too flag (TypeExpr-F.Mod required by x) h = h
+
+pub news_make : (k : Keep) (e : TypeExpr) → IsTrue (news_expr k e) → IsTrue (makes_expr k e)
+unfolding news_expr makes_expr
+news_make k e h = passes_too k.made (out-TypeExpr (plain e)) h
+
+news_closed : (k : Keep) (targs margs : List TypeExpr) (e : TypeExpr) → IsTrue (news_expr k e) → IsTrue (news_expr k (plain (exprs.subst targs margs e)))
+unfolding news_expr
+news_closed k targs margs e h = passes_closed k.made targs margs e h
+
+pub makes_closed : (k : Keep) (targs margs : List TypeExpr) (e : TypeExpr) → IsTrue (news_expr k e) → IsTrue (makes_expr k (plain (exprs.subst targs margs e)))
+makes_closed k targs margs e h = news_make k (plain (exprs.subst targs margs e)) (news_closed k targs margs e h)
+
+-- the outermost construct of a type without modifiers there
+out_plain : (x : TypeExpr-F TypeExpr) (e : TypeExpr) → roll-TypeExpr x ≡ e → plain_in x ≡ roll-TypeExpr x → out-TypeExpr (plain e) ≡ x
+out_plain x e rolls is = ap (λ (d : TypeExpr). out-TypeExpr (plain d)) (sym rolls) ∙ ap out-TypeExpr (plain_rolled x ∙ is) ∙ out-roll-TypeExpr x
 
 pub makes_def : (k : Keep) (t : TypeId) → makes_expr k (expr.Def t) ≡ k.made t.0
 unfolding makes_expr
-makes_def k t = passes_def k.made t
+makes_def k t = ap (parameter_passes k.made) (out_plain (TypeExpr-F.Def t) (expr.Def t) (expr.rolls-Def t) refl)
 
 pub makes_array : (k : Keep) (e : TypeExpr) → IsTrue (makes_expr k (expr.Array e))
 unfolding makes_expr
-makes_array k e = passes_array k.made e
+makes_array k e = ap (parameter_passes k.made) (out_plain (TypeExpr-F.Array e) (expr.Array e) (expr.rolls-Array e) refl)
 
 pub makes_prim : (k : Keep) (n : ℕ) → IsTrue (makes_expr k (expr.Prim n))
 unfolding makes_expr
-makes_prim k n = passes_prim k.made n
+makes_prim k n = ap (parameter_passes k.made) (out_plain (TypeExpr-F.Prim n) (expr.Prim n) (expr.rolls-Prim n) refl)

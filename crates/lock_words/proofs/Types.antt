@@ -14,10 +14,11 @@ use Rattle.step_rules.specs.Queries.{Queries}
 use Rattle.step_rules.specs.Closing.{plain_layer, plain, whole_of, whole_if, alone_if, takes, is_whole, is_sound, Standing, standing_layer, standing, is_void_in, is_void, if_so, closed_return, closed_slot, closed_cell_by, closed_cell, closed_arg}
 use Rattle.change_rules.specs.Change.{Rho, Keep, Change}
 use Rattle.change_rules.specs.Moves.{move_expr, move_exprs}
-use Rattle.change_rules.specs.Keeps.{Names, both, names_layer, names_of, keeps_expr, shows_expr}
+use Rattle.change_rules.specs.Keeps.{Names, names_of, keeps_expr, shows_expr, itself, defined_layer, keeps_defined}
 use Rattle.change_rules.specs.Agree.{Agree}
 use Rattle.change_laws.proofs.Exprs.{With, plain_parts, moved_in, move_rolled, out_moved}
 use Rattle.change_laws.proofs.Subst.{Stays, same_stays, subst_moves, subst_stays, names_rolled, names_mod_of}
+use Rattle.change_laws.proofs.Defined.{defined_rolled, kept_defined, subst_stays_defined}
 
 -- ---- without modifiers
 
@@ -145,30 +146,49 @@ module _ (k : Keep) where
   pub plain_stays : (e : TypeExpr) → Stays (names_of k e) (names_of k (plain e))
   plain_stays = ind-TypeExpr PlainStays (λ x y is. subst (λ z. PlainStays (roll-TypeExpr z)) is (plain_rolled_stays y))
 
+  abbrev PlainDefined : TypeExpr → Type 0
+  PlainDefined e = IsTrue (keeps_defined k e) → IsTrue (keeps_defined k (plain e))
+
+  plain_layer_defined : (y : TypeExpr-F (With PlainDefined)) → IsTrue (keeps_defined k (roll-TypeExpr (plain_parts PlainDefined y))) → IsTrue (keeps_defined k (plain_in (plain_parts PlainDefined y)))
+  plain_layer_defined (TypeExpr-F.Mod required by x) h = x.1 (second_so (k.typ by.0) (keeps_defined k x.0) (sym (defined_rolled k (TypeExpr-F.Mod required by x.0)) ∙ h))
+  plain_layer_defined (TypeExpr-F.Prim n) h = h
+  plain_layer_defined (TypeExpr-F.Def t) h = h
+  plain_layer_defined (TypeExpr-F.Inst t xs) h = h
+  plain_layer_defined (TypeExpr-F.Array x) h = h
+  plain_layer_defined (TypeExpr-F.ByRef x) h = h
+  plain_layer_defined (TypeExpr-F.Var n) h = h
+  plain_layer_defined (TypeExpr-F.MVar n) h = h
+
+  plain_rolled_defined : (y : TypeExpr-F (With PlainDefined)) → PlainDefined (roll-TypeExpr (plain_parts PlainDefined y))
+  plain_rolled_defined y h = ap (keeps_defined k) (plain_rolled (plain_parts PlainDefined y)) ∙ plain_layer_defined y h
+
+  plain_stays_defined : (e : TypeExpr) → IsTrue (keeps_defined k e) → IsTrue (keeps_defined k (plain e))
+  plain_stays_defined = ind-TypeExpr PlainDefined (λ x y is. subst (λ z. PlainDefined (roll-TypeExpr z)) is (plain_rolled_defined y))
+
 -- ---- closed types
 
 module _ (k : Change) (after before : Queries) (a : Agree k after before) where
   abbrev StandsAlike : TypeExpr → Type 0
-  StandsAlike e = IsTrue (keeps_expr k.keep e) → standing after.head (move_expr k.rho e) ≡ standing before.head e
+  StandsAlike e = IsTrue (keeps_defined k.keep e) → standing after.head (move_expr k.rho e) ≡ standing before.head e
 
   standing_rolled : (q : Queries) (x : TypeExpr-F TypeExpr) → standing q.head (roll-TypeExpr x) ≡ standing_layer q.head (map-TypeExpr TypeExpr Standing (standing q.head) x)
   unfolding standing
   standing_rolled q x = fold-roll-TypeExpr Standing (standing_layer q.head) x
 
-  stand_args : (xs : List (With StandsAlike)) → IsTrue (list_all both (map (names_of k.keep) (map (λ e. e.0) xs)))
+  stand_args : (xs : List (With StandsAlike)) → IsTrue (list_all itself (map (keeps_defined k.keep) (map (λ e. e.0) xs)))
       → map (standing after.head) (move_exprs k.rho (map (λ e. e.0) xs)) ≡ map (standing before.head) (map (λ e. e.0) xs)
   stand_args [] h = refl
   stand_args (x ∷ xs) h =
-      let n : Names = names_of k.keep x.0 in
-      let rest : Bool = list_all both (map (names_of k.keep) (map (λ e. e.0) xs)) in
-      λ i. x.1 (first_so n.kept n.shown (first_so (both n) rest h)) i ∷ stand_args xs (second_so (both n) rest h) i
+      let b : Bool = keeps_defined k.keep x.0 in
+      let rest : Bool = list_all itself (map (keeps_defined k.keep) (map (λ e. e.0) xs)) in
+      λ i. x.1 (first_so b rest h) i ∷ stand_args xs (second_so b rest h) i
 
-  stand_layer : (y : TypeExpr-F (With StandsAlike)) → IsTrue (names_layer k.keep (map-TypeExpr TypeExpr Names (names_of k.keep) (plain_parts StandsAlike y))).kept
+  stand_layer : (y : TypeExpr-F (With StandsAlike)) → IsTrue (defined_layer k.keep (map-TypeExpr TypeExpr Bool (keeps_defined k.keep) (plain_parts StandsAlike y)))
       → standing_layer after.head (map-TypeExpr TypeExpr Standing (standing after.head) (moved_in k.rho (plain_parts StandsAlike y))) ≡ standing_layer before.head (map-TypeExpr TypeExpr Standing (standing before.head) (plain_parts StandsAlike y))
   stand_layer (TypeExpr-F.Prim n) h = refl
   stand_layer (TypeExpr-F.Def t) h = ap (λ o. whole_if (takes o 0)) (a.head t.0 h)
   stand_layer (TypeExpr-F.Inst t xs) h =
-      let rest : Bool = list_all both (map (names_of k.keep) (map (λ e. e.0) xs)) in
+      let rest : Bool = list_all itself (map (keeps_defined k.keep) (map (λ e. e.0) xs)) in
       let args : map (standing after.head) (move_exprs k.rho (map (λ e. e.0) xs)) ≡ map (standing before.head) (map (λ e. e.0) xs) = stand_args xs (second_so (k.keep.typ t.0) rest h) in
       λ i. whole_if (takes (a.head t.0 (first_so (k.keep.typ t.0) rest h) i) (length (args i)) && list_all is_whole (args i))
   stand_layer (TypeExpr-F.Array x) h = ap (λ s. whole_if (is_whole s)) (x.1 h)
@@ -181,10 +201,13 @@ module _ (k : Change) (after before : Queries) (a : Agree k after before) where
   stand_rolled y h =
       let x : TypeExpr-F TypeExpr = plain_parts StandsAlike y in
       ap (standing after.head) (move_rolled k.rho x) ∙ standing_rolled after (moved_in k.rho x)
-      ∙ stand_layer y (sym (ap (λ (n : Names). n.kept) (names_rolled k.keep x)) ∙ h) ∙ sym (standing_rolled before x)
+      ∙ stand_layer y (sym (defined_rolled k.keep x) ∙ h) ∙ sym (standing_rolled before x)
+
+  defined_stands : (e : TypeExpr) → IsTrue (keeps_defined k.keep e) → standing after.head (move_expr k.rho e) ≡ standing before.head e
+  defined_stands = ind-TypeExpr StandsAlike (λ x y is. subst (λ z. StandsAlike (roll-TypeExpr z)) is (stand_rolled y))
 
   pub standing_moved : (e : TypeExpr) → IsTrue (keeps_expr k.keep e) → standing after.head (move_expr k.rho e) ≡ standing before.head e
-  standing_moved = ind-TypeExpr StandsAlike (λ x y is. subst (λ z. StandsAlike (roll-TypeExpr z)) is (stand_rolled y))
+  standing_moved e h = defined_stands e (kept_defined k.keep e h)
 
   module _ (targs margs : List TypeExpr) (ts : IsTrue (list_all (shows_expr k.keep) targs)) (ms : IsTrue (list_all (shows_expr k.keep) margs)) where
     abbrev pub In : TypeExpr → TypeExpr
@@ -192,6 +215,9 @@ module _ (k : Change) (after before : Queries) (a : Agree k after before) where
 
     in_stays : (e : TypeExpr) → IsTrue (keeps_expr k.keep e) → IsTrue (keeps_expr k.keep (In e))
     in_stays e h = (plain_stays k.keep (exprs.subst targs margs e)).kept ((subst_stays k.keep targs margs ts ms e).kept h)
+
+    in_defined : (e : TypeExpr) → IsTrue (keeps_defined k.keep e) → IsTrue (keeps_defined k.keep (In e))
+    in_defined e h = plain_stays_defined k.keep (exprs.subst targs margs e) (subst_stays_defined k.keep targs margs ts ms e h)
 
     -- what is kept stays kept in a closed type, what is shown too stays shown
     pub in_names : (e : TypeExpr) → Stays (names_of k.keep e) (names_of k.keep (In e))
@@ -207,13 +233,17 @@ module _ (k : Change) (after before : Queries) (a : Agree k after before) where
     so_moved true c = refl
     so_moved false c = refl
 
-    pub closed_return_moved : (e : TypeExpr) → IsTrue (keeps_expr k.keep e)
+    defined_return_moved : (e : TypeExpr) → IsTrue (keeps_defined k.keep e)
         → closed_return after (move_exprs k.rho targs) (move_exprs k.rho margs) (move_expr k.rho e) ≡ option_map (move_expr k.rho) (closed_return before targs margs e)
     unfolding closed_return
-    closed_return_moved e h =
+    defined_return_moved e h =
         ap (λ (c : TypeExpr). if_so (is_sound (standing after.head c)) c) (in_moves e)
-        ∙ ap (λ s. if_so (is_sound s) (move_expr k.rho (In e))) (standing_moved (In e) (in_stays e h))
+        ∙ ap (λ s. if_so (is_sound s) (move_expr k.rho (In e))) (defined_stands (In e) (in_defined e h))
         ∙ so_moved (is_sound (standing before.head (In e))) (In e)
+
+    pub closed_return_moved : (e : TypeExpr) → IsTrue (keeps_expr k.keep e)
+        → closed_return after (move_exprs k.rho targs) (move_exprs k.rho margs) (move_expr k.rho e) ≡ option_map (move_expr k.rho) (closed_return before targs margs e)
+    closed_return_moved e h = defined_return_moved e (kept_defined k.keep e h)
 
     unless_void : TypeExpr → Option TypeExpr
     unless_void c = if is_void c then None else Some c
@@ -227,11 +257,16 @@ module _ (k : Change) (after before : Queries) (a : Agree k after before) where
     slot_by None = refl
     slot_by (Some c) = ap (λ (b : Bool). if b then None else Some (move_expr k.rho c)) (is_void_moved k.rho c) ∙ void_by (is_void c) c
 
-    pub closed_slot_moved : (e : TypeExpr) → IsTrue (keeps_expr k.keep e)
+    -- a type that an exception clause names
+    pub defined_slot_moved : (e : TypeExpr) → IsTrue (keeps_defined k.keep e)
         → closed_slot after (move_exprs k.rho targs) (move_exprs k.rho margs) (move_expr k.rho e) ≡ option_map (move_expr k.rho) (closed_slot before targs margs e)
     unfolding closed_slot
-    closed_slot_moved e h =
-        ap (option_and_then (λ c. if is_void c then None else Some c)) (closed_return_moved e h) ∙ slot_by (closed_return before targs margs e)
+    defined_slot_moved e h =
+        ap (option_and_then (λ c. if is_void c then None else Some c)) (defined_return_moved e h) ∙ slot_by (closed_return before targs margs e)
+
+    pub closed_slot_moved : (e : TypeExpr) → IsTrue (keeps_expr k.keep e)
+        → closed_slot after (move_exprs k.rho targs) (move_exprs k.rho margs) (move_expr k.rho e) ≡ option_map (move_expr k.rho) (closed_slot before targs margs e)
+    closed_slot_moved e h = defined_slot_moved e (kept_defined k.keep e h)
 
     -- what comes out is kept
     so_is : (b : Bool) (c d : TypeExpr) → if_so b c ≡ Some d → c ≡ d
@@ -261,6 +296,9 @@ module _ (k : Change) (after before : Queries) (a : Agree k after before) where
     pub closed_slot_is : (e c : TypeExpr) → closed_slot before targs margs e ≡ Some c → In e ≡ c
     unfolding closed_slot
     closed_slot_is e c is = closed_return_is e c (slot_from (closed_return before targs margs e) c is)
+
+    pub defined_slot_kept : (e c : TypeExpr) → IsTrue (keeps_defined k.keep e) → closed_slot before targs margs e ≡ Some c → IsTrue (keeps_defined k.keep c)
+    defined_slot_kept e c h is = subst (λ (d : TypeExpr). IsTrue (keeps_defined k.keep d)) (closed_slot_is e c is) (in_defined e h)
 
     pub closed_slot_shown : (e c : TypeExpr) → IsTrue (shows_expr k.keep e) → closed_slot before targs margs e ≡ Some c → IsTrue (shows_expr k.keep c)
     closed_slot_shown e c h is = subst (λ (d : TypeExpr). IsTrue (shows_expr k.keep d)) (closed_slot_is e c is) ((in_names e).shown h)

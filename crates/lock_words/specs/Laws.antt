@@ -6,7 +6,7 @@ use Rattle.step_rules.specs.Closing.{plain}
 use Rattle.step_rules.specs.Frames.{definition_of}
 use Rattle.step_rules.specs.Slots.{nop, load_null, duplicate, pop, load_int32, load_int64, load_arg, load_local, address_arg, address_local, store_arg, store_local}
 use Rattle.change_rules.specs.Change.{Keep}
-use Rattle.change_rules.specs.Keeps.{makes_expr, begins_expr}
+use Rattle.change_rules.specs.Keeps.{makes_expr, news_expr, begins_expr}
 use Rattle.change_rules.specs.Lock.{FormLocks}
 
 -- arguments, locals, constants, the evaluation stack
@@ -26,7 +26,7 @@ pub record SlotsLock : Type 0 where
 
 -- with arguments put in, and without modifiers
 abbrev pub MadeStay : Type 0
-MadeStay = (k : Keep) (targs margs : List TypeExpr) (e : TypeExpr) → IsTrue (makes_expr k e) → IsTrue (makes_expr k (plain (subst targs margs e)))
+MadeStay = (k : Keep) (targs margs : List TypeExpr) (e : TypeExpr) → IsTrue (news_expr k e) → IsTrue (makes_expr k (plain (subst targs margs e)))
 
 abbrev pub BegunStay : Type 0
 BegunStay = (k : Keep) (targs margs : List TypeExpr) (e : TypeExpr) (t : ℕ) → IsTrue (begins_expr k e) → definition_of (plain (subst targs margs e)) ≡ Some t → IsTrue (k.begun t)

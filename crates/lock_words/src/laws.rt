@@ -5,8 +5,8 @@ pub fn slots_lock()
     ensures { SlotsLock }
 {}
 
-/// A law: a type of which there can be objects stays one with arguments put in and without modifiers, and so does a type whose
-/// initializer an access can begin. It does nothing.
+/// A law: a type of which there can be objects whatever is put in is one with arguments put in and without modifiers, and a type
+/// whose initializer an access can begin stays one. It does nothing.
 pub fn closed_types_stay()
     ensures made { MadeStay }
     ensures begun { BegunStay }
