@@ -4,6 +4,8 @@ use Rattle.std.specs.Prelude.{IsTrue, ◌||◌}
 use Rattle.std.specs.List.{flat_map}
 use Rattle.std.proofs.lemmas.Bool.{or_left}
 use Rattle.il_base.specs.declared.ids.TypeId.{TypeId}
+use Rattle.il_base.specs.declared.ids.MethodId.{MethodId}
+use Rattle.il_base.specs.declared.ids.ImplId.{ImplId}
 use Rattle.il_base.specs.declared.ids.Item.{Item}
 use Rattle.il_base.specs.declared.ids.Item.TheVariants as item
 use Rattle.world_model.specs.declared.known.Known.{Known}
@@ -83,12 +85,15 @@ module _ (recs : List AsmRec) (entry : Option RowAt) (roots : List Root) (has : 
 
   -- ---- what a marked item needs by its row
 
-  abbrev others : Item → List Fact
-  others i = attribute_needs recs i ++ dependency_needs recs i ++ waiting_facts recs roots i ++ item_shows recs i
+  abbrev rows : Item → List Fact
+  rows i = flat_map (row_needs recs i) (listed (row_of recs i))
 
   in_item : (i : Item) (at : RowAt) (f : Fact) → row_of recs i ≡ Some at → In f (row_needs recs i at) → In f (item_needs recs roots i)
   in_item i at f is h =
-      in_front f (flat_map (row_needs recs i) (listed (row_of recs i))) (others i) (flat_in (row_needs recs i) f at (listed (row_of recs i)) (listed_in at (row_of recs i) is) h)
+      in_front f (rows i ++ attribute_needs recs i ++ dependency_needs recs i ++ waiting_facts recs roots i) (item_shows recs i)
+      (in_front f (rows i ++ attribute_needs recs i ++ dependency_needs recs i) (waiting_facts recs roots i)
+      (in_front f (rows i ++ attribute_needs recs i) (dependency_needs recs i)
+      (in_front f (rows i) (attribute_needs recs i) (flat_in (row_needs recs i) f at (listed (row_of recs i)) (listed_in at (row_of recs i) is) h))))
 
   in_one : (i : Item) (f : Fact) → In f (item_needs recs roots i) → In f (one recs roots (marked i))
   unfolding one
@@ -104,10 +109,7 @@ module _ (recs : List AsmRec) (entry : Option RowAt) (roots : List Root) (has : 
   in_shows i at t is h = flat_in (shows recs i) (shown t) at (listed (row_of recs i)) (listed_in at (row_of recs i) is) (mapped_in shown t (arguments_of_parts (showing_parts recs i at) ++ shown_by_item recs i at) h)
 
   in_others : (i : Item) (f : Fact) → In f (item_shows recs i) → In f (item_needs recs roots i)
-  in_others i f h =
-      in_behind f (flat_map (row_needs recs i) (listed (row_of recs i))) (others i)
-      (in_behind f (attribute_needs recs i) (dependency_needs recs i ++ waiting_facts recs roots i ++ item_shows recs i)
-      (in_behind f (dependency_needs recs i) (waiting_facts recs roots i ++ item_shows recs i) (in_behind f (waiting_facts recs roots i) (item_shows recs i) h)))
+  in_others i f h = in_behind f (rows i ++ attribute_needs recs i ++ dependency_needs recs i ++ waiting_facts recs roots i) (item_shows recs i) h
 
   pub item_gives_shown : (i : Item) (at : RowAt) (t : TypeId) → IsTrue (has (marked i)) → row_of recs i ≡ Some at → In t (arguments_of_parts (showing_parts recs i at) ++ shown_by_item recs i at) → IsTrue (has (shown t))
   item_gives_shown i at t h is g = by_one (marked i) (shown t) h (in_one i (shown t) (in_others i (shown t) (in_shows i at t is g)))
@@ -122,26 +124,28 @@ module _ (recs : List AsmRec) (entry : Option RowAt) (roots : List Root) (has : 
       flat_in (λ x. flat_map (λ y. flat_map (f x y) (listed c)) (listed b)) g x (listed a) (listed_in x a ea)
       (flat_in (λ y. flat_map (f x y) (listed c)) g y (listed b) (listed_in y b eb) (flat_in (f x y) g z (listed c) (listed_in z c ec) i))
 
+  in_rows_two : (t j : TypeId) (x y : RowAt) (f : Fact) → type_home recs t ≡ Some x → type_home recs j ≡ Some y → In f (rows_for recs x y) → In f (two recs (marked (item.Typ t)) (marked (item.Typ j)))
+  unfolding two
+  in_rows_two t j x y f ex ey i = in_of_rows (rows_for recs) x y (type_home recs t) (type_home recs j) f ex ey i
+
   pub rows_give : (t j : TypeId) (x y : RowAt) (f : Fact) → IsTrue (has (marked (item.Typ t))) → IsTrue (has (marked (item.Typ j))) → type_home recs t ≡ Some x → type_home recs j ≡ Some y → In f (rows_for recs x y) → IsTrue (has f)
-  rows_give t j x y f h g ex ey i = by_two (marked (item.Typ t)) (marked (item.Typ j)) f h g (in_two i)
-    where
-      in_two : In f (rows_for recs x y) → In f (two recs (marked (item.Typ t)) (marked (item.Typ j)))
-      unfolding two
-      in_two i = in_of_rows (rows_for recs) x y (type_home recs t) (type_home recs j) f ex ey i
+  rows_give t j x y f h g ex ey i = by_two (marked (item.Typ t)) (marked (item.Typ j)) f h g (in_rows_two t j x y f ex ey i)
+
+  in_class_two : (t : TypeId) (b : MethodId) (x y : RowAt) (f : Fact) → type_home recs t ≡ Some x → row_of recs (item.Method b) ≡ Some y → In f (class_runs recs x y) → In f (two recs (instantiated t) (marked (item.Method b)))
+  unfolding two
+  in_class_two t b x y f ex ey i = in_of_rows (class_runs recs) x y (type_home recs t) (row_of recs (item.Method b)) f ex ey i
 
   -- for an instantiated type and a marked slot
-  pub class_gives : (t : TypeId) (i : Item) (x y : RowAt) (f : Fact) → (b : _) → i ≡ item.Method b → IsTrue (has (instantiated t)) → IsTrue (has (marked i)) → type_home recs t ≡ Some x → row_of recs i ≡ Some y → In f (class_runs recs x y) → IsTrue (has f)
-  class_gives t i x y f b same h g ex ey u =
-      by_two (instantiated t) (marked i) f h g (subst (λ (j : Item). In f (two recs (instantiated t) (marked j))) (sym same) (in_two (subst (λ (j : Item). row_of recs j ≡ Some y) same ey)))
-    where
-      in_two : row_of recs (item.Method b) ≡ Some y → In f (two recs (instantiated t) (marked (item.Method b)))
-      unfolding two
-      in_two e = in_of_rows (class_runs recs) x y (type_home recs t) (row_of recs (item.Method b)) f ex e u
+  pub class_gives : (t : TypeId) (b : MethodId) (x y : RowAt) (f : Fact) → IsTrue (has (instantiated t)) → IsTrue (has (marked (item.Method b))) → type_home recs t ≡ Some x → row_of recs (item.Method b) ≡ Some y → In f (class_runs recs x y) → IsTrue (has f)
+  class_gives t b x y f h g ex ey i = by_two (instantiated t) (marked (item.Method b)) f h g (in_class_two t b x y f ex ey i)
 
-  pub interface_gives : (t : TypeId) (b : _) (r : _) (x y z : RowAt) (f : Fact) → IsTrue (has (instantiated t)) → IsTrue (has (marked (item.Method b))) → IsTrue (has (marked (item.Impl r)))
-      → type_home recs t ≡ Some x → row_of recs (item.Method b) ≡ Some y → row_of recs (item.Impl r) ≡ Some z → In f (interface_runs recs x y z) → IsTrue (has f)
-  interface_gives t b r x y z f h g u ex ey ez v = by_three (instantiated t) (marked (item.Method b)) (marked (item.Impl r)) f h g u in_three
-    where
-      in_three : In f (three recs (instantiated t) (marked (item.Method b)) (marked (item.Impl r)))
-      unfolding three
-      in_three = in_of_three (interface_runs recs) x y z (type_home recs t) (row_of recs (item.Method b)) (row_of recs (item.Impl r)) f ex ey ez v
+  in_interface_three : (t : TypeId) (b : MethodId) (i : ImplId) (x y z : RowAt) (f : Fact) → type_home recs t ≡ Some x → row_of recs (item.Method b) ≡ Some y → row_of recs (item.Impl i) ≡ Some z → In f (interface_runs recs x y z)
+      → In f (three recs (instantiated t) (marked (item.Method b)) (marked (item.Impl i)))
+  unfolding three
+  in_interface_three t b i x y z f ex ey ez g = in_of_three (interface_runs recs) x y z (type_home recs t) (row_of recs (item.Method b)) (row_of recs (item.Impl i)) f ex ey ez g
+
+  -- and a marked interface row
+  pub interface_gives : (t : TypeId) (b : MethodId) (i : ImplId) (x y z : RowAt) (f : Fact) → IsTrue (has (instantiated t)) → IsTrue (has (marked (item.Method b))) → IsTrue (has (marked (item.Impl i)))
+      → type_home recs t ≡ Some x → row_of recs (item.Method b) ≡ Some y → row_of recs (item.Impl i) ≡ Some z → In f (interface_runs recs x y z) → IsTrue (has f)
+  interface_gives t b i x y z f h g u ex ey ez v =
+      by_three (instantiated t) (marked (item.Method b)) (marked (item.Impl i)) f h g u (in_interface_three t b i x y z f ex ey ez v)
