@@ -1,2 +1,5 @@
 pub mod Closing
 pub mod Named
+pub mod Flags
+pub mod Places
+pub mod Parts

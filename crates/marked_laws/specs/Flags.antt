@@ -1,5 +1,5 @@
 -- What is kept where the marked set is kept: the flags of a change (`change_rules/specs/Change`), by which facts are marked.
-use Rattle.std.specs.Prelude.{ℕ, List, length, Option, Bool, ◌&&◌, ◌||◌}
+use Rattle.std.specs.Prelude.{◌≡◌, ◌≤◌, ℕ, suc, List, length, Option, Some, slice_get, Bool, ◌&&◌, ◌||◌}
 use Rattle.std.specs.Bool.{Decides}
 use Rattle.std.specs.List.{list_any, range_with_len}
 use Rattle.std.specs.Option.{option_map}
@@ -7,6 +7,7 @@ use Rattle.il_base.specs.declared.ids.TypeId.{TypeId}
 use Rattle.il_base.specs.declared.ids.MethodId.{MethodId}
 use Rattle.il_base.specs.declared.ids.FieldId.{FieldId}
 use Rattle.il_base.specs.declared.ids.Item.TheVariants as item
+use Rattle.world_model.specs.declared.types.TypeDefRow.{TypeDefRow}
 use Rattle.world_model.specs.declared.record.AsmRec.{AsmRec}
 use Rattle.link_rules.specs.declared.row_at.RowAt.{RowAt}
 use Rattle.link_rules.specs.Types.{at_row}
@@ -59,7 +60,7 @@ begun_at recs has t = list_any (begun_in recs has t) (listed (rec_at recs t))
 unfoldable pub begins : List AsmRec → (Fact → Bool) → ℕ → Bool
 begins recs has t = list_any (begun_at recs has) (listed (type_home recs (type_numbered t)))
 
--- ---- all flags; types of the core library count as made, shown and begun
+-- ---- all flags; types of the core library count as made and shown
 
 unfoldable pub keep_of : List AsmRec → (Fact → Bool) → Keep
 keep_of recs has = record {
@@ -67,10 +68,14 @@ keep_of recs has = record {
   method = λ m. has (marked (item.Method (method_numbered m)));
   field = λ f. has (marked (item.Field (field_numbered f)));
   made = λ t. is_core_type recs t || has (instantiated (type_numbered t));
-  shown = λ t. is_core_type recs t || has (shown (type_numbered t));
-  begun = λ t. is_core_type recs t || begins recs has t;
+  shown = λ t. has (marked (item.Typ (type_numbered t))) && (is_core_type recs t || has (shown (type_numbered t)));
+  begun = λ t. has (marked (item.Typ (type_numbered t))) && begins recs has t;
 }
 
 -- interface rows
 abbrev pub kept_of : List AsmRec → (Fact → Bool) → RowAt → Bool
 kept_of recs has at = has (marked (impl_item recs at))
+
+-- runs of methods end with their table, as those of files do (II.22.37)
+abbrev pub RunsEnd : List AsmRec → Type 0
+RunsEnd recs = (a k : ℕ) (rec : AsmRec) (t : TypeDefRow) → slice_get recs a ≡ Some rec → slice_get rec.type_def k ≡ Some t → t.method_list_end ≤ suc (length rec.method_def)

@@ -1,5 +1,7 @@
-use Rattle.marked_laws.proofs.Closing.{interface_gives}
+use Rattle.marked_laws.proofs.Parts.{part_kept}
 use Rattle.marked_laws.proofs.Named.{shown_by_parts}
+use Rattle.marked_laws.proofs.Flags.{made_core}
+use Rattle.marked_laws.proofs.Places.{prim_is_core}
 use Rattle.marked_laws.proofs.laws.marked_rows.Goals as goal
 
 pub returns : goal.returns
