@@ -1,7 +1,6 @@
 -- What is called runs, for each kind of receiver.
-use Rattle.std.proofs.Common.{◌≡◌, ℕ, Bool, true, false, ◌&&◌, ◌||◌, not, List, [], ◌∷◌, Option, Some, None, refl, sym, ap, subst, ◌∙◌}
-use Rattle.std.specs.Prelude.{IsTrue, nat_eq, ◌==◌, if◌then◌else◌}
-use Rattle.std.specs.List.{list_all}
+use Rattle.std.proofs.Common.{◌≡◌, ℕ, Bool, true, false, ◌||◌, not, List, [], ◌∷◌, Option, Some, None, refl, sym, ap, subst, ◌∙◌}
+use Rattle.std.specs.Prelude.{IsTrue, ◌==◌, if◌then◌else◌}
 use Rattle.std.specs.Option.{option_map}
 use Rattle.std.specs.Cmp.{first_so, second_so}
 use Rattle.std.proofs.lemmas.Bool.{and_from}
@@ -12,7 +11,6 @@ use Rattle.core_table.specs.declared.names.CoreName.TheVariants as name
 use Rattle.cil_values.specs.declared.path.Path.{Path}
 use Rattle.cil_values.specs.declared.value.Value.{Value, out-Value, roll-Value}
 use Rattle.cil_values.specs.declared.value.Value.TheVariants as value
-use Rattle.cil_values.specs.declared.object.Obj.{Obj}
 use Rattle.cil_values.specs.declared.object.Obj.TheVariants as object
 use Rattle.cil_values.specs.declared.definition.Signature.{Signature}
 use Rattle.cil_values.specs.declared.resolved.Instruction.{Instruction}
@@ -36,7 +34,7 @@ use Rattle.change_rules.specs.Change.{Change}
 use Rattle.change_rules.specs.Moves.{move_expr, move_path, move_value, move_values}
 use Rattle.change_rules.specs.Answers.{move_signature, move_here, move_instruction, move_callee}
 use Rattle.change_rules.specs.States.{move_obj, move_prefix, move_waits, move_state}
-use Rattle.change_rules.specs.Keeps.{keeps_expr, shows_expr, makes_expr, keeps_made, keeps_root, keeps_path, keeps_value, keeps_values, keeps_signature}
+use Rattle.change_rules.specs.Keeps.{keeps_expr, shows_expr, makes_expr, keeps_made, keeps_path, keeps_value, keeps_values, keeps_signature}
 use Rattle.change_rules.specs.Covered.{keeps_obj, keeps_prefix, keeps_waits, Covered}
 use Rattle.change_rules.specs.Agree.{Agree, is_asked}
 use Rattle.change_rules.specs.Lock.{Lock, keeps_result, GivesLock}
@@ -48,7 +46,7 @@ use Rattle.lock_words.proofs.Definitions.{definition_moved}
 use Rattle.lock_words.proofs.Fits.{is_value_moved}
 use Rattle.lock_throwing.proofs.Objects.{shown_kept, type_of_moved, type_of_made, object_moved, object_kept}
 use Rattle.lock_throwing.proofs.Searching.{raise_lock}
-use Rattle.lock_places.proofs.Options.{Made, made_is, some_is}
+use Rattle.lock_places.proofs.Options.{Made, made_is}
 use Rattle.lock_places.proofs.Closing.{use_method, use_owner, KeptCallee}
 use Rattle.lock_places.proofs.Stores.{all_fit_moved, all_fit_kept}
 use Rattle.lock_places.proofs.Places.{alive_lock, at_place_lock}

@@ -1,9 +1,9 @@
 -- `call`, `callvirt`, `newobj` and the prefixes.
-use Rattle.std.proofs.Common.{◌≡◌, ℕ, Bool, true, false, ◌&&◌, ◌||◌, not, List, [], ◌∷◌, length, Option, Some, None, refl, sym, ap, subst, ◌∙◌}
-use Rattle.std.specs.Prelude.{IsTrue, ◌==◌, if◌then◌else◌}
+use Rattle.std.proofs.Common.{◌≡◌, ℕ, Bool, true, false, ◌&&◌, ◌||◌, not, List, ◌∷◌, length, Option, refl, sym, ap, subst, ◌∙◌}
+use Rattle.std.specs.Prelude.{IsTrue, ◌==◌}
 use Rattle.std.specs.Option.{option_map, option_and_then}
 use Rattle.std.specs.Cmp.{first_so, second_so}
-use Rattle.std.proofs.lemmas.Bool.{and_from}
+use Rattle.std.proofs.lemmas.Bool.{and_from, false≢true}
 use Rattle.std.proofs.lemmas.List.{length-map}
 use Rattle.il_base.specs.declared.body.Form.TheVariants as form
 use Rattle.il_base.specs.declared.opcode.TheConstants.{CONSTRAINED, READONLY}
@@ -26,20 +26,20 @@ use Rattle.cil_values.specs.declared.frame.Prefix.{Prefix}
 use Rattle.cil_values.specs.declared.frame.Prefix.TheVariants as prefixed
 use Rattle.cil_values.specs.declared.frame.Waits.TheVariants as waits
 use Rattle.step_rules.specs.Queries.{Queries}
-use Rattle.step_rules.specs.Next.{Next, went}
-use Rattle.step_rules.specs.Words.{Here, stuck, given, taken, made, goes_with, may_go, moved, object_at}
+use Rattle.step_rules.specs.Next.{Next}
+use Rattle.step_rules.specs.Words.{Here, stuck, given, taken, made, goes_with, may_go, object_at}
 use Rattle.step_rules.specs.Closing.{plain, Callee, closed, closed_use}
-use Rattle.step_rules.specs.Stores.{is_value, zero_of, zeros_of}
+use Rattle.step_rules.specs.Stores.{is_value, zero_of}
 use Rattle.step_rules.specs.Places.{boxed_in}
-use Rattle.step_rules.specs.Frames.{head_of, head_has}
+use Rattle.step_rules.specs.Frames.{head_has}
 use Rattle.step_rules.specs.Dispatch.{slots_of, path_into_box}
 use Rattle.step_rules.specs.CoreWords.{Gives}
-use Rattle.step_rules.specs.Calls.{invoke, waiting, with_args, begins, begun_for, may_call, calls, call, is_abstract_type, may_make, gives_made, constructs, constructs_value, new_instance, makes_with, makes, new_object, with_prefix, goes_under, other_prefix, prefix}
+use Rattle.step_rules.specs.Calls.{invoke, waiting, with_args, begins, begun_for, may_call, calls, call, may_make, gives_made, constructs, constructs_value, new_instance, makes_with, makes, new_object, goes_under, other_prefix, prefix}
 use Rattle.change_rules.specs.Change.{Change}
-use Rattle.change_rules.specs.Moves.{move_expr, move_value, move_values, move_path}
+use Rattle.change_rules.specs.Moves.{move_expr, move_value, move_values}
 use Rattle.change_rules.specs.Answers.{move_here, move_operand, move_instruction, move_callee}
-use Rattle.change_rules.specs.States.{move_obj, move_prefix, move_state}
-use Rattle.change_rules.specs.Keeps.{keeps_expr, shows_expr, makes_expr, keeps_made, begins_expr, keeps_use, keeps_called, keeps_value, keeps_values, if_good, keeps_operand, keeps_of_form}
+use Rattle.change_rules.specs.States.{move_prefix, move_state}
+use Rattle.change_rules.specs.Keeps.{keeps_expr, shows_expr, makes_expr, news_expr, keeps_made, begins_expr, keeps_use, keeps_called, keeps_value, keeps_values, if_good, keeps_operand, keeps_of_form}
 use Rattle.change_rules.specs.Covered.{keeps_prefix, Covered}
 use Rattle.change_rules.specs.Agree.{Agree}
 use Rattle.change_rules.specs.Lock.{Lock, GivesLock}
@@ -218,21 +218,24 @@ module _ (k : Change) (after before : Queries) (a : Agree k after before) where
       unfolding call
       call_lock h = call_by i.operand h
 
-      made_at : (o : Known MethodUse) (u : MethodUse) (d : Callee) → IsTrue (if_good (λ (u : MethodUse). keeps_made k.keep u.owner) o) → o ≡ Good u → plain (exprs.subst here.targs here.margs u.owner) ≡ d.called.owner → IsTrue (keeps_made k.keep d.called.owner)
+      abbrev MakesOwner : MethodUse → Bool
+      MakesOwner u = shows_expr k.keep u.owner && news_expr k.keep u.owner
+
+      made_at : (o : Known MethodUse) (u : MethodUse) (d : Callee) → IsTrue (if_good MakesOwner o) → o ≡ Good u → plain (exprs.subst here.targs here.margs u.owner) ≡ d.called.owner → IsTrue (keeps_made k.keep d.called.owner)
       made_at o u d h e is =
-          let g : IsTrue (keeps_made k.keep u.owner) = known_is (λ (u : MethodUse). keeps_made k.keep u.owner) o u e h in
+          let g : IsTrue (MakesOwner u) = known_is MakesOwner o u e h in
           subst (λ (t : TypeExpr). IsTrue (keeps_made k.keep t)) is
           (and_from (shows_expr k.keep (plain (exprs.subst here.targs here.margs u.owner))) (makes_expr k.keep (plain (exprs.subst here.targs here.margs u.owner)))
-          ((in_names k after before a here.targs here.margs r.targs r.margs u.owner).shown (first_so (shows_expr k.keep u.owner) (makes_expr k.keep u.owner) g))
-          (makes_closed k.keep here.targs here.margs u.owner (second_so (shows_expr k.keep u.owner) (makes_expr k.keep u.owner) g)))
+          ((in_names k after before a here.targs here.margs r.targs r.margs u.owner).shown (first_so (shows_expr k.keep u.owner) (news_expr k.keep u.owner) g))
+          (makes_closed k.keep here.targs here.margs u.owner (second_so (shows_expr k.keep u.owner) (news_expr k.keep u.owner) g)))
 
-      new_by : (u : Use) → IsTrue (keeps_operand k.keep before u) → IsTrue (keeps_of_form k.keep form.NewObj u)
+      new_by : (u : Use) → IsTrue (keeps_operand k.keep before u) → IsTrue (keeps_of_form k.keep i.opcode form.NewObj u)
           → Lock k before (elim (move_operand k.rho u) [ method m ↦ closed_use after (move_here k.rho here) m (move_state k before s) (makes after (move_here k.rho here) (move_instruction k.rho i) (move_state k before s)) | _ ↦ stuck (move_state k before s) ])
           (elim u [ method m ↦ closed_use before here m s (makes before here i s) | _ ↦ stuck s ])
       new_by (method o) h g = closed_use_lock k after before a here r s o _ _ (named_uses o h) (λ u d e is hd. makes_lock s d hd (begins_at o u d h e is) (made_at o u d g e is) c)
       new_by _ h g = stuck_lock k before s
 
-      pub new_object_lock : IsTrue (keeps_operand k.keep before i.operand) → IsTrue (keeps_of_form k.keep form.NewObj i.operand)
+      pub new_object_lock : IsTrue (keeps_operand k.keep before i.operand) → IsTrue (keeps_of_form k.keep i.opcode form.NewObj i.operand)
           → Lock k before (new_object after (move_here k.rho here) (move_instruction k.rho i) (move_state k before s)) (new_object before here i s)
       unfolding new_object
       new_object_lock h g = new_by i.operand h g
@@ -240,15 +243,20 @@ module _ (k : Change) (after before : Queries) (a : Agree k after before) where
       shown_in : (e d : TypeExpr) → plain (exprs.subst here.targs here.margs e) ≡ d → IsTrue (shows_expr k.keep e) → IsTrue (shows_expr k.keep d)
       shown_in e d is h = subst (λ (x : TypeExpr). IsTrue (shows_expr k.keep x)) is ((in_names k after before a here.targs here.margs r.targs r.margs e).shown h)
 
-      constrained_by : (u : Use) → IsTrue (keeps_operand k.keep before u) → IsTrue (keeps_of_form k.keep form.Prefix u)
+      -- of other prefixes nothing is shown
+      shown_where : (b c : Bool) → b ≡ true → IsTrue (not b || c) → IsTrue c
+      shown_where true c e h = h
+      shown_where false c e h = absurd (false≢true e)
+
+      constrained_by : (u : Use) → (i.opcode == CONSTRAINED) ≡ true → IsTrue (keeps_operand k.keep before u) → IsTrue (keeps_of_form k.keep i.opcode form.Prefix u)
           → Lock k before (elim (move_operand k.rho u) [ typ e ↦ closed after (move_here k.rho here) e (move_state k before s) (λ d. goes_under (move_here k.rho here) (move_instruction k.rho i) (move_state k before s) (prefixed.Constrained d)) | _ ↦ stuck (move_state k before s) ])
           (elim u [ typ e ↦ closed before here e s (λ d. goes_under here i s (prefixed.Constrained d)) | _ ↦ stuck s ])
-      constrained_by (typ o) h g =
+      constrained_by (typ o) b h g =
           closed_lock k after before a here r s o (λ d. goes_under (move_here k.rho here) (move_instruction k.rho i) (move_state k before s) (prefixed.Constrained d)) (λ d. goes_under here i s (prefixed.Constrained d)) h
-          (λ e d at is hd. under_lock s (prefixed.Constrained d) (shown_in e d is (known_is (shows_expr k.keep) o e at g)) c)
-      constrained_by _ h g = stuck_lock k before s
+          (λ e d at is hd. under_lock s (prefixed.Constrained d) (shown_in e d is (known_is (shows_expr k.keep) o e at (shown_where (i.opcode == CONSTRAINED) (if_good (shows_expr k.keep) o) b g))) c)
+      constrained_by _ b h g = stuck_lock k before s
 
-      pub prefix_form_lock : IsTrue (keeps_operand k.keep before i.operand) → IsTrue (keeps_of_form k.keep form.Prefix i.operand)
+      pub prefix_form_lock : IsTrue (keeps_operand k.keep before i.operand) → IsTrue (keeps_of_form k.keep i.opcode form.Prefix i.operand)
           → Lock k before (prefix after (move_here k.rho here) (move_instruction k.rho i) (move_state k before s)) (prefix before here i s)
       unfolding prefix
-      prefix_form_lock h g = if_lock k before _ (i.opcode == CONSTRAINED) _ _ _ _ refl (λ e. constrained_by i.operand h g) (λ e. other_lock s c)
+      prefix_form_lock h g = if_lock k before _ (i.opcode == CONSTRAINED) _ _ _ _ refl (λ e. constrained_by i.operand e h g) (λ e. other_lock s c)

@@ -1,7 +1,7 @@
 -- `ret`: back to the caller, or to what waits for the method's end.
-use Rattle.std.proofs.Common.{◌≡◌, ℕ, ◌+◌, ℤ, pos, Bool, true, false, ◌&&◌, ◌||◌, not, List, [], ◌∷◌, ◌++◌, length, map, Option, Some, None, refl, sym, ap, subst, ◌∙◌}
-use Rattle.std.specs.Prelude.{IsTrue, nat_eq, find, if◌then◌else◌}
-use Rattle.std.specs.List.{list_all, list_any}
+use Rattle.std.proofs.Common.{◌≡◌, ℕ, ◌+◌, Bool, true, false, ◌||◌, not, List, [], ◌∷◌, ◌++◌, length, map, Option, Some, None, refl, sym, ap, subst, ◌∙◌}
+use Rattle.std.specs.Prelude.{IsTrue, nat_eq, if◌then◌else◌}
+use Rattle.std.specs.List.{list_any}
 use Rattle.std.specs.Option.{option_map, option_and_then}
 use Rattle.std.specs.Cmp.{first_so, second_so}
 use Rattle.std.proofs.lemmas.Bool.{and_from}
@@ -12,13 +12,11 @@ use Rattle.world_model.specs.declared.known.Known.TheVariants.{Good, Bad}
 use Rattle.world_model.specs.Worlds.{known_map}
 use Rattle.world_model.specs.declared.expr.TypeExpr.{TypeExpr}
 use Rattle.world_model.specs.declared.expr.TypeExpr.TheVariants as expr
-use Rattle.world_model.specs.declared.expr.MethodUse.{MethodUse}
 use Rattle.cil_values.specs.declared.value.Value.{Value, out-Value, roll-Value}
 use Rattle.cil_values.specs.declared.value.Value.TheVariants as value
 use Rattle.cil_values.specs.declared.object.Obj.{Obj}
 use Rattle.cil_values.specs.declared.object.Obj.TheVariants as object
 use Rattle.cil_values.specs.declared.end.End.TheVariants.{Ended}
-use Rattle.cil_values.specs.declared.core_call.CoreCall.{CoreCall}
 use Rattle.cil_values.specs.declared.definition.Signature.{Signature}
 use Rattle.cil_values.specs.declared.resolved.Clause.{Clause}
 use Rattle.cil_values.specs.declared.resolved.Code.{Code}
@@ -29,7 +27,7 @@ use Rattle.cil_values.specs.declared.frame.Frame.{Frame}
 use Rattle.cil_values.specs.declared.frame.Waits.{Waits}
 use Rattle.cil_values.specs.declared.frame.Waits.TheVariants as waits
 use Rattle.step_rules.specs.Queries.{Queries}
-use Rattle.step_rules.specs.Next.{Next, went, over}
+use Rattle.step_rules.specs.Next.{went, over}
 use Rattle.step_rules.specs.Words.{Here, here_of, instruction_at, may_go, given, had, good, object_at}
 use Rattle.step_rules.specs.Closing.{Callee, callee_of, closed_return, is_void}
 use Rattle.step_rules.specs.Stores.{fits}
@@ -38,7 +36,7 @@ use Rattle.step_rules.specs.Raising.{set_init}
 use Rattle.step_rules.specs.Frames.{frame_of, zero_locals}
 use Rattle.step_rules.specs.Calls.{pushed}
 use Rattle.step_rules.specs.CoreWords.{Gives}
-use Rattle.step_rules.specs.Returns.{in_block, no_value, one_value, returned, exit_code, back_in, goes_back, back_by, empty_array, entry_frame, entry_with, entry_begins, opened, ends_by, back, returns, return}
+use Rattle.step_rules.specs.Returns.{in_block, no_value, one_value, returned, exit_code, back_in, goes_back, back_by, empty_array, entry_with, entry_begins, opened, ends_by, back, returns, return}
 use Rattle.change_rules.specs.Change.{Rho, Change}
 use Rattle.change_rules.specs.Moves.{move_expr, move_exprs, move_value, move_values}
 use Rattle.change_rules.specs.Answers.{move_clause, move_code, move_signature, move_here, move_instruction, move_callee}
@@ -58,7 +56,7 @@ use Rattle.lock_words.proofs.Fits.{fits_moved, fits_kept}
 use Rattle.lock_throwing.proofs.Here.{KeptHere, here_moved}
 use Rattle.lock_throwing.proofs.Searching.{set_init_moved, set_init_kept}
 use Rattle.lock_places.proofs.Options.{Made, made_is, some_is}
-use Rattle.lock_places.proofs.Closing.{KeptCallee, callee_moved, CalleeOf, callee_kept}
+use Rattle.lock_places.proofs.Closing.{KeptCallee, callee_moved, callee_kept}
 use Rattle.lock_places.proofs.Places.{boxed_at, boxed_kept}
 use Rattle.lock_frames.proofs.Entering.{callee_body, locals_moved, locals_kept}
 use Rattle.lock_members.proofs.Members.{with_option_lock}

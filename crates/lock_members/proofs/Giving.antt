@@ -1,5 +1,5 @@
 -- How a member goes on, and the arguments that it takes.
-use Rattle.std.proofs.Common.{◌≡◌, ℕ, ℤ, Bool, true, false, ◌&&◌, List, [], ◌∷◌, Option, Some, None, refl, sym, ap, subst, ◌∙◌}
+use Rattle.std.proofs.Common.{◌≡◌, ℕ, ℤ, Bool, true, false, List, [], ◌∷◌, Option, Some, None, refl, sym, ap, subst, ◌∙◌}
 use Rattle.std.specs.Prelude.{IsTrue, if◌then◌else◌}
 use Rattle.std.specs.List.{list_all}
 use Rattle.std.specs.Option.{option_map, option_and_then}
@@ -14,7 +14,7 @@ use Rattle.cil_values.specs.declared.value.Value.TheVariants as value
 use Rattle.cil_values.specs.declared.state.State.{State}
 use Rattle.step_rules.specs.Queries.{Queries}
 use Rattle.step_rules.specs.Next.{Next}
-use Rattle.step_rules.specs.Words.{stuck, truth_value, object_at}
+use Rattle.step_rules.specs.Words.{stuck, object_at}
 use Rattle.step_rules.specs.Closing.{Callee}
 use Rattle.step_rules.specs.Stores.{fits, is_value}
 use Rattle.step_rules.specs.Objects.{is_a}
@@ -24,7 +24,7 @@ use Rattle.change_rules.specs.Change.{Change}
 use Rattle.change_rules.specs.Moves.{move_expr, move_exprs, move_value, move_values}
 use Rattle.change_rules.specs.Answers.{move_callee}
 use Rattle.change_rules.specs.States.{move_state}
-use Rattle.change_rules.specs.Keeps.{keeps_expr, keeps_root, keeps_value, keeps_values}
+use Rattle.change_rules.specs.Keeps.{keeps_expr, keeps_value, keeps_values}
 use Rattle.change_rules.specs.Covered.{Covered}
 use Rattle.change_rules.specs.Agree.{Agree, is_asked}
 use Rattle.change_rules.specs.Lock.{Lock, GivesLock}

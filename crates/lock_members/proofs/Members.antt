@@ -1,15 +1,13 @@
 -- All members of the core library, those that call a method of the program too.
-use Rattle.std.proofs.Common.{◌≡◌, ℕ, Bool, true, false, ◌&&◌, List, [], ◌∷◌, Option, Some, None, refl, sym, ap, subst, ◌∙◌}
+use Rattle.std.proofs.Common.{◌≡◌, ℕ, Bool, true, false, List, [], ◌∷◌, Option, Some, None, refl, sym, ap, subst, ◌∙◌}
 use Rattle.std.specs.Prelude.{IsTrue}
 use Rattle.std.specs.Option.{option_map}
-use Rattle.std.specs.Cmp.{first_so, second_so}
+use Rattle.std.specs.Cmp.{first_so}
 use Rattle.std.proofs.lemmas.Bool.{and_from}
 use Rattle.il_base.specs.declared.element.TheConstants.{BOOLEAN, OBJECT}
 use Rattle.world_model.specs.declared.expr.TypeExpr.{TypeExpr}
-use Rattle.world_model.specs.declared.expr.MethodUse.{MethodUse}
 use Rattle.cil_values.specs.declared.value.Value.{Value, out-Value, roll-Value}
 use Rattle.cil_values.specs.declared.value.Value.TheVariants as value
-use Rattle.cil_values.specs.declared.object.Obj.{Obj}
 use Rattle.cil_values.specs.declared.state.State.{State}
 use Rattle.cil_values.specs.declared.core_call.CoreCall.{CoreCall}
 use Rattle.cil_values.specs.declared.core_call.CoreCall.TheVariants as core
@@ -18,7 +16,7 @@ use Rattle.step_rules.specs.Queries.{Queries}
 use Rattle.cil_values.specs.declared.frame.Waits.TheVariants as waits
 use Rattle.step_rules.specs.Next.{Next}
 use Rattle.step_rules.specs.Words.{stuck, given, object_at}
-use Rattle.step_rules.specs.Closing.{Callee, callee_of, front}
+use Rattle.step_rules.specs.Closing.{Callee, callee_of}
 use Rattle.step_rules.specs.Integers.{narrowed}
 use Rattle.step_rules.specs.Stores.{all_fit}
 use Rattle.step_rules.specs.Objects.{type_of}
@@ -28,13 +26,13 @@ use Rattle.step_rules.specs.CoreConsole.{print_form}
 use Rattle.step_rules.specs.CoreObjects.{is_same}
 use Rattle.step_rules.specs.Core.{simple, with_result, with_option, resumed, run_found, found_args, object_slot, calls_slot, print_object, equal_by, equal_form, member, core_call}
 use Rattle.change_rules.specs.Change.{Change}
-use Rattle.change_rules.specs.Moves.{move_expr, move_use, move_value, move_values}
+use Rattle.change_rules.specs.Moves.{move_use, move_value, move_values}
 use Rattle.change_rules.specs.Answers.{move_callee}
 use Rattle.change_rules.specs.States.{move_obj, move_state}
-use Rattle.change_rules.specs.Keeps.{Names, keeps_expr, keeps_use, keeps_value, keeps_values}
+use Rattle.change_rules.specs.Keeps.{Names, keeps_use, keeps_value, keeps_values}
 use Rattle.change_rules.specs.Covered.{keeps_obj, Covered}
 use Rattle.change_rules.specs.Agree.{Agree}
-use Rattle.change_rules.specs.Lock.{Lock, keeps_result, GivesLock, CoreLocks}
+use Rattle.change_rules.specs.Lock.{Lock, keeps_result, GivesLock}
 use Rattle.change_laws.proofs.Exprs.{move_prim}
 use Rattle.change_laws.proofs.Subst.{names_prim}
 use Rattle.change_laws.proofs.Values.{move_null, move_object, keeps_null, keeps_object}
@@ -43,7 +41,7 @@ use Rattle.lock_words.proofs.Fits.{narrowed_moved}
 use Rattle.lock_words.proofs.Cases.{kept_cases}
 use Rattle.lock_throwing.proofs.Objects.{type_of_moved, type_of_made, object_moved, object_kept}
 use Rattle.lock_places.proofs.Options.{front_moved_by, front_kept}
-use Rattle.lock_places.proofs.Closing.{use_method, use_from, KeptCallee, callee_moved, CalleeOf, callee_kept}
+use Rattle.lock_places.proofs.Closing.{use_method, use_from, KeptCallee, callee_moved, callee_kept}
 use Rattle.lock_places.proofs.Stores.{narrowed_kept, all_fit_moved, all_fit_kept}
 use Rattle.lock_frames.proofs.Entering.{enter_lock}
 use Rattle.lock_frames.proofs.Dispatching.{dispatched_lock, this_moved, this_kept}

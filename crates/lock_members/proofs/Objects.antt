@@ -1,7 +1,7 @@
 -- Members of Object, of the numbers, of exceptions and of Array.
-use Rattle.std.proofs.Common.{◌≡◌, ℕ, zero, suc, ℤ, pos, negsuc, Bool, true, false, ◌&&◌, List, [], ◌∷◌, length, drop, Option, Some, None, refl, sym, ap, subst, ◌∙◌}
-use Rattle.std.specs.Prelude.{IsTrue, nat_eq, nat_le, ◌*◌, if◌then◌else◌}
-use Rattle.std.specs.Option.{option_map, option_and_then}
+use Rattle.std.proofs.Common.{◌≡◌, ℕ, zero, suc, pos, Bool, ◌&&◌, List, [], ◌∷◌, length, drop, Option, Some, None, refl, sym, ap, subst, ◌∙◌}
+use Rattle.std.specs.Prelude.{IsTrue, nat_le, ◌*◌}
+use Rattle.std.specs.Option.{option_map}
 use Rattle.std.specs.Ordering.{int_eq}
 use Rattle.std.specs.Cmp.{first_so, second_so}
 use Rattle.std.proofs.lemmas.Bool.{and_from}
@@ -25,10 +25,10 @@ use Rattle.cil_values.specs.declared.layout.Shape.{Shape}
 use Rattle.cil_values.specs.declared.layout.Shape.TheVariants.{Reference as reference, Pointer as pointer, Integer as integer, TypeHandle as type_handle, FieldHandle as field_handle, Structure as structure, NoValue as no_value}
 use Rattle.cil_values.specs.declared.state.State.{State}
 use Rattle.step_rules.specs.Queries.{Queries}
-use Rattle.step_rules.specs.Words.{stuck, stopped, given, object_at}
-use Rattle.step_rules.specs.Integers.{width_of, number, held_number}
-use Rattle.step_rules.specs.Places.{cell_in, put_cell_in, with_object}
-use Rattle.step_rules.specs.Objects.{type_of, units_of, units_of_bytes, made_text, default_message, parameter_message}
+use Rattle.step_rules.specs.Words.{stuck, given, object_at}
+use Rattle.step_rules.specs.Integers.{width_of, held_number}
+use Rattle.step_rules.specs.Places.{cell_in, with_object}
+use Rattle.step_rules.specs.Objects.{type_of, units_of, units_of_bytes, default_message, parameter_message}
 use Rattle.step_rules.specs.CoreWords.{Gives, gives_nothing, gives_value, gives_truth, gives_int, gives_text}
 use Rattle.step_rules.specs.Raising.{raise}
 use Rattle.step_rules.specs.CoreObjects.{halt, idle_form, named, type_name_form, is_same, same_form, text_of_number, number_text_form, same_number, is_boxed_number, is_number, number_is_form, ints_equal, int_equals_form, order_of, ints_compared, int_compare_form, cell_at, put_cell, exception_text_form, exception_inner_form, name_units, stored_text, exception_parameter_form, told_message, message_in, get_message_form, get_inner_form}
@@ -37,14 +37,14 @@ use Rattle.change_rules.specs.Change.{Rho, Keep, Change}
 use Rattle.change_rules.specs.Moves.{move_expr, move_value, move_values}
 use Rattle.change_rules.specs.Answers.{move_field, move_cell, move_shape}
 use Rattle.change_rules.specs.States.{keeps_cell, move_obj, move_state}
-use Rattle.change_rules.specs.Keeps.{keeps_expr, shows_expr, keeps_value, keeps_values}
+use Rattle.change_rules.specs.Keeps.{shows_expr, keeps_value, keeps_values}
 use Rattle.change_rules.specs.Covered.{keeps_obj, Covered}
 use Rattle.change_rules.specs.Agree.{Agree, is_asked}
 use Rattle.change_rules.specs.Lock.{Lock, GivesLock}
 use Rattle.change_laws.proofs.Exprs.{move_prim}
 use Rattle.change_laws.proofs.Same.{same_exprs_moved}
 use Rattle.change_laws.proofs.Values.{move_object, keeps_object}
-use Rattle.lock_words.proofs.Words.{stuck_lock, stopped_lock, given_lock, given_same, given_moved, had_moved, if_lock}
+use Rattle.lock_words.proofs.Words.{stuck_lock, stopped_lock, given_same, given_moved, had_moved, if_lock}
 use Rattle.lock_words.proofs.Cases.{moved_cases, kept_cases, alike}
 use Rattle.lock_words.proofs.Fits.{number_moved, number_kept}
 use Rattle.lock_throwing.proofs.Objects.{made_shown, shown_kept, type_of_moved, type_of_made, type_of_kept, object_moved, object_kept, cell_in_moved, units_moved, default_message_moved}

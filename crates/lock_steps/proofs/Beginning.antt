@@ -24,16 +24,15 @@ use Rattle.cil_values.specs.declared.resolved.Code.{Code}
 use Rattle.cil_values.specs.declared.state.State.{State}
 use Rattle.cil_values.specs.declared.state.Init.TheVariants.{Begun as begun}
 use Rattle.step_rules.specs.Queries.{Queries}
-use Rattle.step_rules.specs.Closing.{Callee, callee_of, takes, is_void}
+use Rattle.step_rules.specs.Closing.{Callee, callee_of, takes}
 use Rattle.step_rules.specs.Frames.{zero_locals, definition_in, definition_of, initializer, with_init}
 use Rattle.step_rules.specs.Input.{decoded}
-use Rattle.step_rules.specs.Returns.{entry_begins}
-use Rattle.step_rules.specs.Run.{Beginning, begins, ends, stopped_at, stuck_at, or_stopped, good_or_stopped, stopped_unless, stuck_unless, is_strings, are_entry_params, is_entry_return, is_entry_signature, is_entry, blank_state, initializer_frame, with_initializer, begins_by, begins_with, entry_use, begins_code, begins_body, begins_method, beginning, run_begun, run_from}
-use Rattle.change_rules.specs.Change.{Rho, Keep, Change}
-use Rattle.change_rules.specs.Moves.{move_expr, move_exprs, move_use, move_value, move_values}
+use Rattle.step_rules.specs.Run.{Beginning, begins, ends, stopped_at, stuck_at, or_stopped, good_or_stopped, stopped_unless, stuck_unless, is_strings, are_entry_params, is_entry_return, is_entry, blank_state, initializer_frame, with_initializer, begins_by, begins_with, entry_use, begins_code, begins_body, begins_method, beginning, run_begun, run_from}
+use Rattle.change_rules.specs.Change.{Keep, Change}
+use Rattle.change_rules.specs.Moves.{move_expr, move_exprs, move_use, move_values}
 use Rattle.change_rules.specs.Answers.{move_code, move_signature, move_method, move_callee}
 use Rattle.change_rules.specs.States.{move_state, move_end}
-use Rattle.change_rules.specs.Keeps.{Names, keeps_expr, shows_expr, keeps_use, keeps_values, keeps_code, keeps_body, keeps_signature, keeps_method, if_good}
+use Rattle.change_rules.specs.Keeps.{Names, keeps_expr, keeps_use, keeps_values, keeps_code, keeps_body, keeps_signature, keeps_method, if_good}
 use Rattle.change_rules.specs.Covered.{Covered}
 use Rattle.change_rules.specs.Agree.{Agree}
 use Rattle.change_laws.proofs.Exprs.{move_prim, move_def, move_array}

@@ -1,5 +1,5 @@
 -- A step, by the form of its instruction.
-use Rattle.std.proofs.Common.{◌≡◌, ℕ, Bool, true, false, ◌&&◌, List, [], ◌∷◌, Option, Some, None, refl, sym, ap, subst, ◌∙◌}
+use Rattle.std.proofs.Common.{◌≡◌, ℕ, Bool, true, false, List, [], ◌∷◌, Some, refl, subst}
 use Rattle.std.specs.Prelude.{IsTrue, nat_eq, find, if◌then◌else◌}
 use Rattle.std.specs.List.{list_all}
 use Rattle.std.specs.Cmp.{first_so, second_so}
@@ -52,10 +52,10 @@ module _ (k : Change) (after before : Queries) (a : Agree k after before) where
     there = record { method = r.method; code = r.code; targs = r.targs; margs = r.margs }
 
     operand : IsTrue (keeps_operand k.keep before i.operand)
-    operand = first_so (keeps_operand k.keep before i.operand) (keeps_of_form k.keep i.form i.operand) r.instruction
+    operand = first_so (keeps_operand k.keep before i.operand) (keeps_of_form k.keep i.opcode i.form i.operand) r.instruction
 
-    of_form : (which : body.Form.Form) → i.form ≡ which → IsTrue (keeps_of_form k.keep which i.operand)
-    of_form which e = subst (λ (f : body.Form.Form). IsTrue (keeps_of_form k.keep f i.operand)) e (second_so (keeps_operand k.keep before i.operand) (keeps_of_form k.keep i.form i.operand) r.instruction)
+    of_form : (which : body.Form.Form) → i.form ≡ which → IsTrue (keeps_of_form k.keep i.opcode which i.operand)
+    of_form which e = subst (λ (f : body.Form.Form). IsTrue (keeps_of_form k.keep i.opcode f i.operand)) e (second_so (keeps_operand k.keep before i.operand) (keeps_of_form k.keep i.opcode i.form i.operand) r.instruction)
 
     effect_lock : (which : body.Form.Form) → i.form ≡ which
         → Lock k before (effect which after (move_here k.rho here) (move_instruction k.rho i) (move_state k before s)) (effect which before here i s)

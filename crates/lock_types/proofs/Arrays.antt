@@ -313,14 +313,14 @@ module _ (k : Change) (after before : Queries) (a : Agree k after before) where
       shown_in : (e d : TypeExpr) → plain (exprs.subst here.targs here.margs e) ≡ d → IsTrue (shows_expr k.keep e) → IsTrue (shows_expr k.keep d)
       shown_in e d is h = subst (λ (x : TypeExpr). IsTrue (shows_expr k.keep x)) is ((in_names k after before a here.targs here.margs r.targs r.margs e).shown h)
 
-      new_by : (u : Use) → IsTrue (keeps_operand k.keep before u) → IsTrue (keeps_of_form k.keep form.NewArr u)
+      new_by : (u : Use) → IsTrue (keeps_operand k.keep before u) → IsTrue (keeps_of_form k.keep i.opcode form.NewArr u)
           → Lock k before (elim (move_operand k.rho u) [ typ e ↦ closed_element after (move_here k.rho here) e (move_state k before s) (new_array_of after (move_here k.rho here) (move_instruction k.rho i) (move_state k before s)) | _ ↦ stuck (move_state k before s) ])
           (elim u [ typ e ↦ closed_element before here e s (new_array_of before here i s) | _ ↦ stuck s ])
       new_by (typ o) h g =
           closed_element_lock k after before a here r s o _ _ h (λ e d at is hd. new_of_lock d hd (shown_in e d is (known_is (shows_expr k.keep) o e at g)))
       new_by _ h g = stuck_lock k before s
 
-      pub new_array_form_lock : IsTrue (keeps_operand k.keep before i.operand) → IsTrue (keeps_of_form k.keep form.NewArr i.operand)
+      pub new_array_form_lock : IsTrue (keeps_operand k.keep before i.operand) → IsTrue (keeps_of_form k.keep i.opcode form.NewArr i.operand)
           → Lock k before (new_array_form after (move_here k.rho here) (move_instruction k.rho i) (move_state k before s)) (new_array_form before here i s)
       unfolding new_array_form
       new_array_form_lock h g = new_by i.operand h g

@@ -205,7 +205,7 @@ module _ (k : Change) (after before : Queries) (a : Agree k after before) (here 
     unfolding cast
     cast_lock h = cast_by i.operand h
 
-    box_by : (u : Use) → IsTrue (keeps_operand k.keep before u) → IsTrue (keeps_of_form k.keep form.Box u)
+    box_by : (u : Use) → IsTrue (keeps_operand k.keep before u) → IsTrue (keeps_of_form k.keep i.opcode form.Box u)
         → Lock k before (elim (move_operand k.rho u) [ used.Typ e ↦ closed after (move_here k.rho here) e (move_state k before s) (λ d. popped (move_values k.rho s.top.stack) (move_state k before s) (boxes after (move_here k.rho here) (move_instruction k.rho i) (move_state k before s) d)) | _ ↦ stuck (move_state k before s) ])
         (elim u [ used.Typ e ↦ closed before here e s (λ d. popped s.top.stack s (boxes before here i s d)) | _ ↦ stuck s ])
     box_by (used.Typ o) h g =
@@ -214,7 +214,7 @@ module _ (k : Change) (after before : Queries) (a : Agree k after before) (here 
         boxes_lock d hd (shown_in e d is (known_is (shows_expr k.keep) o e at g)) v stack hv hs))
     box_by _ h g = stuck_lock k before s
 
-    pub box_lock : IsTrue (keeps_operand k.keep before i.operand) → IsTrue (keeps_of_form k.keep form.Box i.operand) → Lock k before (box after (move_here k.rho here) (move_instruction k.rho i) (move_state k before s)) (box before here i s)
+    pub box_lock : IsTrue (keeps_operand k.keep before i.operand) → IsTrue (keeps_of_form k.keep i.opcode form.Box i.operand) → Lock k before (box after (move_here k.rho here) (move_instruction k.rho i) (move_state k before s)) (box before here i s)
     unfolding box
     box_lock h g = box_by i.operand h g
 
