@@ -1,4 +1,4 @@
-use Rattle.marked_laws.proofs.Parts.{part_kept}
+use Rattle.marked_laws.proofs.Members.{array_is_core}
 use Rattle.marked_laws.proofs.Named.{shown_by_parts}
 use Rattle.marked_laws.proofs.Flags.{made_core}
 use Rattle.marked_laws.proofs.Places.{prim_is_core}
