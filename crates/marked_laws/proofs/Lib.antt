@@ -5,3 +5,5 @@ pub mod Places
 pub mod Parts
 pub mod Rows
 pub mod Members
+pub mod Interfaces
+pub mod Joined

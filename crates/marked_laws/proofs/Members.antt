@@ -41,7 +41,11 @@ use Rattle.mark_rules.specs.Naming.Named.{type}
 use Rattle.mark_rules.specs.Types.{type_needs, laid_fields, layout_needs, parts_of_field, field_needs}
 use Rattle.mark_rules.specs.Calls.{initializer_of, method_starts, field_starts}
 use Rattle.mark_rules.specs.Marking.{row_needs}
-use Rattle.view_rules.specs.Methods.{field_type, field_owner, field_by, field_at}
+use Rattle.il_base.specs.declared.outside.TheConstants.{GLOBAL_MEMBER, LAYOUT}
+use Rattle.world_model.specs.declared.known.BadKind.{BadKind}
+use Rattle.world_model.specs.declared.known.BadKind.TheVariants.{Outside}
+use Rattle.mark_rules.specs.BadItems.{is_global}
+use Rattle.view_rules.specs.Methods.{has_explicit_layout, field_owner, field_by, field_at}
 use Rattle.cil_values.specs.declared.definition.FieldDef.{FieldDef}
 use Rattle.change_rules.specs.Change.{Keep}
 use Rattle.change_rules.specs.Keeps.{keeps_expr, if_good, keeps_field}
@@ -174,7 +178,7 @@ module _ (recs : List AsmRec) (entry : Option RowAt) (roots : List Root) (has : 
       let within = field_part at rec f e s r g in
       part_kept recs entry roots has m (field_item recs at) at (of_field at rec f h s r) (good_part (token_of FIELD (suc at.row)) (type e)) e within within refl
 
-  type_by : (at : RowAt) (rec : AsmRec) (f : FieldRow) (x y : Bool) (why z : _) → IsTrue (keeps_field_row k recs at) → slice_get recs at.asm ≡ Some rec → slice_get rec.field at.row ≡ Some f
+  type_by : (at : RowAt) (rec : AsmRec) (f : FieldRow) (x y : Bool) (why z : BadKind) → IsTrue (keeps_field_row k recs at) → slice_get recs at.asm ≡ Some rec → slice_get rec.field at.row ≡ Some f
       → IsTrue (if_good (keeps_expr k) (if x then Bad why else if y then Bad z else known_then (sig_expr (names_at recs at.asm rec)) f.signature))
   type_by at rec f true y why z h s r = refl
   type_by at rec f false true why z h s r = refl
@@ -184,7 +188,7 @@ module _ (recs : List AsmRec) (entry : Option RowAt) (roots : List Root) (has : 
   field_def_by at rec d None h s r e = absurd (cc)
   field_def_by at rec d (Some f) h s r e =
       let same : field_by recs at rec f ≡ d = cc in
-      subst (λ (x : FieldDef). IsTrue (keeps_field k x)) same (type_by at rec f _ _ _ _ h s r)
+      subst (λ (x : FieldDef). IsTrue (keeps_field k x)) same (type_by at rec f (is_global recs (field_owner at rec)) (not (is_static_field f) && has_explicit_layout recs (field_owner at rec)) (Outside GLOBAL_MEMBER) (Outside LAYOUT) h s r)
 
   field_rec_by : (at : RowAt) (d : FieldDef) (o : Option AsmRec) → IsTrue (keeps_field_row k recs at) → slice_get recs at.asm ≡ o → option_and_then (λ (rec : AsmRec). option_map (field_by recs at rec) (slice_get rec.field at.row)) o ≡ Some d → IsTrue (keeps_field k d)
   field_rec_by at d None h s e = absurd (cc)

@@ -46,6 +46,11 @@ use Rattle.marked_laws.proofs.Flags.{typ_has, typ_is, method_has, method_is}
 use Rattle.marked_laws.proofs.Places.{type_row_of, method_row_of, method_row_below, impl_row_of}
 use Rattle.marked_laws.proofs.Parts.{token_named, HasParts, part_kept}
 
+pub contained : (xs : List TypeExpr) (e : TypeExpr) → Contains xs e → In e xs
+contained [] e c = absurd (let lt = c.1 in omega arith)
+contained (x ∷ xs) e (zero, lt, is) = inl (sym is)
+contained (x ∷ xs) e (suc n, lt, is) = inr (contained xs e (n, omega arith, is))
+
 good_is : (k : Known TypeExpr) (e : TypeExpr) → good_type k ≡ Some e → k ≡ Good e
 good_is (Good x) e h = let same : x ≡ e = cc in ap Good same
 good_is (Bad why) e h = cc
@@ -135,7 +140,7 @@ module _ (recs : List AsmRec) (entry : Option RowAt) (roots : List Root) (has : 
   only_one None e i = absurd i
   only_one (Some x) e i = ap Some (sym (only_by x e (is_interface recs x) i))
 
-  if_row : (o : Option TypeExpr) (e : TypeExpr) (b : Bool) → In e (if b then only_interface recs o else []) → o ≡ Some e
+  pub if_row : (o : Option TypeExpr) (e : TypeExpr) (b : Bool) → In e (if b then only_interface recs o else []) → o ≡ Some e
   if_row o e true i = only_one o e i
   if_row o e false i = absurd i
 
@@ -185,11 +190,6 @@ module _ (recs : List AsmRec) (entry : Option RowAt) (roots : List Root) (has : 
       let f = in_flat (kept_interfaces_in recs (kept_of recs has) at) e (listed (slice_get recs at.asm)) i in
       in_kept_record at f.0 e (in_listed f.0 (slice_get recs at.asm) f.1) f.2
 
-  contained : (xs : List TypeExpr) (e : TypeExpr) → Contains xs e → In e xs
-  contained [] e c = absurd (let lt = c.1 in omega arith)
-  contained (x ∷ xs) e (zero, lt, is) = inl (sym is)
-  contained (x ∷ xs) e (suc n, lt, is) = inr (contained xs e (n, omega arith, is))
-
   pub interfaces_kept : (at : RowAt) (e : TypeExpr) → Contains (kept_interfaces_at recs (kept_of recs has) at) e → IsTrue (keeps_expr k e)
   interfaces_kept at e c = in_kept_at at e (contained (kept_interfaces_at recs (kept_of recs has) at) e c)
 
@@ -201,18 +201,18 @@ module _ (recs : List AsmRec) (entry : Option RowAt) (roots : List Root) (has : 
   pub method_gives : (at : RowAt) (f : Fact) → IsTrue (keeps_method_row k recs at) → row_of recs (method_item recs at) ≡ Some at → In f (own_needs at) → IsTrue (has f)
   method_gives at f h is i = row_gives recs entry roots has m (method_item recs at) at f (method_has recs has _ h) is i
 
-  needs_in : (at : RowAt) (f : Fact) → In f (method_needs recs at) → In f (own_needs at)
+  pub needs_in : (at : RowAt) (f : Fact) → In f (method_needs recs at) → In f (own_needs at)
   needs_in at f h =
       in_front f (method_needs recs at ++ makes recs at ++ overrides_of recs at ++ method_starts recs at) (accessed recs at)
       (in_front f (method_needs recs at ++ makes recs at ++ overrides_of recs at) (method_starts recs at)
       (in_front f (method_needs recs at ++ makes recs at) (overrides_of recs at) (in_front f (method_needs recs at) (makes recs at) h)))
 
-  overrides_in : (at : RowAt) (f : Fact) → In f (overrides_of recs at) → In f (own_needs at)
+  pub overrides_in : (at : RowAt) (f : Fact) → In f (overrides_of recs at) → In f (own_needs at)
   overrides_in at f h =
       in_front f (method_needs recs at ++ makes recs at ++ overrides_of recs at ++ method_starts recs at) (accessed recs at)
       (in_front f (method_needs recs at ++ makes recs at ++ overrides_of recs at) (method_starts recs at) (in_behind f (method_needs recs at ++ makes recs at) (overrides_of recs at) h))
 
-  starts_in : (at : RowAt) (f : Fact) → In f (method_starts recs at) → In f (own_needs at)
+  pub starts_in : (at : RowAt) (f : Fact) → In f (method_starts recs at) → In f (own_needs at)
   starts_in at f h =
       in_front f (method_needs recs at ++ makes recs at ++ overrides_of recs at ++ method_starts recs at) (accessed recs at)
       (in_behind f (method_needs recs at ++ makes recs at ++ overrides_of recs at) (method_starts recs at) h)
