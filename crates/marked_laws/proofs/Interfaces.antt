@@ -1,9 +1,8 @@
 -- An interface row that goes names an interface that isn't kept, and implies none that is.
-use Rattle.std.proofs.Common.{◌≡◌, ℕ, zero, suc, ◌+◌, ◌<◌, ◌≤◌, Bool, true, false, List, [], ◌∷◌, ◌++◌, Option, Some, None, ◌⊎◌, inl, inr, refl, sym, ap, subst, ◌∙◌, arith}
-use Rattle.std.specs.Prelude.{IsTrue, slice_get, ◌==◌, ◌&&◌, Contains, if◌then◌else◌}
+use Rattle.std.proofs.Common.{◌≡◌, ℕ, zero, suc, ◌+◌, ◌<◌, ◌≤◌, Bool, true, false, List, [], ◌∷◌, Option, Some, None, ◌⊎◌, inl, inr, refl, sym, ap, subst, ◌∙◌, arith}
+use Rattle.std.specs.Prelude.{IsTrue, slice_get, ◌==◌, if◌then◌else◌}
 use Rattle.std.specs.List.{list_any, flat_map}
 use Rattle.std.proofs.lemmas.Bool.{true≢false, and_from, or_left, cases_lt}
-use Rattle.il_base.specs.declared.ids.Item.TheVariants as item
 use Rattle.il_base.specs.declared.table.TheConstants.{TYPE_DEF}
 use Rattle.world_model.specs.declared.expr.TypeExpr.{TypeExpr}
 use Rattle.world_model.specs.declared.types.TypeDefRow.{TypeDefRow}
@@ -14,13 +13,13 @@ use Rattle.world_model.specs.Worlds.{type_id}
 use Rattle.link_rules.specs.declared.row_at.RowAt.{RowAt}
 use Rattle.link_rules.specs.Types.{at_row}
 use Rattle.link_rules.specs.Signatures.{token_type}
-use Rattle.link_rules.specs.Members.{type_home, good_type, type_count}
-use Rattle.link_rules.specs.Cycles.{listed, led_to, same_row, home_of, is_row_of, is_interface, only_interface, interface_of, interface_rows}
+use Rattle.link_rules.specs.Members.{good_type, type_count}
+use Rattle.link_rules.specs.Cycles.{listed, led_to, same_row, home_of, is_interface, only_interface, interface_of, interface_rows}
 use Rattle.link_rules.specs.Linked.{assemblies, link_fault_of}
 use Rattle.type_rules.specs.Rows.{rec_at, each_from}
 use Rattle.type_laws.proofs.Within.{In, in_any, any_in, in_front, in_behind, listed_in, flat_in}
 use Rattle.type_laws.proofs.Reaching.{Leads, Walks, walks, found, Led, led}
-use Rattle.type_laws.proofs.Places.{rows_decide, IsType, TypeAt, type_at, place_has}
+use Rattle.type_laws.proofs.Places.{rows_decide, IsType, type_at, place_has}
 use Rattle.type_laws.proofs.Upwards.{ways, to_interface, interface_step}
 use Rattle.type_laws.proofs.Ways.{top, home_of_type, no_long_way}
 use Rattle.descriptor_file.specs.declared.root.Root.{Root}
@@ -31,7 +30,7 @@ use Rattle.mark_rules.specs.Naming.{of_expr}
 use Rattle.mark_rules.specs.Types.{implies, implies_one, row_for, rows_for}
 use Rattle.change_rules.specs.Change.{Keep}
 use Rattle.world_change_rules.specs.Places.{keeps_type_row}
-use Rattle.subtype_laws.specs.Gone.{Goes, KeepsImplied}
+use Rattle.subtype_laws.specs.Gone.{KeepsImplied}
 use Rattle.marked_laws.specs.Flags.{HasMarks, keep_of, kept_of}
 use Rattle.marked_laws.proofs.Closing.{rows_give}
 use Rattle.marked_laws.proofs.Flags.{typ_has}
@@ -40,7 +39,7 @@ use Rattle.marked_laws.proofs.Rows.{contained}
 
 -- ---- what rows give, by their numbers
 
-each_in : {A B : Type 0} (f : ℕ → A → List B) (i n : ℕ) (rows : List A) (x : A) (y : B) → slice_get rows n ≡ Some x → In y (f (i + n) x) → In y (each_from f i rows)
+pub each_in : {A B : Type 0} (f : ℕ → A → List B) (i n : ℕ) (rows : List A) (x : A) (y : B) → slice_get rows n ≡ Some x → In y (f (i + n) x) → In y (each_from f i rows)
 each_in f i n [] x y e h = absurd (cc)
 each_in f i zero (z ∷ rows) x y e h =
     let same : z ≡ x = cc in
@@ -152,5 +151,5 @@ module _ (inputs : List AsmRec) (sound : link_fault_of inputs ≡ None) where
     pub interfaces_implied : KeepsImplied k (kept_of recs has) recs
     interfaces_implied = record {
       gone = λ at rec t n row e h s r g none c steps home y is led.
-      gone_by at home y rec t n steps row e (keeps_type_row k recs y) h s r g none (contained (interface_of recs at.asm rec (token_of TYPE_DEF (suc at.row)) row) e c) is led refl;
+          gone_by at home y rec t n steps row e (keeps_type_row k recs y) h s r g none (contained (interface_of recs at.asm rec (token_of TYPE_DEF (suc at.row)) row) e c) is led refl;
     }

@@ -1,26 +1,19 @@
 -- The laws on rows, joined.
-use Rattle.std.proofs.Common.{◌≡◌, ℕ, suc, ◌+◌, ◌<◌, ◌≤◌, Bool, true, false, nat_le, nat_lt, List, length, Option, Some, None, refl, sym, ap, subst, ◌∙◌, arith}
-use Rattle.std.specs.Prelude.{IsTrue, slice_get, ◌&&◌}
-use Rattle.std.specs.List.{position_from}
+use Rattle.std.proofs.Common.{◌≡◌, ℕ, suc, ◌<◌, nat_le, nat_lt, List, length, Option, Some, None, refl, arith}
+use Rattle.std.specs.Prelude.{slice_get}
 use Rattle.std.specs.Option.{option_map, option_and_then}
 use Rattle.std.specs.Cmp.{second_so}
 use Rattle.std.proofs.lemmas.Bool.{ltb-true}
-use Rattle.il_base.specs.declared.ids.TypeId.{TypeId}
 use Rattle.il_base.specs.declared.ids.Item.TheVariants as item
-use Rattle.world_model.specs.declared.types.TypeDefRow.{TypeDefRow}
 use Rattle.world_model.specs.declared.record.AsmRec.{AsmRec}
 use Rattle.link_rules.specs.declared.row_at.RowAt.{RowAt}
 use Rattle.link_rules.specs.Types.{at_row}
 use Rattle.link_rules.specs.Members.{owns_method}
-use Rattle.link_rules.specs.Linked.{assemblies, link_fault_of}
+use Rattle.link_rules.specs.Linked.{assemblies}
 use Rattle.type_rules.specs.Slots.{type_of_method, owner_from}
 use Rattle.walk_laws.proofs.Finds.{found}
-use Rattle.descriptor_file.specs.declared.root.Root.{Root}
-use Rattle.mark_rules.specs.Facts.{Fact}
 use Rattle.mark_rules.specs.Places.{method_item, row_of}
-use Rattle.world_change_rules.specs.Places.{keeps_type_row, keeps_method_row}
-use Rattle.world_change_rules.specs.Kept.{KeepsRows}
-use Rattle.marked_laws.specs.Flags.{HasMarks, keep_of, kept_of, RunsEnd}
+use Rattle.marked_laws.specs.Flags.{RunsEnd}
 use Rattle.marked_laws.specs.Laws.{MarkedRows, MarkedInterfaces}
 use Rattle.marked_laws.proofs.Closing.{by_core}
 use Rattle.marked_laws.proofs.Flags.{typ_is, shown_typ, begun_typ}

@@ -6,4 +6,6 @@ pub mod Parts
 pub mod Rows
 pub mod Members
 pub mod Interfaces
+pub mod Uses
+pub mod Impls
 pub mod Joined

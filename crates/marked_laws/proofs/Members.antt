@@ -1,10 +1,10 @@
 -- Fields of marked types, and initializers, are kept; so are types of the core library.
-use Rattle.std.proofs.Common.{◌≡◌, ℕ, zero, suc, ◌+◌, ◌-◌, ◌<◌, ◌≤◌, Bool, true, false, nat_lt, List, [], ◌∷◌, ◌++◌, length, map, Option, Some, None, ◌⊎◌, inl, inr, refl, sym, ap, subst, ◌∙◌, arith}
-use Rattle.std.specs.Prelude.{IsTrue, slice_get, ◌==◌, ◌&&◌, ◌||◌, not, if◌then◌else◌}
+use Rattle.std.proofs.Common.{◌≡◌, ℕ, zero, suc, ◌+◌, ◌-◌, ◌<◌, Bool, true, false, List, [], ◌∷◌, ◌++◌, length, map, Option, Some, None, ◌⊎◌, inl, inr, refl, sym, ap, subst, ◌∙◌, arith}
+use Rattle.std.specs.Prelude.{IsTrue, slice_get, ◌&&◌, ◌||◌, not, if◌then◌else◌}
 use Rattle.std.specs.List.{list_all, list_any, flat_map, filter, range_with_len}
 use Rattle.std.specs.Option.{option_map, option_and_then}
 use Rattle.std.specs.Cmp.{first_so, second_so}
-use Rattle.std.proofs.lemmas.Bool.{true≢false, and_from, or_left, or_right, or_cases}
+use Rattle.std.proofs.lemmas.Bool.{true≢false, and_from, or_cases}
 use Rattle.il_base.specs.declared.ids.TypeId.{TypeId}
 use Rattle.il_base.specs.declared.ids.Item.TheVariants as item
 use Rattle.il_base.specs.declared.table.TheConstants.{FIELD}
@@ -29,14 +29,14 @@ use Rattle.link_rules.specs.Linked.{assemblies}
 use Rattle.type_rules.specs.Slots.{type_of_method}
 use Rattle.type_rules.specs.Rows.{rec_at, field_row_at, fields_of_type, is_instance_field, is_enum, owner_of_field}
 use Rattle.type_rules.specs.Initializers.{initializer_in, initializer}
-use Rattle.type_laws.proofs.Within.{In, in_front, in_behind, in_parts, in_listed, listed_in, in_map, in_flat, flat_in}
+use Rattle.type_laws.proofs.Within.{In, in_front, in_behind, listed_in, flat_in}
 use Rattle.type_laws.proofs.Places.{rows_decide, place_within}
 use Rattle.type_laws.proofs.CoreRows.{array_row}
 use Rattle.descriptor_file.specs.declared.root.Root.{Root}
 use Rattle.mark_rules.specs.Facts.{Fact}
-use Rattle.mark_rules.specs.Facts.Fact.{marked, instantiated, shown}
-use Rattle.mark_rules.specs.Places.{type_item, method_item, field_item, marks_type, marks_method, marks_field, row_of, is_core}
-use Rattle.mark_rules.specs.Naming.{Named, Part, of_parts, good_part, type_parts, parts_of, sig_parts}
+use Rattle.mark_rules.specs.Facts.Fact.{instantiated}
+use Rattle.mark_rules.specs.Places.{type_item, field_item, marks_method, marks_field, is_core}
+use Rattle.mark_rules.specs.Naming.{Part, of_parts, good_part, type_parts, parts_of, sig_parts}
 use Rattle.mark_rules.specs.Naming.Named.{type}
 use Rattle.mark_rules.specs.Types.{type_needs, laid_fields, layout_needs, parts_of_field, field_needs}
 use Rattle.mark_rules.specs.Calls.{initializer_of, method_starts, field_starts}
@@ -55,7 +55,7 @@ use Rattle.marked_laws.proofs.Closing.{mapped_in, row_gives, by_core}
 use Rattle.marked_laws.proofs.Flags.{typ_is, typ_has, method_is, field_is, field_has, shown_core, made_is, begun_begins}
 use Rattle.marked_laws.proofs.Places.{type_row_of, type_home_of, method_row_below, field_row_of, last_type, prim_is_core}
 use Rattle.marked_laws.proofs.Parts.{HasParts, part_kept}
-use Rattle.marked_laws.proofs.Rows.{of_type, method_gives, starts_in}
+use Rattle.marked_laws.proofs.Rows.{method_gives, starts_in}
 
 -- ---- lists
 
