@@ -1,0 +1,4 @@
+pub mod Lists
+pub mod Forming
+pub mod Grouping
+pub mod Belonging

@@ -1,0 +1,9 @@
+use Rattle.std.proofs.Common.{◌≡◌, ◌++◌, ◌-◌, length}
+use Rattle.type_rules.specs.Texts.{row_name}
+use Rattle.type_names.specs.Chains.{inner_names}
+use Rattle.mark_tables.specs.Assemblies.{rec_of}
+use Rattle.keep_lists.proofs.chain.chain_of.Given as goal
+
+abbrev pub invariant-loop-step : goal.invariant-loop-step
+invariant-loop-step l =
+    row_name (rec_of l.asm) (l._step-end - l._step) l.at ++ inner_names (rec_of l.asm) l.inner ≡ row_name (rec_of l.asm) (length (rec_of l.asm).type_def) l.row

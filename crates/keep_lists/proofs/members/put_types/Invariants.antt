@@ -1,0 +1,10 @@
+use Rattle.std.proofs.Common.{◌≡◌, ℕ, ◌++◌, drop}
+use Rattle.world_model.specs.declared.types.TypeDefRow.{TypeDefRow}
+use Rattle.type_rules.specs.Rows.{each_from}
+use Rattle.keep_lists.specs.Lists.{recs_in, place_in, rec_in, kept_in, type_line}
+use Rattle.keep_lists.proofs.members.put_types.Given as goal
+
+abbrev pub invariant-loop-k : goal.invariant-loop-k
+invariant-loop-k l =
+    l.out ++ each_from (λ (k : ℕ) (t : TypeDefRow). type_line (recs_in l.s) (kept_in l.s) (place_in l.s) (rec_in l.s) k) l.k (drop l.k l.rows)
+    ≡ l.initial.out ++ each_from (λ (k : ℕ) (t : TypeDefRow). type_line (recs_in l.s) (kept_in l.s) (place_in l.s) (rec_in l.s) k) 0 l.rows

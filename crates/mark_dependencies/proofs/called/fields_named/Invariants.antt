@@ -1,0 +1,7 @@
+use Rattle.std.proofs.Common.{◌≡◌, ◌++◌, drop}
+use Rattle.std.specs.List.{filter}
+use Rattle.mark_rules.specs.Attributes.{is_field_named}
+use Rattle.mark_dependencies.proofs.called.fields_named.Given as goal
+
+abbrev pub invariant-loop-at : goal.invariant-loop-at
+invariant-loop-at l = l.found.items ++ filter (is_field_named l.all l.name) (drop l.at-index l.rows) ≡ filter (is_field_named l.all l.name) l.rows

@@ -1,0 +1,11 @@
+use mark_tables::marker::Marker;
+use nested_types::nested::NestedTypes;
+use type_names::TypeNames;
+
+/// A world with what is made of it once, its types by their enclosers, and their names.
+#[derive(Clone, Copy)]
+pub struct Lookup<'a, 'w> {
+    pub marker: &'a Marker<'w>,
+    pub nested: &'a NestedTypes,
+    pub names: &'a TypeNames<'w>,
+}
