@@ -24,8 +24,8 @@ fn promises_nothing(
     requires { IsAnnotated annotated.now }
     ensures { IfOk result (λ fails. fails ≡ (promised (all_of annotated.now.marker.now) m s.now == 0)) }
 {
-    let flags = promised(alloc, annotated, m, s)?;
-    Ok(flags == 0)
+    let kinds = promised(alloc, annotated, m, s)?;
+    Ok(kinds == 0)
 }
 
 /// Whether an annotation lacks one of these kinds.
@@ -39,8 +39,8 @@ fn lacks_kinds(
     requires { IsAnnotated annotated.now }
     ensures { IfOk result (λ fails. fails ≡ not (has_all (promised (all_of annotated.now.marker.now) m s.now) wanted)) }
 {
-    let flags = promised(alloc, annotated, m, s)?;
-    Ok((flags & wanted) != wanted)
+    let kinds = promised(alloc, annotated, m, s)?;
+    Ok((kinds & wanted) != wanted)
 }
 
 /// Whether a source fails where a name is looked for.
