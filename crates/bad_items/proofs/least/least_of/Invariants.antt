@@ -1,0 +1,8 @@
+use Rattle.std.proofs.Common.{◌≡◌, None, drop, map}
+use Rattle.std.specs.Option.{option_map}
+use Rattle.mark_flaws.specs.Told.{flaw_told}
+use Rattle.flaw_laws.specs.Listed.{first_from}
+use Rattle.bad_items.proofs.least.least_of.Given as goal
+
+abbrev pub invariant-loop-flaw : goal.invariant-loop-flaw
+invariant-loop-flaw l = first_from (option_map flaw_told l.best) (map flaw_told (drop l.flaw-index l.flaws)) ≡ first_from None (map flaw_told l.flaws)

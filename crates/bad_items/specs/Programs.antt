@@ -1,0 +1,26 @@
+-- A program with what is made of its world.
+use Rattle.std.specs.Prelude.{List, Bool}
+use Rattle.il_base.specs.declared.ids.Item.{Item}
+use Rattle.world_model.specs.declared.record.AsmRec.{AsmRec}
+use Rattle.world_model.specs.declared.world.World.{World}
+use Rattle.mark_rules.specs.Facts.Fact.{marked}
+use Rattle.mark_tables.specs.Assemblies.{all_of, IsMarker}
+use Rattle.attribute_values.specs.Tables.{AreAttributeTables}
+use Rattle.mark_flaws.specs.Tables.{AreFlawTables}
+use Rattle.marking.specs.Holding.{holds}
+use Rattle.bad_items.specs.declared.program.Program.{Program}
+
+abbrev pub world_in : Program → World
+world_in p = p.marker.now.tables.world.now
+
+abbrev pub recs_in : Program → List AsmRec
+recs_in p = all_of p.marker.now
+
+-- which items are marked
+abbrev pub has : Program → Item → Bool
+has p i = holds p.marked.now (marked i)
+
+pub record IsProgram (p : Program) : Type 0 where
+  pub marker : IsMarker p.marker.now
+  pub attributes : AreAttributeTables p.marker.now p.attributes.now
+  pub tables : AreFlawTables (recs_in p) p.tables.now

@@ -1,0 +1,57 @@
+-- What is wrong with what is marked, piece by piece.
+use Rattle.std.specs.Prelude.{ℕ, suc, List, [], ◌∷◌, ◌++◌, Bool, Option, Some, None, ◌&&◌, ◌||◌, nat_lt, nat_eq}
+use Rattle.std.specs.List.{flat_map}
+use Rattle.il_base.specs.declared.ids.Item.{Item}
+use Rattle.il_base.specs.declared.ids.Item.TheVariants as item
+use Rattle.il_base.specs.declared.table.TheConstants.{METHOD_DEF}
+use Rattle.world_model.specs.declared.known.BadKind.TheVariants.{Unresolved}
+use Rattle.world_model.specs.declared.expr.MethodUse.{MethodUse}
+use Rattle.world_model.specs.declared.members.MethodImplRow.{MethodImplRow}
+use Rattle.world_model.specs.declared.record.AsmRec.{AsmRec}
+use Rattle.world_model.specs.Tokens.{token_of}
+use Rattle.link_rules.specs.declared.row_at.RowAt.{RowAt}
+use Rattle.link_rules.specs.Types.{at_row}
+use Rattle.link_rules.specs.Members.{generic_method}
+use Rattle.link_rules.specs.Cycles.{listed}
+use Rattle.type_rules.specs.Slots.{type_of_method}
+use Rattle.type_rules.specs.Rows.{rec_at}
+use Rattle.mark_rules.specs.Places.{type_item}
+use Rattle.mark_rules.specs.BadItems.{Flaw, flaw, rank, part_flaws, own_flaws, attribute_flaws, ImplRow, declaration_flaw}
+use Rattle.flaw_laws.specs.Listed.{row_flaws, impl_flaws_in}
+
+-- ---- the order
+
+abbrev pub before_in_row : Flaw → Flaw → Bool
+before_in_row x y = nat_lt x.offset y.offset || nat_eq x.offset y.offset && nat_lt (rank x.kind) (rank y.kind)
+
+-- ---- the entry
+
+abbrev pub entry_flaw : List AsmRec → RowAt → List Flaw
+entry_flaw recs at = by_type (type_of_method recs at)
+  where
+    by_type : Option RowAt → List Flaw
+    by_type (Some t) = []
+    by_type None = flaw at (token_of METHOD_DEF (suc at.row)) 0 Unresolved ∷ []
+
+-- ---- an item in a row
+
+abbrev pub flaws_in : List AsmRec → Item → RowAt → AsmRec → List Flaw
+flaws_in recs i at rec = part_flaws recs i at ++ own_flaws recs i at rec ++ attribute_flaws recs i at rec
+
+abbrev pub flaws_at : List AsmRec → Item → RowAt → List Flaw
+flaws_at recs i at = flat_map (flaws_in recs i at) (listed (rec_at recs at))
+
+-- ---- rows of MethodImpl
+
+-- with the class in a row and a body
+abbrev pub impl_row : List AsmRec → ℕ → AsmRec → ℕ → MethodImplRow → ℕ → MethodUse → ImplRow
+impl_row recs a rec k row c u = record { class = type_item recs (at_row a c); body = item.Method u.method; flaws = declaration_flaw (at_row a k) k (generic_method recs a rec row.declaration) }
+
+-- with a class and a body, if any
+abbrev pub kept_flaws : List AsmRec → (Item → Bool) → ℕ → AsmRec → ℕ → MethodImplRow → Option ℕ → Option MethodUse → List Flaw
+kept_flaws recs have a rec k row class body =
+    flat_map (λ c. flat_map (λ u. row_flaws have (impl_row recs a rec k row c u)) (listed body)) (listed class)
+
+-- of an assembly in a place
+abbrev pub impl_flaws_at : List AsmRec → (Item → Bool) → ℕ → Option AsmRec → List Flaw
+impl_flaws_at recs have a rec = flat_map (impl_flaws_in recs have a) (listed rec)

@@ -1,0 +1,45 @@
+//! An entry method that no type has.
+
+ghost use Rattle.std.specs.Prelude.{◌≡◌, ◌++◌, OnOk};
+ghost use Rattle.mark_rules.specs.BadItems.{entry_flaws};
+ghost use Rattle.mark_tables.specs.Assemblies.{all_of, IsMarker};
+ghost use Rattle.bad_items.specs.Rows.{entry_flaw};
+
+use il_base::{NoMemory, table};
+use link_rules::RowAt;
+use mark_flaws::flaws::Flaws;
+use mark_tables::marker::Marker;
+use type_tables::methods::type_of_method;
+use world_model::{BadKind, token_of};
+
+/// Puts the flaw of the entry method in a row at the end, if no type has it.
+#[tactic(auto, using(mark_flaws::proofs::Lists::none_more))]
+fn add_entry_at(marker: &Marker<'_>, at: RowAt, flaws: &mut Flaws) -> Result<(), NoMemory>
+    requires { IsMarker marker.now }
+    ensures { OnOk result (flaws.new ≡ flaws.old ++ entry_flaw (all_of marker.now) at) }
+{
+    match type_of_method(&marker.tables, at) {
+        Ok(Some(_)) => Ok(()),
+        Ok(None) => {
+            let token = token_of(table::METHOD_DEF, at.row as usize)?;
+            flaws.put(at, token, 0, BadKind::Unresolved)
+        }
+        Err(error) => Err(error),
+    }
+}
+
+/// Puts the flaw of the entry method at the end, if no type has it.
+#[tactic(auto, using(mark_flaws::proofs::Lists::none_more))]
+pub(crate) fn add_entry(
+    marker: &Marker<'_>,
+    entry: Option<RowAt>,
+    flaws: &mut Flaws,
+) -> Result<(), NoMemory>
+    requires { IsMarker marker.now }
+    ensures { OnOk result (flaws.new ≡ flaws.old ++ entry_flaws (all_of marker.now) entry) }
+{
+    match entry {
+        Some(at) => add_entry_at(marker, at, flaws),
+        None => Ok(()),
+    }
+}

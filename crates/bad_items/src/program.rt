@@ -1,0 +1,13 @@
+use attribute_values::tables::AttributeTables;
+use mark_flaws::tables::FlawTables;
+use mark_tables::marker::Marker;
+use marking::Marked;
+
+/// The world of a program with what is made of it once, and what is marked.
+#[derive(Clone, Copy)]
+pub struct Program<'a> {
+    pub marker: &'a Marker<'a>,
+    pub attributes: &'a AttributeTables<'a>,
+    pub tables: &'a FlawTables,
+    pub marked: &'a Marked,
+}
