@@ -15,7 +15,7 @@ use Rattle.world_model.specs.Worlds.{rows_before, type_id}
 use Rattle.world_model.proofs.SameExpr.{same_decides}
 use Rattle.link_rules.specs.declared.row_at.RowAt.{RowAt}
 use Rattle.link_rules.specs.Members.{type_home, home_from, methods_in, args_of, with_bases, type_count, open_parent}
-use Rattle.link_rules.specs.Cycles.{listed, same_row, home_of, is_interface_at, interfaces_at}
+use Rattle.link_rules.specs.Cycles.{listed, same_row, home_of, is_interface_at, is_interface, interfaces_at}
 use Rattle.link_rules.specs.Linked.{assemblies, link_fault_of}
 use Rattle.type_rules.specs.Subtypes.{interfaces_of}
 use Rattle.type_rules.specs.Slots.{open_type, method_row_at, type_of_method, type_of_row, nearest, slot_of}
@@ -52,7 +52,8 @@ use Rattle.marked_call_laws.proofs.Found.{CoreMethod, dispatch_core, choice_core
 use Rattle.marked_call_laws.proofs.Made.{MadeType, made_type}
 use Rattle.marked_call_laws.proofs.Kept.{home_kept, base_kept}
 use Rattle.marked_call_laws.proofs.Chosen.{choice_alike}
-use Rattle.marked_call_laws.proofs.Implied.{implied_way, put_home}
+use Rattle.marked_call_laws.proofs.Implied.{implied_way, put_home, put_interface}
+use Rattle.marked_call_laws.proofs.Owners.{own_slot}
 use Rattle.marked_call_laws.proofs.Rows.{impl_row, place, names_interface, class_is, place_kept, has_token}
 use Rattle.marked_call_laws.proofs.Lists.{First, any_from, same_listed, in_class_runs, in_interface_runs, in_interface_answer}
 
@@ -197,6 +198,9 @@ module _ (inputs : List AsmRec) (entry : Option RowAt) (roots : List Root) (has 
       let i = map_is (choice n.0) (chosen recs owner n.0) c.0 n.2 in
       choice_by e owner s f d.0 n.0 i.0 d.1 n.1 i.1 (ap (from_choice recs s d.0 (type_of_row recs s)) i.2 ∙ c.2)
 
+  abbrev CalledOn : TypeExpr → RowAt → Type 0
+  CalledOn owner s = IsTrue (is_interface recs owner) → home_of recs owner ≡ type_of_method recs s
+
   owner_by : (s : RowAt) (o : Option RowAt) → type_of_method recs s ≡ o → list_any (is_interface_at recs) (listed o) ≡ true → (owner : RowAt) × (type_of_method recs s ≡ Some owner)
   owner_by s None e h = absurd (cc)
   owner_by s (Some x) e h = (x, e)
@@ -208,13 +212,14 @@ module _ (inputs : List AsmRec) (entry : Option RowAt) (roots : List Root) (has 
     is : row_of recs (impl_item recs row) ≡ Some row
     first : First recs x s row f
 
-  listed_is : (e owner : TypeExpr) (s f x : RowAt) → IsTrue (keeps_expr k e) → home_of recs e ≡ Some x → Slot s → in_interface recs s ≡ true → home_of recs owner ≡ type_of_method recs s → Chosen e owner s f → Listed x s f
+  listed_is : (e owner : TypeExpr) (s f x : RowAt) → IsTrue (keeps_expr k e) → home_of recs e ≡ Some x → Slot s → in_interface recs s ≡ true → CalledOn owner s → Chosen e owner s f → Listed x s f
   listed_is e owner s f x keeps_e at g interface called c =
       let J = owner_by s (type_of_method recs s) refl interface in
       let is = are_interfaces recs c.class c.named c.row in
       let home = homed recs c.named is in
       let w = implied_way inputs sound home.0 c.named c.instance is home.1 c.within in
-      let instance_home : home_of recs c.instance ≡ Some J.0 = sym (put_home inputs sound (args_of c.of) c.instance w.interface) ∙ ap (home_of recs) c.closed ∙ called ∙ J.1 in
+      let interface_owner : is_interface recs owner ≡ true = ap (is_interface recs) (sym c.closed) ∙ put_interface inputs sound (args_of c.of) c.instance w.interface in
+      let instance_home : home_of recs c.instance ≡ Some J.0 = sym (put_home inputs sound (args_of c.of) c.instance w.interface) ∙ ap (home_of recs) c.closed ∙ called interface_owner ∙ J.1 in
       let same : w.home ≡ J.0 = (let q = sym w.is ∙ instance_home in cc) in
       let kept_owner : KeepsType w.home = subst KeepsType (sym same) (keeps.owners s J.0 g.stays J.1) in
       let kept_class : KeepsType c.class = bases_hold inputs sound KeepsType (base_kept k kept recs keeps) (type_count recs) e c.of (λ y is. home_kept k kept recs keeps e y keeps_e is) c.above c.class c.class_is in
@@ -250,7 +255,7 @@ module _ (inputs : List AsmRec) (entry : Option RowAt) (roots : List Root) (has 
       method_kept g
       (interface_gives recs entry roots has marks t (method_id recs s) (record { 0 = rows_before impls_in recs r.asm + r.row }) x s r (marks_method recs g) made (method_marked s slot.stays) marks_row home (slot_row s slot) is i)
 
-  found_by : (e owner : TypeExpr) (s f : RowAt) → IsTrue (keeps_expr k e) → Slot s → in_interface recs s ≡ true → home_of recs owner ≡ type_of_method recs s → interface_method recs e owner s ≡ Some f
+  found_by : (e owner : TypeExpr) (s f : RowAt) → IsTrue (keeps_expr k e) → Slot s → in_interface recs s ≡ true → CalledOn owner s → interface_method recs e owner s ≡ Some f
       → IsCoreType inputs sound e ⊎ MadeType inputs sound has e → KeepsMethod f
   found_by e owner s f keeps_e g interface called h (inl core) =
       let c = chosen_by e owner s f h in
@@ -259,7 +264,7 @@ module _ (inputs : List AsmRec) (entry : Option RowAt) (roots : List Root) (has 
       let l = listed_is e owner s f m.of keeps_e m.is g interface called (chosen_by e owner s f h) in
       gives m.of s f m.made.id l.row m.made.is m.made.home g l.marks_row l.is (in_interface_runs recs m.of s l.row f l.first)
 
-  answer_by : (e owner : TypeExpr) (s f slot d : RowAt) → IsTrue (keeps_expr k e) → Slot s → in_interface recs s ≡ true → home_of recs owner ≡ type_of_method recs s → interface_method recs e owner s ≡ Some f
+  answer_by : (e owner : TypeExpr) (s f slot d : RowAt) → IsTrue (keeps_expr k e) → Slot s → in_interface recs s ≡ true → CalledOn owner s → interface_method recs e owner s ≡ Some f
       → slot_of recs f ≡ Some slot → class_dispatch recs e slot ≡ Some d → IsCoreType inputs sound e ⊎ MadeType inputs sound has e → KeepsMethod d
   answer_by e owner s f slot d keeps_e g interface called h of is (inl core) = core_kept d (dispatch_core inputs sound slot d e core is)
   answer_by e owner s f slot d keeps_e g interface called h of is (inr m) =
@@ -267,7 +272,7 @@ module _ (inputs : List AsmRec) (entry : Option RowAt) (roots : List Root) (has 
       gives m.of s d m.made.id l.row m.made.is m.made.home g l.marks_row l.is
       (in_interface_answer recs m.of s l.row f slot d l.first of (sym (dispatch_alike inputs sound slot e (open_type recs m.of) (open_home e m.of m.is)) ∙ is))
 
-  interface_by : (e owner : TypeExpr) (s d : RowAt) → IsTrue (keeps_expr k e) → Slot s → in_interface recs s ≡ true → home_of recs owner ≡ type_of_method recs s → interface_dispatch recs e owner s ≡ Some d
+  interface_by : (e owner : TypeExpr) (s d : RowAt) → IsTrue (keeps_expr k e) → Slot s → in_interface recs s ≡ true → CalledOn owner s → interface_dispatch recs e owner s ≡ Some d
       → IsCoreType inputs sound e ⊎ MadeType inputs sound has e → KeepsMethod d
   unfolding interface_dispatch
   interface_by e owner s d keeps_e g interface called h made =
@@ -284,8 +289,15 @@ module _ (inputs : List AsmRec) (entry : Option RowAt) (roots : List Root) (has 
     kept_e : IsTrue (keeps_expr k e)
     kept_e = first_so (keeps_expr k e) (names_of k e).shown (first_so (shows_expr k e) (makes_expr k e) keeps_e)
 
+    called_slot : (s : RowAt) → slot_numbered recs m ≡ Some s → CalledOn owner s
+    called_slot s is interface =
+        let at = then_is (slot_of recs) (home_from methods_in 0 recs m) s is in
+        let home = homed recs owner interface in
+        let same : at.0 ≡ s = own_slot recs at.0 home.0 (sym (called at.0 at.1 interface) ∙ home.1) home.2 s at.2 in
+        called at.0 at.1 interface ∙ ap (type_of_method recs) same
+
     slot_by : (s f : RowAt) (b : Bool) → in_interface recs s ≡ b → slot_numbered recs m ≡ Some s → (if b then interface_dispatch recs e owner s else class_dispatch recs e s) ≡ Some f → KeepsMethod f
-    slot_by s f true interface is h = interface_by e owner s f kept_e (slot_is m s keeps_m is) interface (called s is interface) h made
+    slot_by s f true interface is h = interface_by e owner s f kept_e (slot_is m s keeps_m is) interface (called_slot s is) h made
     slot_by s f false class is h = class_by e s f (slot_is m s keeps_m is) class h made
 
     pub runs_kept : (f : RowAt) → option_and_then (dispatch_slot recs e owner) (slot_numbered recs m) ≡ Some f → KeepsMethod f
@@ -293,7 +305,7 @@ module _ (inputs : List AsmRec) (entry : Option RowAt) (roots : List Root) (has 
         let s = then_is (dispatch_slot recs e owner) (slot_numbered recs m) f h in slot_by s.0 f (in_interface recs s.0) refl s.1 s.2
 
     pub finds_kept : (s f : RowAt) → slot_numbered recs m ≡ Some s → IsTrue (in_interface recs s) → interface_method recs e owner s ≡ Some f → KeepsMethod f
-    finds_kept s f is interface h = found_by e owner s f kept_e (slot_is m s keeps_m is) interface (called s is interface) h made
+    finds_kept s f is interface h = found_by e owner s f kept_e (slot_is m s keeps_m is) interface (called_slot s is) h made
 
 pub all_run : MarkedRuns
 all_run inputs entry roots has sound few marks keeps rows e owner m made kept_owner kept_m called f h = runs_kept inputs entry roots has sound few marks keeps rows e owner m made kept_m called f h

@@ -68,13 +68,16 @@ or_is (Some x) p m e = inl e
 -- ---- methods of types
 
 module _ (recs : List AsmRec) where
+  asm_is : (m : RowAt) (a k : ℕ) → m ≡ at_row a k → m.asm ≡ a
+  asm_is m a k e = ap (λ (x : RowAt). x.asm) e
+
   run_asm : (at m : RowAt) → In m (methods_of_type recs at) → m.asm ≡ at.asm
   unfolding methods_of_type
   run_asm at m h =
       let r = in_flat (λ (rec : AsmRec). flat_map (λ (t : TypeDefRow). map (at_row at.asm) (run_places t.method_list_first t.method_list_end rec.method_def)) (listed (slice_get rec.type_def at.row))) m (listed (slice_get recs at.asm)) h in
       let t = in_flat (λ (t : TypeDefRow). map (at_row at.asm) (run_places t.method_list_first t.method_list_end r.0.method_def)) m (listed (slice_get r.0.type_def at.row)) r.2 in
       let k = in_map (at_row at.asm) m (run_places t.0.method_list_first t.0.method_list_end r.0.method_def) t.2 in
-      ap (λ (x : RowAt). x.asm) k.2
+      asm_is m at.asm k.0 k.2
 
   first_home : (T : RowAt → Bool) (m : RowAt) (o : Option RowAt) → option_and_then (λ (at : RowAt). first_at T (methods_of_type recs at)) o ≡ Some m
       → (home : RowAt) × (o ≡ Some home) × (m.asm ≡ home.asm) × (T m ≡ true)

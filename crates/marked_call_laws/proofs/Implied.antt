@@ -25,7 +25,7 @@ module _ (inputs : List AsmRec) (sound : link_fault_of inputs ≡ None) where
       kept_home recs (top inputs sound) (top_home inputs sound) (top_class inputs sound) (arrays inputs sound) targs e
       (interface_named recs (top inputs sound) (top_home inputs sound) (top_class inputs sound) (arrays inputs sound) e is)
 
-  put_interface : (targs : List TypeExpr) (e : TypeExpr) → is_interface recs e ≡ true → is_interface recs (put targs [] e) ≡ true
+  pub put_interface : (targs : List TypeExpr) (e : TypeExpr) → is_interface recs e ≡ true → is_interface recs (put targs [] e) ≡ true
   unfolding is_interface
   put_interface targs e is = ap (λ (o : Option RowAt). list_any (is_interface_at recs) (listed o)) (put_home targs e is) ∙ is
 

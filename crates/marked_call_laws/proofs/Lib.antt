@@ -7,6 +7,8 @@ pub mod Made
 pub mod Kept
 pub mod Chosen
 pub mod Implied
+pub mod Owners
 pub mod Rows
 pub mod Lists
 pub mod Calls
+pub mod Uses

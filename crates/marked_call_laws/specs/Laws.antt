@@ -1,13 +1,18 @@
 -- What virtual calls run is marked, in a world of files that link (II.10.3, II.12.2).
 use Rattle.std.specs.Prelude.{◌≡◌, ◌<◌, ℕ, List, length, Option, Some, None, Bool, slice_get, IsTrue}
 use Rattle.std.specs.Option.{option_and_then}
+use Rattle.world_model.specs.declared.known.Known.TheVariants.{Good}
 use Rattle.world_model.specs.declared.expr.TypeExpr.{TypeExpr}
+use Rattle.world_model.specs.declared.expr.MethodUse.{MethodUse}
 use Rattle.world_model.specs.declared.record.AsmRec.{AsmRec}
+use Rattle.world_model.specs.Exprs.{subst}
 use Rattle.link_rules.specs.declared.row_at.RowAt.{RowAt}
 use Rattle.link_rules.specs.Linked.{assemblies, link_fault_of}
-use Rattle.link_rules.specs.Cycles.{home_of}
+use Rattle.link_rules.specs.Members.{home_from, methods_in, generic_method}
+use Rattle.link_rules.specs.Cycles.{home_of, is_interface}
 use Rattle.type_rules.specs.Slots.{type_of_method}
 use Rattle.type_rules.specs.Dispatch.{in_interface, interface_method, dispatch_slot}
+use Rattle.walk_laws.specs.Walks.{AreMethodRuns}
 use Rattle.descriptor_file.specs.declared.root.Root.{Root}
 use Rattle.mark_rules.specs.Facts.{Fact}
 use Rattle.change_rules.specs.Change.{Keep}
@@ -22,9 +27,9 @@ use Rattle.marked_laws.specs.Flags.{HasMarks, keep_of, kept_of}
 abbrev pub HasFewTypes : List AsmRec → Type 0
 HasFewTypes recs = (a : ℕ) (rec : AsmRec) → slice_get recs a ≡ Some rec → length rec.type_def < 16777216
 
--- a method whose slot is an interface's is called on an instance of that interface
+-- a method of an interface is called on an instance of that interface
 abbrev pub IsCalledOn : List AsmRec → TypeExpr → ℕ → Type 0
-IsCalledOn recs owner m = (s : RowAt) → slot_numbered recs m ≡ Some s → IsTrue (in_interface recs s) → home_of recs owner ≡ type_of_method recs s
+IsCalledOn recs owner m = (at : RowAt) → home_from methods_in 0 recs m ≡ Some at → IsTrue (is_interface recs owner) → home_of recs owner ≡ type_of_method recs at
 
 abbrev pub ForCalls : ((k : Keep) (recs : List AsmRec) (e owner : TypeExpr) (m : ℕ) → Type 0) → Type 0
 ForCalls P =
@@ -40,3 +45,11 @@ MarkedRuns = ForCalls (λ k recs e owner m. (f : RowAt) → option_and_then (dis
 abbrev pub MarkedFinds : Type 0
 MarkedFinds = ForCalls (λ k recs e owner m. (s f : RowAt) → slot_numbered recs m ≡ Some s → IsTrue (in_interface recs s) → interface_method recs e owner s ≡ Some f
     → IsTrue (keeps_method_row k recs f))
+
+-- A use of a method that an input's token names has an owner of the definition that the method is of; arguments that are put in
+-- leave that so.
+abbrev pub UsesOwned : Type 0
+UsesOwned =
+    (inputs : List AsmRec) → ((a : ℕ) (rec : AsmRec) → slice_get inputs a ≡ Some rec → AreMethodRuns rec)
+    → (a : ℕ) (rec : AsmRec) (token : ℕ) (u : MethodUse) (targs margs : List TypeExpr) → slice_get inputs a ≡ Some rec → generic_method (assemblies inputs) a rec token ≡ Good u
+    → (at : RowAt) → home_from methods_in 0 (assemblies inputs) u.method.0 ≡ Some at → home_of (assemblies inputs) (subst targs margs u.owner) ≡ type_of_method (assemblies inputs) at
