@@ -1,5 +1,5 @@
 -- The laws on each question, joined.
-use Rattle.std.proofs.Common.{◌≡◌, ℕ, Bool, List, Some, refl}
+use Rattle.std.proofs.Common.{ℕ, Bool, List, refl}
 use Rattle.std.specs.Prelude.{IsTrue}
 use Rattle.std.specs.Cmp.{first_so}
 use Rattle.world_model.specs.declared.expr.TypeExpr.{TypeExpr}
@@ -10,8 +10,8 @@ use Rattle.link_rules.specs.Linked.{assemblies}
 use Rattle.walk_laws.specs.Walks.{BasesWhole}
 use Rattle.walk_laws.proofs.Bases.{all_whole}
 use Rattle.view_rules.specs.Answers.{core_type_id, queries_of}
-use Rattle.change_rules.specs.Change.{Keep, Change}
-use Rattle.change_rules.specs.Keeps.{Names, both, names_of, keeps_expr, shows_expr, makes_expr, keeps_made}
+use Rattle.change_rules.specs.Change.{Change}
+use Rattle.change_rules.specs.Keeps.{names_of, keeps_expr, shows_expr, makes_expr, keeps_made}
 use Rattle.change_rules.specs.Agree.{is_asked, Agree}
 use Rattle.world_change_rules.specs.Places.{Places}
 use Rattle.dispatch_laws.specs.Kept.{KeepsRuns}
@@ -76,7 +76,7 @@ module _ (k : Change) (kept : RowAt → Bool) (p : Places) (outputs inputs : Lis
     starts = λ i h. starts_moved k kept p after before t.moves t.closed.rows i h;
     below = λ a b h g. below_moved k kept p outputs inputs t.linked t.sound t.moves t.closed.rows t.closed.implied a b h g;
     answers = λ e owner m h g u.
-    answers_moved k kept p after before t.moves t.closed.rows t.apart t.closed.impls later earlier t.slots_after t.slots_before e (made_kept e h) owner m u (runs e owner m h g u);
+        answers_moved k kept p after before t.moves t.closed.rows t.apart t.closed.impls later earlier t.slots_after t.slots_before e (made_kept e h) owner m u (runs e owner m h g u);
     text = λ e h. text_moved k kept p after before t.moves t.closed.rows e h;
     kin = λ e h. kin_moved k kept p after before t.moves t.closed.rows later earlier e h;
     to_string = t.moves.core.methods core.ToString;

@@ -1,6 +1,6 @@
 -- What answers name is kept: cells of kept types, and what a virtual call runs with its owner.
-use Rattle.std.proofs.Common.{◌≡◌, ℕ, Bool, true, false, ◌&&◌, List, [], ◌∷◌, ◌++◌, map, Option, Some, None, ◌⊎◌, inl, inr, refl, sym, ap, subst, ◌∙◌}
-use Rattle.std.specs.Prelude.{IsTrue, reverse, if◌then◌else◌, ◌||◌}
+use Rattle.std.proofs.Common.{◌≡◌, ℕ, Bool, true, false, ◌&&◌, List, [], ◌∷◌, ◌++◌, Option, Some, None, ◌⊎◌, inl, inr, refl, sym, ap, subst, ◌∙◌}
+use Rattle.std.specs.Prelude.{IsTrue, reverse, if◌then◌else◌}
 use Rattle.std.specs.List.{list_all, list_any, flat_map}
 use Rattle.std.specs.Option.{option_map, option_and_then}
 use Rattle.std.specs.Cmp.{first_so, second_so}
@@ -28,10 +28,10 @@ use Rattle.step_rules.specs.Stores.{zero_shape}
 use Rattle.view_rules.specs.Layouts as view
 use Rattle.view_rules.specs.Methods.{field_at, field_query}
 use Rattle.view_rules.specs.Answers.{core_type_id, owner_among, found_owner, with_owner, answers_query}
-use Rattle.change_rules.specs.Change.{Keep, Change}
+use Rattle.change_rules.specs.Change.{Change}
 use Rattle.change_rules.specs.Keeping.{keep}
 use Rattle.change_rules.specs.States.{keeps_place, mask}
-use Rattle.change_rules.specs.Keeps.{Names, keeps_expr, shows_expr, keeps_value, keeps_layout, keeps_use, keeps_field}
+use Rattle.change_rules.specs.Keeps.{Names, keeps_expr, keeps_value, keeps_layout, keeps_use, keeps_field}
 use Rattle.change_laws.proofs.Subst.{names_prim, names_def}
 use Rattle.change_laws.proofs.Values.{keeps_null}
 use Rattle.world_change_rules.specs.Places.{Places, keeps_method_row, keeps_field_row}

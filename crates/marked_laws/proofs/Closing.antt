@@ -1,6 +1,6 @@
 -- What the rules give of facts that are marked is marked.
-use Rattle.std.proofs.Common.{◌≡◌, ℕ, Bool, true, false, List, [], ◌∷◌, ◌++◌, map, Option, Some, None, ◌⊎◌, inl, inr, refl, sym, ap, subst, ◌∙◌}
-use Rattle.std.specs.Prelude.{IsTrue, ◌||◌}
+use Rattle.std.proofs.Common.{◌≡◌, Bool, true, List, [], ◌∷◌, ◌++◌, map, Option, Some, inl, inr, sym, ap, subst}
+use Rattle.std.specs.Prelude.{IsTrue}
 use Rattle.std.specs.List.{flat_map}
 use Rattle.std.proofs.lemmas.Bool.{or_left}
 use Rattle.il_base.specs.declared.ids.TypeId.{TypeId}
@@ -9,16 +9,16 @@ use Rattle.il_base.specs.declared.ids.ImplId.{ImplId}
 use Rattle.il_base.specs.declared.ids.Item.{Item}
 use Rattle.il_base.specs.declared.ids.Item.TheVariants as item
 use Rattle.world_model.specs.declared.known.Known.{Known}
-use Rattle.world_model.specs.declared.known.Known.TheVariants.{Good, Bad}
+use Rattle.world_model.specs.declared.known.Known.TheVariants.{Good}
 use Rattle.world_model.specs.declared.record.AsmRec.{AsmRec}
 use Rattle.link_rules.specs.declared.row_at.RowAt.{RowAt}
 use Rattle.link_rules.specs.Members.{type_home}
 use Rattle.link_rules.specs.Cycles.{listed}
-use Rattle.type_laws.proofs.Within.{In, in_front, in_behind, in_parts, listed_in, in_map, flat_in}
+use Rattle.type_laws.proofs.Within.{In, in_front, in_behind, listed_in, flat_in}
 use Rattle.walk_laws.proofs.Finds.{contains}
 use Rattle.descriptor_file.specs.declared.root.Root.{Root}
 use Rattle.mark_rules.specs.Facts.{Fact, Derived}
-use Rattle.mark_rules.specs.Facts.Fact.{marked, instantiated, reflected, shown}
+use Rattle.mark_rules.specs.Facts.Fact.{marked, instantiated, shown}
 use Rattle.mark_rules.specs.Places.{row_of, is_core}
 use Rattle.mark_rules.specs.Naming.{Named, Part, of_known, of_named, of_parts}
 use Rattle.mark_rules.specs.Attributes.{attribute_needs}

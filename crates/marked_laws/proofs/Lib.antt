@@ -5,3 +5,7 @@ pub mod Places
 pub mod Parts
 pub mod Rows
 pub mod Members
+pub mod Interfaces
+pub mod Uses
+pub mod Impls
+pub mod Joined

@@ -1,10 +1,10 @@
 -- Fields of marked types, and initializers, are kept; so are types of the core library.
-use Rattle.std.proofs.Common.{◌≡◌, ℕ, zero, suc, ◌+◌, ◌-◌, ◌<◌, ◌≤◌, Bool, true, false, nat_lt, List, [], ◌∷◌, ◌++◌, length, map, Option, Some, None, ◌⊎◌, inl, inr, refl, sym, ap, subst, ◌∙◌, arith}
-use Rattle.std.specs.Prelude.{IsTrue, slice_get, ◌==◌, ◌&&◌, ◌||◌, not, if◌then◌else◌}
+use Rattle.std.proofs.Common.{◌≡◌, ℕ, zero, suc, ◌+◌, ◌-◌, ◌<◌, Bool, true, false, List, [], ◌∷◌, ◌++◌, length, map, Option, Some, None, ◌⊎◌, inl, inr, refl, sym, ap, subst, ◌∙◌, arith}
+use Rattle.std.specs.Prelude.{IsTrue, slice_get, ◌&&◌, ◌||◌, not, if◌then◌else◌}
 use Rattle.std.specs.List.{list_all, list_any, flat_map, filter, range_with_len}
 use Rattle.std.specs.Option.{option_map, option_and_then}
 use Rattle.std.specs.Cmp.{first_so, second_so}
-use Rattle.std.proofs.lemmas.Bool.{true≢false, and_from, or_left, or_right, or_cases}
+use Rattle.std.proofs.lemmas.Bool.{true≢false, and_from, or_cases}
 use Rattle.il_base.specs.declared.ids.TypeId.{TypeId}
 use Rattle.il_base.specs.declared.ids.Item.TheVariants as item
 use Rattle.il_base.specs.declared.table.TheConstants.{FIELD}
@@ -29,19 +29,23 @@ use Rattle.link_rules.specs.Linked.{assemblies}
 use Rattle.type_rules.specs.Slots.{type_of_method}
 use Rattle.type_rules.specs.Rows.{rec_at, field_row_at, fields_of_type, is_instance_field, is_enum, owner_of_field}
 use Rattle.type_rules.specs.Initializers.{initializer_in, initializer}
-use Rattle.type_laws.proofs.Within.{In, in_front, in_behind, in_parts, in_listed, listed_in, in_map, in_flat, flat_in}
+use Rattle.type_laws.proofs.Within.{In, in_front, in_behind, listed_in, flat_in}
 use Rattle.type_laws.proofs.Places.{rows_decide, place_within}
 use Rattle.type_laws.proofs.CoreRows.{array_row}
 use Rattle.descriptor_file.specs.declared.root.Root.{Root}
 use Rattle.mark_rules.specs.Facts.{Fact}
-use Rattle.mark_rules.specs.Facts.Fact.{marked, instantiated, shown}
-use Rattle.mark_rules.specs.Places.{type_item, method_item, field_item, marks_type, marks_method, marks_field, row_of, is_core}
-use Rattle.mark_rules.specs.Naming.{Named, Part, of_parts, good_part, type_parts, parts_of, sig_parts}
+use Rattle.mark_rules.specs.Facts.Fact.{instantiated}
+use Rattle.mark_rules.specs.Places.{type_item, field_item, marks_method, marks_field, is_core}
+use Rattle.mark_rules.specs.Naming.{Part, of_parts, good_part, type_parts, parts_of, sig_parts}
 use Rattle.mark_rules.specs.Naming.Named.{type}
 use Rattle.mark_rules.specs.Types.{type_needs, laid_fields, layout_needs, parts_of_field, field_needs}
 use Rattle.mark_rules.specs.Calls.{initializer_of, method_starts, field_starts}
 use Rattle.mark_rules.specs.Marking.{row_needs}
-use Rattle.view_rules.specs.Methods.{field_type, field_owner, field_by, field_at}
+use Rattle.il_base.specs.declared.outside.TheConstants.{GLOBAL_MEMBER, LAYOUT}
+use Rattle.world_model.specs.declared.known.BadKind.{BadKind}
+use Rattle.world_model.specs.declared.known.BadKind.TheVariants.{Outside}
+use Rattle.mark_rules.specs.BadItems.{is_global}
+use Rattle.view_rules.specs.Methods.{has_explicit_layout, field_owner, field_by, field_at}
 use Rattle.cil_values.specs.declared.definition.FieldDef.{FieldDef}
 use Rattle.change_rules.specs.Change.{Keep}
 use Rattle.change_rules.specs.Keeps.{keeps_expr, if_good, keeps_field}
@@ -51,7 +55,7 @@ use Rattle.marked_laws.proofs.Closing.{mapped_in, row_gives, by_core}
 use Rattle.marked_laws.proofs.Flags.{typ_is, typ_has, method_is, field_is, field_has, shown_core, made_is, begun_begins}
 use Rattle.marked_laws.proofs.Places.{type_row_of, type_home_of, method_row_below, field_row_of, last_type, prim_is_core}
 use Rattle.marked_laws.proofs.Parts.{HasParts, part_kept}
-use Rattle.marked_laws.proofs.Rows.{of_type, method_gives, starts_in}
+use Rattle.marked_laws.proofs.Rows.{method_gives, starts_in}
 
 -- ---- lists
 
@@ -174,7 +178,7 @@ module _ (recs : List AsmRec) (entry : Option RowAt) (roots : List Root) (has : 
       let within = field_part at rec f e s r g in
       part_kept recs entry roots has m (field_item recs at) at (of_field at rec f h s r) (good_part (token_of FIELD (suc at.row)) (type e)) e within within refl
 
-  type_by : (at : RowAt) (rec : AsmRec) (f : FieldRow) (x y : Bool) (why z : _) → IsTrue (keeps_field_row k recs at) → slice_get recs at.asm ≡ Some rec → slice_get rec.field at.row ≡ Some f
+  type_by : (at : RowAt) (rec : AsmRec) (f : FieldRow) (x y : Bool) (why z : BadKind) → IsTrue (keeps_field_row k recs at) → slice_get recs at.asm ≡ Some rec → slice_get rec.field at.row ≡ Some f
       → IsTrue (if_good (keeps_expr k) (if x then Bad why else if y then Bad z else known_then (sig_expr (names_at recs at.asm rec)) f.signature))
   type_by at rec f true y why z h s r = refl
   type_by at rec f false true why z h s r = refl
@@ -184,7 +188,7 @@ module _ (recs : List AsmRec) (entry : Option RowAt) (roots : List Root) (has : 
   field_def_by at rec d None h s r e = absurd (cc)
   field_def_by at rec d (Some f) h s r e =
       let same : field_by recs at rec f ≡ d = cc in
-      subst (λ (x : FieldDef). IsTrue (keeps_field k x)) same (type_by at rec f _ _ _ _ h s r)
+      subst (λ (x : FieldDef). IsTrue (keeps_field k x)) same (type_by at rec f (is_global recs (field_owner at rec)) (not (is_static_field f) && has_explicit_layout recs (field_owner at rec)) (Outside GLOBAL_MEMBER) (Outside LAYOUT) h s r)
 
   field_rec_by : (at : RowAt) (d : FieldDef) (o : Option AsmRec) → IsTrue (keeps_field_row k recs at) → slice_get recs at.asm ≡ o → option_and_then (λ (rec : AsmRec). option_map (field_by recs at rec) (slice_get rec.field at.row)) o ≡ Some d → IsTrue (keeps_field k d)
   field_rec_by at d None h s e = absurd (cc)

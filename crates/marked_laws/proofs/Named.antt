@@ -1,10 +1,10 @@
 -- A type is kept where each definition that it names is kept and each of its generic arguments is shown.
-use Rattle.std.proofs.Common.{◌≡◌, ℕ, Bool, true, ◌&&◌, List, [], ◌∷◌, ◌++◌, map, ◌⊎◌, inl, inr, refl, sym, ap, subst, ◌∙◌}
+use Rattle.std.proofs.Common.{◌≡◌, Bool, List, [], ◌∷◌, ◌++◌, map, ◌⊎◌, inl, inr, refl, sym, ap, subst, ◌∙◌}
 use Rattle.std.specs.Prelude.{IsTrue}
 use Rattle.std.specs.List.{list_all, flat_map}
 use Rattle.std.proofs.lemmas.Bool.{and_from}
 use Rattle.il_base.specs.declared.ids.TypeId.{TypeId}
-use Rattle.world_model.specs.declared.expr.TypeExpr.{TypeExpr, fold-TypeExpr, fold-roll-TypeExpr, ind-TypeExpr, roll-TypeExpr}
+use Rattle.world_model.specs.declared.expr.TypeExpr.{TypeExpr, fold-roll-TypeExpr, ind-TypeExpr, roll-TypeExpr}
 use Rattle.world_model.specs.declared.expr.TypeExpr.TheFolds.{map-TypeExpr}
 use Rattle.world_model.specs.declared.expr.TypeExpr.TheOpen.{TypeExpr-F}
 use Rattle.type_laws.proofs.Within.{In, in_front, in_behind, in_parts}
@@ -58,9 +58,9 @@ module _ (k : Keep) where
   whole y l = record {
     defined = λ h. defined_rolled k y ∙ l.defined (λ t i. h t (subst (λ ts. In t ts) (sym (types_rolled y)) i));
     keeps = λ h g. ap (λ (n : Names). n.kept) (names_rolled k y)
-    ∙ l.keeps (λ t i. h t (subst (λ ts. In t ts) (sym (types_rolled y)) i)) (λ t i. g t (subst (λ (w : Within). In t w.arguments) (sym (within_rolled y)) i));
+        ∙ l.keeps (λ t i. h t (subst (λ ts. In t ts) (sym (types_rolled y)) i)) (λ t i. g t (subst (λ (w : Within). In t w.arguments) (sym (within_rolled y)) i));
     shows = λ h g. ap (λ (n : Names). n.shown) (names_rolled k y)
-    ∙ l.shows (λ t i. h t (subst (λ ts. In t ts) (sym (types_rolled y)) i)) (λ t i. g t (subst (λ (w : Within). In t w.all) (sym (within_rolled y)) i));
+        ∙ l.shows (λ t i. h t (subst (λ ts. In t ts) (sym (types_rolled y)) i)) (λ t i. g t (subst (λ (w : Within). In t w.all) (sym (within_rolled y)) i));
     fewer = λ t i. subst (λ (w : Within). In t w.all) (sym (within_rolled y)) (l.fewer t (subst (λ (w : Within). In t w.arguments) (within_rolled y) i));
     types = λ t i. subst (λ ts. In t ts) (sym (types_rolled y)) (l.types t (subst (λ (w : Within). In t w.all) (within_rolled y) i));
   }

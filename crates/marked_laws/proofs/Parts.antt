@@ -1,25 +1,22 @@
 -- What a part of a marked item names is kept.
-use Rattle.std.proofs.Common.{◌≡◌, ℕ, Bool, true, false, List, [], ◌∷◌, ◌++◌, map, Option, Some, None, ◌⊎◌, inl, inr, refl, sym, ap, subst, ◌∙◌}
+use Rattle.std.proofs.Common.{◌≡◌, ℕ, Bool, List, Option, Some, ap}
 use Rattle.std.specs.Prelude.{IsTrue}
-use Rattle.std.specs.List.{flat_map}
-use Rattle.il_base.specs.declared.ids.TypeId.{TypeId}
 use Rattle.il_base.specs.declared.ids.Item.{Item}
 use Rattle.il_base.specs.declared.ids.Item.TheVariants as item
-use Rattle.world_model.specs.declared.known.Known.{Known}
-use Rattle.world_model.specs.declared.known.Known.TheVariants.{Good, Bad}
+use Rattle.world_model.specs.declared.known.Known.TheVariants.{Good}
 use Rattle.world_model.specs.declared.expr.TypeExpr.{TypeExpr}
 use Rattle.world_model.specs.declared.record.AsmRec.{AsmRec}
 use Rattle.world_model.specs.Worlds.{known_map}
 use Rattle.link_rules.specs.declared.row_at.RowAt.{RowAt}
 use Rattle.link_rules.specs.Signatures.{token_type}
-use Rattle.type_laws.proofs.Within.{In, in_front, in_behind}
+use Rattle.type_laws.proofs.Within.{In, in_front}
 use Rattle.descriptor_file.specs.declared.root.Root.{Root}
 use Rattle.mark_rules.specs.Facts.{Fact}
-use Rattle.mark_rules.specs.Facts.Fact.{marked, shown}
+use Rattle.mark_rules.specs.Facts.Fact.{marked}
 use Rattle.mark_rules.specs.Places.{row_of}
-use Rattle.mark_rules.specs.Naming.{Named, Part, of_expr, of_named, of_parts, types_in, type_token_part}
-use Rattle.mark_rules.specs.Naming.Named.{type, method, field}
-use Rattle.mark_rules.specs.Shown.{within, arguments_in, arguments_of_parts, parts_of_item, showing_parts, shown_by_item}
+use Rattle.mark_rules.specs.Naming.{Named, Part, of_named, of_parts, types_in, type_token_part}
+use Rattle.mark_rules.specs.Naming.Named.{type}
+use Rattle.mark_rules.specs.Shown.{arguments_of_parts, parts_of_item, showing_parts, shown_by_item}
 use Rattle.mark_rules.specs.Marking.{row_needs}
 use Rattle.change_rules.specs.Keeps.{keeps_expr}
 use Rattle.marked_laws.specs.Flags.{HasMarks, keep_of}

@@ -1,12 +1,8 @@
 -- What rows of marked types, methods and fields name is kept.
-use Rattle.std.proofs.Common.{◌≡◌, ℕ, zero, suc, ◌+◌, ◌-◌, ◌<◌, ◌≤◌, Bool, true, false, nat_le, nat_lt, List, [], ◌∷◌, ◌++◌, length, map, Option, Some, None, ◌⊎◌, inl, inr, refl, sym, ap, subst, ◌∙◌, arith}
+use Rattle.std.proofs.Common.{◌≡◌, ℕ, zero, suc, ◌+◌, Bool, true, false, List, [], ◌∷◌, ◌++◌, map, Option, Some, None, ◌⊎◌, inl, inr, refl, sym, ap, subst, arith}
 use Rattle.std.specs.Prelude.{IsTrue, slice_get, ◌==◌, ◌&&◌, ◌||◌, not, Contains, if◌then◌else◌}
-use Rattle.std.specs.List.{list_all, list_any, flat_map, filter, range_with_len}
-use Rattle.std.specs.Option.{option_map, option_and_then}
-use Rattle.std.specs.Cmp.{first_so, second_so}
-use Rattle.std.proofs.lemmas.Bool.{true≢false, and_parts, and_from, or_left, or_right, or_cases, ltb-true, leb-true}
-use Rattle.il_base.specs.declared.ids.TypeId.{TypeId}
-use Rattle.il_base.specs.declared.ids.Item.TheVariants as item
+use Rattle.std.specs.List.{flat_map}
+use Rattle.std.specs.Option.{option_and_then}
 use Rattle.il_base.specs.declared.table.TheConstants.{TYPE_DEF}
 use Rattle.world_model.specs.declared.known.Known.{Known}
 use Rattle.world_model.specs.declared.known.Known.TheVariants.{Good, Bad}
@@ -14,24 +10,21 @@ use Rattle.world_model.specs.declared.expr.TypeExpr.{TypeExpr}
 use Rattle.world_model.specs.declared.types.TypeDefRow.{TypeDefRow}
 use Rattle.world_model.specs.declared.types.InterfaceImplRow.{InterfaceImplRow}
 use Rattle.world_model.specs.declared.members.MethodDefRow.{MethodDefRow}
-use Rattle.world_model.specs.declared.members.FieldRow.{FieldRow}
 use Rattle.world_model.specs.declared.record.AsmRec.{AsmRec}
 use Rattle.world_model.specs.Tokens.{token_of}
-use Rattle.world_model.specs.Worlds.{type_id, known_then, sig_expr}
+use Rattle.world_model.specs.Worlds.{type_id}
 use Rattle.link_rules.specs.declared.row_at.RowAt.{RowAt}
 use Rattle.link_rules.specs.Types.{at_row}
-use Rattle.link_rules.specs.Signatures.{names_at, token_type}
-use Rattle.link_rules.specs.Members.{type_home, is_named, only_named, good_type, is_interface_row, base_in, base_at, is_in_run, owns_method}
-use Rattle.link_rules.specs.Cycles.{listed, is_row_of, is_interface, only_interface, interface_of, is_value_type}
-use Rattle.type_rules.specs.Slots.{is_virtual, is_new_slot, method_row_at, type_of_method, inherited, owner_from}
+use Rattle.link_rules.specs.Signatures.{token_type}
+use Rattle.link_rules.specs.Members.{is_named, only_named, good_type, is_interface_row, base_in, base_at}
+use Rattle.link_rules.specs.Cycles.{listed, is_row_of, is_interface, only_interface, interface_of}
+use Rattle.type_rules.specs.Slots.{is_virtual, is_new_slot, method_row_at, type_of_method, inherited}
 use Rattle.type_rules.specs.Rows.{rec_at, each_from}
-use Rattle.type_laws.proofs.Within.{In, in_front, in_behind, in_parts, in_listed, listed_in, in_map, in_flat, flat_in}
+use Rattle.type_laws.proofs.Within.{In, in_front, in_behind, in_parts, in_listed, listed_in, in_flat, flat_in}
 use Rattle.descriptor_file.specs.declared.root.Root.{Root}
 use Rattle.mark_rules.specs.Facts.{Fact}
-use Rattle.mark_rules.specs.Facts.Fact.{marked, shown}
-use Rattle.mark_rules.specs.Places.{type_item, method_item, field_item, impl_item, marks_type, marks_method, row_of}
-use Rattle.mark_rules.specs.Naming.{Named, Part, of_parts, type_token_part}
-use Rattle.mark_rules.specs.Naming.Named.{type}
+use Rattle.mark_rules.specs.Places.{type_item, method_item, impl_item, marks_type, marks_method, row_of}
+use Rattle.mark_rules.specs.Naming.{Part, of_parts, type_token_part}
 use Rattle.mark_rules.specs.Types.{encloser_of, extends_of, constraints_of, parts_of_type, type_needs, layout_needs, parts_of_impl, impl_needs}
 use Rattle.mark_rules.specs.Calls.{owner_facts, method_needs, makes, overridden, overrides_of, method_starts}
 use Rattle.mark_rules.specs.Properties.{accessed}
@@ -40,11 +33,16 @@ use Rattle.change_rules.specs.Change.{Keep}
 use Rattle.change_rules.specs.Keeps.{keeps_expr}
 use Rattle.world_change_rules.specs.Places.{keeps_type_row, keeps_method_row}
 use Rattle.world_change_rules.specs.Rows.{kept_interface_of, kept_interfaces_in, kept_interfaces_at}
-use Rattle.marked_laws.specs.Flags.{HasMarks, keep_of, kept_of, RunsEnd}
+use Rattle.marked_laws.specs.Flags.{HasMarks, keep_of, kept_of}
 use Rattle.marked_laws.proofs.Closing.{mapped_in, row_gives}
 use Rattle.marked_laws.proofs.Flags.{typ_has, typ_is, method_has, method_is}
-use Rattle.marked_laws.proofs.Places.{type_row_of, method_row_of, method_row_below, impl_row_of}
+use Rattle.marked_laws.proofs.Places.{type_row_of, method_row_of, impl_row_of}
 use Rattle.marked_laws.proofs.Parts.{token_named, HasParts, part_kept}
+
+pub contained : (xs : List TypeExpr) (e : TypeExpr) → Contains xs e → In e xs
+contained [] e c = absurd (let lt = c.1 in omega arith)
+contained (x ∷ xs) e (zero, lt, is) = inl (sym is)
+contained (x ∷ xs) e (suc n, lt, is) = inr (contained xs e (n, omega arith, is))
 
 good_is : (k : Known TypeExpr) (e : TypeExpr) → good_type k ≡ Some e → k ≡ Good e
 good_is (Good x) e h = let same : x ≡ e = cc in ap Good same
@@ -135,7 +133,7 @@ module _ (recs : List AsmRec) (entry : Option RowAt) (roots : List Root) (has : 
   only_one None e i = absurd i
   only_one (Some x) e i = ap Some (sym (only_by x e (is_interface recs x) i))
 
-  if_row : (o : Option TypeExpr) (e : TypeExpr) (b : Bool) → In e (if b then only_interface recs o else []) → o ≡ Some e
+  pub if_row : (o : Option TypeExpr) (e : TypeExpr) (b : Bool) → In e (if b then only_interface recs o else []) → o ≡ Some e
   if_row o e true i = only_one o e i
   if_row o e false i = absurd i
 
@@ -185,11 +183,6 @@ module _ (recs : List AsmRec) (entry : Option RowAt) (roots : List Root) (has : 
       let f = in_flat (kept_interfaces_in recs (kept_of recs has) at) e (listed (slice_get recs at.asm)) i in
       in_kept_record at f.0 e (in_listed f.0 (slice_get recs at.asm) f.1) f.2
 
-  contained : (xs : List TypeExpr) (e : TypeExpr) → Contains xs e → In e xs
-  contained [] e c = absurd (let lt = c.1 in omega arith)
-  contained (x ∷ xs) e (zero, lt, is) = inl (sym is)
-  contained (x ∷ xs) e (suc n, lt, is) = inr (contained xs e (n, omega arith, is))
-
   pub interfaces_kept : (at : RowAt) (e : TypeExpr) → Contains (kept_interfaces_at recs (kept_of recs has) at) e → IsTrue (keeps_expr k e)
   interfaces_kept at e c = in_kept_at at e (contained (kept_interfaces_at recs (kept_of recs has) at) e c)
 
@@ -201,18 +194,18 @@ module _ (recs : List AsmRec) (entry : Option RowAt) (roots : List Root) (has : 
   pub method_gives : (at : RowAt) (f : Fact) → IsTrue (keeps_method_row k recs at) → row_of recs (method_item recs at) ≡ Some at → In f (own_needs at) → IsTrue (has f)
   method_gives at f h is i = row_gives recs entry roots has m (method_item recs at) at f (method_has recs has _ h) is i
 
-  needs_in : (at : RowAt) (f : Fact) → In f (method_needs recs at) → In f (own_needs at)
+  pub needs_in : (at : RowAt) (f : Fact) → In f (method_needs recs at) → In f (own_needs at)
   needs_in at f h =
       in_front f (method_needs recs at ++ makes recs at ++ overrides_of recs at ++ method_starts recs at) (accessed recs at)
       (in_front f (method_needs recs at ++ makes recs at ++ overrides_of recs at) (method_starts recs at)
       (in_front f (method_needs recs at ++ makes recs at) (overrides_of recs at) (in_front f (method_needs recs at) (makes recs at) h)))
 
-  overrides_in : (at : RowAt) (f : Fact) → In f (overrides_of recs at) → In f (own_needs at)
+  pub overrides_in : (at : RowAt) (f : Fact) → In f (overrides_of recs at) → In f (own_needs at)
   overrides_in at f h =
       in_front f (method_needs recs at ++ makes recs at ++ overrides_of recs at ++ method_starts recs at) (accessed recs at)
       (in_front f (method_needs recs at ++ makes recs at ++ overrides_of recs at) (method_starts recs at) (in_behind f (method_needs recs at ++ makes recs at) (overrides_of recs at) h))
 
-  starts_in : (at : RowAt) (f : Fact) → In f (method_starts recs at) → In f (own_needs at)
+  pub starts_in : (at : RowAt) (f : Fact) → In f (method_starts recs at) → In f (own_needs at)
   starts_in at f h =
       in_front f (method_needs recs at ++ makes recs at ++ overrides_of recs at ++ method_starts recs at) (accessed recs at)
       (in_behind f (method_needs recs at ++ makes recs at ++ overrides_of recs at) (method_starts recs at) h)

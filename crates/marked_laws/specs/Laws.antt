@@ -5,7 +5,6 @@ use Rattle.link_rules.specs.declared.row_at.RowAt.{RowAt}
 use Rattle.link_rules.specs.Linked.{assemblies, link_fault_of}
 use Rattle.descriptor_file.specs.declared.root.Root.{Root}
 use Rattle.mark_rules.specs.Facts.{Fact}
-use Rattle.change_rules.specs.Change.{Keep}
 use Rattle.world_change_rules.specs.Kept.{KeepsRows}
 use Rattle.dispatch_laws.specs.Kept.{KeepsImpls}
 use Rattle.subtype_laws.specs.Gone.{KeepsImplied}

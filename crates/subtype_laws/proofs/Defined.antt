@@ -1,11 +1,11 @@
 -- Types of which each definition is kept: so is their own.
-use Rattle.std.proofs.Common.{◌≡◌, ℕ, Bool, true, ◌&&◌, List, map, Option, Some, None, refl, sym, ap, subst, ◌∙◌}
+use Rattle.std.proofs.Common.{◌≡◌, ℕ, Bool, List, map, Option, Some, None, refl, sym, ap, subst, ◌∙◌}
 use Rattle.std.specs.Prelude.{IsTrue}
 use Rattle.std.specs.List.{list_all}
 use Rattle.std.specs.Option.{option_and_then}
 use Rattle.std.specs.Cmp.{first_so}
 use Rattle.il_base.specs.declared.ids.TypeId.{TypeId}
-use Rattle.world_model.specs.declared.expr.TypeExpr.{TypeExpr, fold-TypeExpr, fold-roll-TypeExpr, out-TypeExpr, roll-TypeExpr, roll-out-TypeExpr}
+use Rattle.world_model.specs.declared.expr.TypeExpr.{TypeExpr, fold-roll-TypeExpr, out-TypeExpr, roll-TypeExpr, roll-out-TypeExpr}
 use Rattle.world_model.specs.declared.expr.TypeExpr.TheFolds.{map-TypeExpr}
 use Rattle.world_model.specs.declared.expr.TypeExpr.TheOpen.{TypeExpr-F}
 use Rattle.world_model.specs.declared.expr.TypeExpr.TheVariants as expr

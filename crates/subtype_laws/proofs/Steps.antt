@@ -2,10 +2,11 @@
 use Rattle.std.proofs.Common.{◌≡◌, ℕ, zero, suc, ◌+◌, Bool, true, false, List, [], ◌∷◌, ◌++◌, map, Option, Some, None, ◌⊎◌, inl, inr, refl, sym, ap, subst, ◌∙◌, arith}
 use Rattle.std.specs.Prelude.{slice_get, IsTrue, if◌then◌else◌}
 use Rattle.std.specs.List.{flat_map, filter}
-use Rattle.std.specs.Option.{option_map}
+use Rattle.std.specs.Option.{option_map, option_and_then}
 use Rattle.std.proofs.lemmas.Bool.{true≢false}
 use Rattle.std.proofs.lemmas.List.{map-append}
 use Rattle.world_model.specs.declared.expr.TypeExpr.{TypeExpr}
+use Rattle.world_model.specs.declared.types.TypeDefRow.{TypeDefRow}
 use Rattle.world_model.specs.declared.types.InterfaceImplRow.{InterfaceImplRow}
 use Rattle.world_model.specs.declared.record.AsmRec.{AsmRec}
 use Rattle.world_model.specs.Exprs.{subst as put}
@@ -31,6 +32,7 @@ use Rattle.world_change_rules.specs.Rows.{RowsMove, kept_interface_of, kept_inte
 use Rattle.world_change_rules.specs.Kept.{KeepsRows}
 use Rattle.query_laws.proofs.Homes.{home_moved, home_kept}
 use Rattle.query_laws.proofs.Bases.{put_list_moved, put_kept}
+use Rattle.dispatch_laws.proofs.There.{home_there}
 use Rattle.subtype_laws.specs.Gone.{Goes, KeepsImplied}
 use Rattle.subtype_laws.proofs.Filtered.{filter_both, filter_none, in_kept, filter_all}
 
@@ -146,7 +148,7 @@ module _ (k : Change) (kept : RowAt → Bool) (inputs : List AsmRec) (sound : li
       abbrev S : TypeExpr → TypeExpr
       S = put (args_of x) []
 
-      module _ (rec : AsmRec) (there : slice_get before at.asm ≡ Some rec) where
+      module _ (rec : AsmRec) (there : slice_get before at.asm ≡ Some rec) (type_row : TypeDefRow) (type_is : slice_get rec.type_def at.row ≡ Some type_row) where
         abbrev g : InterfaceImplRow → List TypeExpr
         g = interface_of before at.asm rec (token_of 0x02 (suc at.row))
 
@@ -178,7 +180,7 @@ module _ (k : Change) (kept : RowAt → Bool) (inputs : List AsmRec) (sound : li
         row_splits e n row true s h i =
             inl (put_kept k kept p after before r keeps x e kept_x (keeps.interfaces at e kept_at (contains (kept_interfaces_at before kept at) e (row_kept e n row s h i))))
         row_splits e n row false s h i =
-            inr (row_gone (args_of x) e (are_interfaces before at e (in_row e n row s i)) (implied.gone at rec n row e kept_at there s h (contains (g row) e i)))
+            inr (row_gone (args_of x) e (are_interfaces before at e (in_row e n row s i)) (implied.gone at rec type_row n row e kept_at there type_is s h (contains (g row) e i)))
 
         row_all : (n : ℕ) (row : InterfaceImplRow) → slice_get rec.interface_impl n ≡ Some row → kept (at_row at.asm n) ≡ true → (y : TypeExpr) → In y (map S (g row)) → K y ≡ true
         row_all n row s h y i =
@@ -189,7 +191,7 @@ module _ (k : Change) (kept : RowAt → Bool) (inputs : List AsmRec) (sound : li
         row_none n row s h y i =
             let m = in_map S y (g row) i in
             ap K m.2
-            ∙ gone_unkept (S m.0) (row_gone (args_of x) m.0 (are_interfaces before at m.0 (in_row m.0 n row s m.1)) (implied.gone at rec n row m.0 kept_at there s h (contains (g row) m.0 m.1)))
+            ∙ gone_unkept (S m.0) (row_gone (args_of x) m.0 (are_interfaces before at m.0 (in_row m.0 n row s m.1)) (implied.gone at rec type_row n row m.0 kept_at there type_is s h (contains (g row) m.0 m.1)))
 
         row_by : (n : ℕ) (row : InterfaceImplRow) (b : Bool) → slice_get rec.interface_impl n ≡ Some row → kept (at_row at.asm n) ≡ b → filter K (map S (g row)) ≡ map S (if b then g row else [])
         row_by n row true s h = filter_all K (map S (g row)) (row_all n row s h)
@@ -203,10 +205,15 @@ module _ (k : Change) (kept : RowAt → Bool) (inputs : List AsmRec) (sound : li
         pub record_splits : (e : TypeExpr) → In e (interfaces_in before at rec) → (K (S e) ≡ true) ⊎ Gone (S e)
         record_splits e i = let m = from_row g rec.interface_impl e i in row_splits e m.number m.row (kept (at_row at.asm m.number)) m.there refl m.gives
 
+      -- the home's row is there
+      type_of_home : (rec : AsmRec) → slice_get before at.asm ≡ Some rec → (t : TypeDefRow) × (slice_get rec.type_def at.row ≡ Some t)
+      type_of_home rec s = let t = home_there before x at is_home in (t.0, sym (ap (option_and_then (λ (r : AsmRec). slice_get r.type_def at.row)) s) ∙ t.1)
+
       by_record : (o : Option AsmRec) → slice_get before at.asm ≡ o → filter K (map S (flat_map (interfaces_in before at) (listed o))) ≡ map S (flat_map (kept_interfaces_in before kept at) (listed o))
       by_record None s = refl
       by_record (Some rec) s =
-          ap (λ (zs : List TypeExpr). filter K (map S zs)) (append_none (interfaces_in before at rec)) ∙ in_record rec s ∙ ap (map S) (sym (append_none (kept_interfaces_in before kept at rec)))
+          let t = type_of_home rec s in
+          ap (λ (zs : List TypeExpr). filter K (map S zs)) (append_none (interfaces_in before at rec)) ∙ in_record rec s t.0 t.1 ∙ ap (map S) (sym (append_none (kept_interfaces_in before kept at rec)))
         where
           append_none : (zs : List TypeExpr) → zs ++ [] ≡ zs
           append_none [] = refl
@@ -220,7 +227,9 @@ module _ (k : Change) (kept : RowAt → Bool) (inputs : List AsmRec) (sound : li
       unfolding interfaces_at
       at_splits e i =
           let m = in_flat (interfaces_in before at) e (listed (slice_get before at.asm)) i in
-          record_splits m.0 (in_listed m.0 (slice_get before at.asm) m.1) e m.2
+          let s = in_listed m.0 (slice_get before at.asm) m.1 in
+          let t = type_of_home m.0 s in
+          record_splits m.0 s t.0 t.1 e m.2
 
     -- ---- the interfaces of a kept type
 

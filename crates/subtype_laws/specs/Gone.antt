@@ -3,6 +3,7 @@ use Rattle.std.specs.Prelude.{◌≡◌, ℕ, suc, List, [], ◌∷◌, Some, sl
 use Rattle.std.specs.List.{Contains, list_any}
 use Rattle.il_base.specs.declared.table.TheConstants.{TYPE_DEF}
 use Rattle.world_model.specs.declared.expr.TypeExpr.{TypeExpr}
+use Rattle.world_model.specs.declared.types.TypeDefRow.{TypeDefRow}
 use Rattle.world_model.specs.declared.types.InterfaceImplRow.{InterfaceImplRow}
 use Rattle.world_model.specs.declared.record.AsmRec.{AsmRec}
 use Rattle.world_model.specs.Tokens.{token_of}
@@ -20,5 +21,5 @@ Goes k recs e =
 
 -- an interface row of a kept type is kept where its interface is kept, or implies one that is
 pub record KeepsImplied (k : Keep) (kept : RowAt → Bool) (recs : List AsmRec) : Type 0 where
-  pub gone : (at : RowAt) (rec : AsmRec) (n : ℕ) (row : InterfaceImplRow) (e : TypeExpr) → IsTrue (keeps_type_row k recs at) → slice_get recs at.asm ≡ Some rec
-      → slice_get rec.interface_impl n ≡ Some row → kept (at_row at.asm n) ≡ false → Contains (interface_of recs at.asm rec (token_of TYPE_DEF (suc at.row)) row) e → Goes k recs e
+  pub gone : (at : RowAt) (rec : AsmRec) (t : TypeDefRow) (n : ℕ) (row : InterfaceImplRow) (e : TypeExpr) → IsTrue (keeps_type_row k recs at) → slice_get recs at.asm ≡ Some rec
+      → slice_get rec.type_def at.row ≡ Some t → slice_get rec.interface_impl n ≡ Some row → kept (at_row at.asm n) ≡ false → Contains (interface_of recs at.asm rec (token_of TYPE_DEF (suc at.row)) row) e → Goes k recs e

@@ -1,6 +1,5 @@
-use Rattle.marked_laws.proofs.Closing.{interface_gives}
-use Rattle.marked_laws.proofs.Named.{shown_by_parts}
+use Rattle.marked_laws.proofs.Joined.{implied_kept}
 use Rattle.marked_laws.proofs.laws.marked_interfaces.Goals as goal
 
 pub returns : goal.returns
-returns c = ?
+returns c = implied_kept

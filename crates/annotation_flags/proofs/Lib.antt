@@ -1,0 +1,4 @@
+pub mod Lists
+pub mod TypeLayers
+pub mod Here
+pub mod Grouping

@@ -1,0 +1,4 @@
+pub mod Lists
+pub mod Layers
+pub mod Looping
+pub mod Naming

@@ -1,0 +1,4 @@
+pub mod Lists
+pub mod Looping
+pub mod Homes
+pub mod Same
