@@ -36,7 +36,7 @@ use Rattle.world_change_rules.specs.Places.{keeps_type_row, keeps_method_row}
 use Rattle.world_change_rules.specs.Kept.{KeepsRows}
 use Rattle.query_laws.proofs.Ids.{has_number}
 use Rattle.dispatch_laws.specs.Kept.{slot_numbered}
-use Rattle.dispatch_laws.proofs.There.{IsMethodThere, slot_good}
+use Rattle.dispatch_laws.proofs.There.{IsMethodThere, home_there, slot_good}
 use Rattle.dispatch_laws.proofs.Standing.{slot_within_is}
 use Rattle.subtype_laws.specs.Gone.{KeepsImplied}
 use Rattle.marked_laws.specs.Flags.{HasMarks, keep_of, kept_of}
@@ -226,7 +226,7 @@ module _ (inputs : List AsmRec) (entry : Option RowAt) (roots : List Root) (has 
       let i = impl_row recs c.class c.named c.row in
       record {
         row = place recs c.class c.named i;
-        marks_row = place_kept recs c.class c.named i k kept rows kept_class home.0 w.home w.steps home.1 w.leads kept_owner;
+        marks_row = place_kept recs c.class c.named i k kept rows kept_class (home_there recs c.of c.class c.class_is) home.0 w.home w.steps home.1 w.leads kept_owner;
         is = impl_row_of recs (place recs c.class c.named i) i.rec i.there i.row i.at;
         first = record {
           own = g.own;

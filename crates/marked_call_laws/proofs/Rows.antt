@@ -28,6 +28,7 @@ use Rattle.mark_rules.specs.Types.{impl_row_at, impl_type}
 use Rattle.mark_rules.specs.Calls.{row_class}
 use Rattle.change_rules.specs.Change.{Keep}
 use Rattle.world_change_rules.specs.Places.{keeps_type_row}
+use Rattle.dispatch_laws.proofs.There.{IsTypeThere}
 use Rattle.subtype_laws.specs.Gone.{Goes, KeepsImplied}
 use Rattle.subtype_laws.proofs.Steps.{from_row}
 use Rattle.marked_call_laws.specs.Laws.{HasFewTypes}
@@ -89,11 +90,14 @@ module _ (recs : List AsmRec) where
 
     -- ---- it is kept
 
-    module _ (k : Keep) (kept : RowAt → Bool) (rows : KeepsImplied k kept recs) (kept_c : IsTrue (keeps_type_row k recs c)) where
+    module _ (k : Keep) (kept : RowAt → Bool) (rows : KeepsImplied k kept recs) (kept_c : IsTrue (keeps_type_row k recs c)) (type : IsTypeThere recs c) where
+      type_is : slice_get i.rec.type_def c.row ≡ Some type.0
+      type_is = sym (ap (option_and_then (λ (rec : AsmRec). slice_get rec.type_def c.row)) i.there) ∙ type.1
+
       led_kept : (home y : RowAt) (n : ℕ) → home_of recs j ≡ Some home → Leads (interface_rows recs) n home y → IsTrue (keeps_type_row k recs y) → (b : Bool) → kept place ≡ b → b ≡ true
       led_kept home y n is l h true e = refl
       led_kept home y n is l h false e =
-          let goes : Goes k recs j = rows.gone c i.rec i.number i.row j kept_c i.there i.at e (contains (interface_of recs c.asm i.rec (token_of TYPE_DEF (suc c.row)) i.row) j i.gives) in
+          let goes : Goes k recs j = rows.gone c i.rec type.0 i.number i.row j kept_c i.there type_is i.at e (contains (interface_of recs c.asm i.rec (token_of TYPE_DEF (suc c.row)) i.row) j i.gives) in
           let led : In y (led_to same_row (interface_rows recs) n (home ∷ [])) = found same_row rows_decide (interface_rows recs) n n home y (home ∷ []) (omega arith) (inl refl) l in
           let none = goes n home y is (any_in same_row rows_decide y (led_to same_row (interface_rows recs) n (home ∷ [])) led) in
           absurd (true≢false (sym h ∙ none))
