@@ -3,6 +3,7 @@ use Rattle.std.proofs.Common.{◌≡◌, ℕ, suc, ◌+◌, Bool, true, false, L
 use Rattle.std.specs.Prelude.{IsTrue, slice_get, find, if◌then◌else◌}
 use Rattle.std.specs.List.{list_any}
 use Rattle.std.specs.Option.{option_map, option_and_then}
+use Rattle.std.proofs.lemmas.Bool.{true≢false}
 use Rattle.std.specs.Cmp.{first_so, second_so}
 use Rattle.il_base.specs.declared.ids.TypeId.{TypeId}
 use Rattle.world_model.specs.declared.expr.TypeExpr.{TypeExpr}
@@ -43,17 +44,18 @@ use Rattle.marked_laws.specs.Flags.{HasMarks, keep_of, kept_of}
 use Rattle.marked_laws.proofs.Closing.{by_core, class_gives, interface_gives}
 use Rattle.marked_laws.proofs.Flags.{method_is, method_has}
 use Rattle.marked_laws.proofs.Places.{method_row_of, impl_row_of, last_is_core}
-use Rattle.marked_call_laws.specs.Laws.{HasFewTypes, IsCalledOn, MarkedRuns, MarkedFinds}
+use Rattle.marked_call_laws.specs.Laws.{HasFewTypes, IsOwned, MarkedRuns, MarkedFinds}
 use Rattle.marked_call_laws.proofs.Opened.{parent_open, parent_home, open_interfaces}
 use Rattle.marked_call_laws.proofs.Bases.{bases_hold}
 use Rattle.marked_call_laws.proofs.Alike.{OneHome, any_alike, dispatch_alike}
 use Rattle.marked_call_laws.proofs.Core.{IsCoreType, bases_core}
-use Rattle.marked_call_laws.proofs.Found.{CoreMethod, dispatch_core, choice_core}
+use Rattle.marked_call_laws.proofs.Found.{CoreMethod, slot_there, dispatch_core, choice_core}
 use Rattle.marked_call_laws.proofs.Made.{MadeType, made_type}
 use Rattle.marked_call_laws.proofs.Kept.{home_kept, base_kept}
 use Rattle.marked_call_laws.proofs.Chosen.{choice_alike}
 use Rattle.marked_call_laws.proofs.Implied.{implied_way, put_home, put_interface}
-use Rattle.marked_call_laws.proofs.Owners.{own_slot}
+use Rattle.marked_call_laws.proofs.Owners.{own_slot, untyped_slot}
+use Rattle.marked_call_laws.proofs.Owned.{owner_home}
 use Rattle.marked_call_laws.proofs.Rows.{impl_row, place, names_interface, class_is, place_kept, has_token}
 use Rattle.marked_call_laws.proofs.Lists.{First, any_from, same_listed, in_class_runs, in_interface_runs, in_interface_answer}
 
@@ -282,22 +284,31 @@ module _ (inputs : List AsmRec) (entry : Option RowAt) (roots : List Root) (has 
 
   -- ---- both
 
-  module _ (e owner : TypeExpr) (m : ℕ) (keeps_e : IsTrue (keeps_made k e)) (keeps_m : IsTrue (k.method m)) (called : IsCalledOn recs owner m) where
+  module _ (e owner : TypeExpr) (m : ℕ) (keeps_e : IsTrue (keeps_made k e)) (keeps_m : IsTrue (k.method m)) (owned : IsOwned recs owner m) where
     made : IsCoreType inputs sound e ⊎ MadeType inputs sound has e
     made = made_type inputs sound has e (second_so (shows_expr k e) (makes_expr k e) keeps_e)
 
     kept_e : IsTrue (keeps_expr k e)
     kept_e = first_so (keeps_expr k e) (names_of k e).shown (first_so (shows_expr k e) (makes_expr k e) keeps_e)
 
-    called_slot : (s : RowAt) → slot_numbered recs m ≡ Some s → CalledOn owner s
+    called_by : (at s : RowAt) (o : Option RowAt) → type_of_method recs at ≡ o → home_from methods_in 0 recs m ≡ Some at → slot_of recs at ≡ Some s → in_interface recs s ≡ true → CalledOn owner s
+    called_by at s None of h is interface i =
+        let same = untyped_slot recs at of s is in
+        absurd (true≢false (sym interface ∙ ap (λ (o : Option RowAt). list_any (is_interface_at recs) (listed o)) (ap (type_of_method recs) (sym same) ∙ of)))
+    called_by at s (Some x) of h is interface i =
+        let d = slot_there recs at s is in
+        let e = owner_home inputs sound owner m at x d.0 owned h d.1 of i in
+        let home = homed recs owner i in
+        let one : home.0 ≡ x = (let f = sym home.1 ∙ e in cc) in
+        let same = own_slot recs at x of (ap (is_interface_at recs) (sym one) ∙ home.2) s is in
+        e ∙ sym of ∙ ap (type_of_method recs) same
+
+    called_slot : (s : RowAt) → slot_numbered recs m ≡ Some s → in_interface recs s ≡ true → CalledOn owner s
     called_slot s is interface =
-        let at = then_is (slot_of recs) (home_from methods_in 0 recs m) s is in
-        let home = homed recs owner interface in
-        let same : at.0 ≡ s = own_slot recs at.0 home.0 (sym (called at.0 at.1 interface) ∙ home.1) home.2 s at.2 in
-        called at.0 at.1 interface ∙ ap (type_of_method recs) same
+        let at = then_is (slot_of recs) (home_from methods_in 0 recs m) s is in called_by at.0 s (type_of_method recs at.0) refl at.1 at.2 interface
 
     slot_by : (s f : RowAt) (b : Bool) → in_interface recs s ≡ b → slot_numbered recs m ≡ Some s → (if b then interface_dispatch recs e owner s else class_dispatch recs e s) ≡ Some f → KeepsMethod f
-    slot_by s f true interface is h = interface_by e owner s f kept_e (slot_is m s keeps_m is) interface (called_slot s is) h made
+    slot_by s f true interface is h = interface_by e owner s f kept_e (slot_is m s keeps_m is) interface (called_slot s is interface) h made
     slot_by s f false class is h = class_by e s f (slot_is m s keeps_m is) class h made
 
     pub runs_kept : (f : RowAt) → option_and_then (dispatch_slot recs e owner) (slot_numbered recs m) ≡ Some f → KeepsMethod f
@@ -305,7 +316,7 @@ module _ (inputs : List AsmRec) (entry : Option RowAt) (roots : List Root) (has 
         let s = then_is (dispatch_slot recs e owner) (slot_numbered recs m) f h in slot_by s.0 f (in_interface recs s.0) refl s.1 s.2
 
     pub finds_kept : (s f : RowAt) → slot_numbered recs m ≡ Some s → IsTrue (in_interface recs s) → interface_method recs e owner s ≡ Some f → KeepsMethod f
-    finds_kept s f is interface h = found_by e owner s f kept_e (slot_is m s keeps_m is) interface (called_slot s is) h made
+    finds_kept s f is interface h = found_by e owner s f kept_e (slot_is m s keeps_m is) interface (called_slot s is interface) h made
 
 pub all_run : MarkedRuns
 all_run inputs entry roots has sound few marks keeps rows e owner m made kept_owner kept_m called f h = runs_kept inputs entry roots has sound few marks keeps rows e owner m made kept_m called f h

@@ -1,24 +1,29 @@
 -- From a type of the core library a search finds only what the core library has: its bases are there.
-use Rattle.std.proofs.Common.{◌≡◌, ℕ, suc, ◌-◌, Bool, true, false, List, [], ◌∷◌, ◌++◌, length, Option, Some, None, nat_lt, refl, sym, ap, ◌∙◌, arith}
-use Rattle.std.specs.Prelude.{slice_get, position, ◌==◌, ◌||◌, if◌then◌else◌}
+use Rattle.std.proofs.Common.{◌≡◌, ℕ, zero, suc, ◌+◌, ◌-◌, ◌<◌, Bool, true, false, cond, ◌&&◌, List, [], ◌∷◌, ◌++◌, map, length, Option, Some, None, nat_lt, refl, sym, ap, subst, ◌∙◌, arith}
+use Rattle.std.specs.Prelude.{slice_get, position, not, ◌==◌, ◌||◌, if◌then◌else◌}
+use Rattle.std.specs.List.{list_all, list_any, position_or_len}
 use Rattle.std.specs.Option.{option_map, option_and_then}
-use Rattle.std.proofs.lemmas.Bool.{lt-ltb, eq-eqb}
+use Rattle.std.proofs.lemmas.Bool.{lt-ltb, ltb-true, eq-eqb, and_parts, and_from, or_right}
 use Rattle.std.proofs.lemmas.List.{length-append}
+use Rattle.std.proofs.lemmas.List.Folds.{list_all-append}
+use Rattle.il_base.specs.declared.ids.TypeId.{TypeId}
 use Rattle.world_model.specs.declared.expr.TypeExpr.{TypeExpr}
 use Rattle.world_model.specs.declared.expr.TypeExpr.TheOpen.{TypeExpr-F}
 use Rattle.world_model.specs.declared.expr.TypeExpr.TheVariants as expr
 use Rattle.world_model.specs.declared.types.TypeDefRow.{TypeDefRow}
 use Rattle.world_model.specs.declared.record.AsmRec.{AsmRec}
+use Rattle.world_model.specs.Core.{is_code}
 use Rattle.world_model.specs.Tokens.{index_in}
-use Rattle.world_model.specs.Worlds.{types_in, row_below, type_id, core_types, prim_of, prim_type, is_code_of}
-use Rattle.core_table.specs.Record.{core_record}
+use Rattle.world_model.specs.Worlds.{types_in, row_below, type_id, core_types, prim_of, prims, prim_type, is_code_of}
+use Rattle.core_table.specs.Names.{text_of}
+use Rattle.core_table.specs.Record.{core_record, record_with, type_rows, type_row}
 use Rattle.link_rules.specs.declared.row_at.RowAt.{RowAt}
 use Rattle.link_rules.specs.declared.core_type_name.CoreTypeName.{CoreTypeName}
-use Rattle.link_rules.specs.CoreNames.{missing_names, core_with}
+use Rattle.link_rules.specs.CoreNames.{missing_names, added_row, core_with}
 use Rattle.link_rules.specs.Types.{at_row, ref_definition, definition_at}
 use Rattle.link_rules.specs.Signatures.{prim_at, definition_expr, known_expr, named_type, spec_type_at, token_type}
 use Rattle.link_rules.specs.Members.{type_home, is_named, only_named, good_type, is_interface_row, base_in, base_at, bases_from}
-use Rattle.link_rules.specs.Cycles.{home_of}
+use Rattle.link_rules.specs.Cycles.{listed, home_of, is_interface_at, is_interface}
 use Rattle.link_rules.specs.Linked.{assemblies, link_fault_of}
 use Rattle.type_laws.proofs.Within.{In}
 use Rattle.type_laws.proofs.Upwards.{owner_as}
@@ -139,6 +144,84 @@ module _ (inputs : List AsmRec) (names : List CoreTypeName) where
       let row : x ≡ at_row last x.row = λ i. at_row (sym same i) x.row in
       let there : last ≡ to.asm = base_by x.row e to (ap (base_at recs) (sym row) ∙ at) home in
       omega (arith, long, there)
+
+-- ---- primitives are classes
+
+abbrev is_no_prim : Option ℕ → Bool
+is_no_prim None = true
+is_no_prim (Some n) = false
+
+abbrev is_right : TypeDefRow → Bool
+is_right row = is_no_prim (prim_of row) || not (is_interface_row row)
+
+all_right : list_all is_right core_record.type_def ≡ true
+unfolding core_record record_with type_rows type_row text_of prim_of prims
+all_right = refl
+
+added_right : (names : List CoreTypeName) → list_all is_right (map (added_row core_record) names) ≡ true
+added_right [] = refl
+added_right (x ∷ names) =
+    and_from (is_right (added_row core_record x)) (list_all is_right (map (added_row core_record) names)) (or_right (is_no_prim (prim_of (added_row core_record x))) true refl) (added_right names)
+
+rows_right : (names : List CoreTypeName) → list_all is_right (core_with core_record names).type_def ≡ true
+unfolding core_with
+rows_right names =
+    list_all-append is_right core_record.type_def (map (added_row core_record) names) ∙ (λ i. all_right i && added_right names i)
+
+prefix_by : (p : TypeDefRow → Bool) (x : TypeDefRow) (xs : List TypeDefRow) (b : Bool) → p x ≡ b
+    → (nat_lt (position_or_len p xs) (length xs) ≡ true → (y : TypeDefRow) × (slice_get xs (position_or_len p xs) ≡ Some y) × (p y ≡ true))
+    → nat_lt (cond (not b) (1 + position_or_len p xs) 0) (length (x ∷ xs)) ≡ true → (y : TypeDefRow) × (slice_get (x ∷ xs) (cond (not b) (1 + position_or_len p xs) 0) ≡ Some y) × (p y ≡ true)
+prefix_by p x xs true e more h = (x, refl, e)
+prefix_by p x xs false e more h =
+    let lt : 1 + position_or_len p xs < suc (length xs) = ltb-true (1 + position_or_len p xs) (length (x ∷ xs)) h in
+    let m = more (lt-ltb (position_or_len p xs) (length xs) (omega (arith, lt))) in
+    let n : 1 + position_or_len p xs ≡ suc (position_or_len p xs) = omega arith in
+    (m.0, ap (slice_get (x ∷ xs)) n ∙ m.1, m.2)
+
+first_is : (p : TypeDefRow → Bool) (xs : List TypeDefRow) → nat_lt (position_or_len p xs) (length xs) ≡ true → (y : TypeDefRow) × (slice_get xs (position_or_len p xs) ≡ Some y) × (p y ≡ true)
+first_is p [] h = absurd (cc)
+first_is p (x ∷ xs) h = prefix_by p x xs (p x) refl (first_is p xs) h
+
+position_by : (p : TypeDefRow → Bool) (xs : List TypeDefRow) (k : ℕ) (b : Bool) → nat_lt (position_or_len p xs) (length xs) ≡ b → (if b then Some (position_or_len p xs) else None) ≡ Some k → (y : TypeDefRow) × (slice_get xs k ≡ Some y) × (p y ≡ true)
+position_by p xs k true lt e =
+    let same : position_or_len p xs ≡ k = cc in
+    subst (λ (n : ℕ). (y : TypeDefRow) × (slice_get xs n ≡ Some y) × (p y ≡ true)) same (first_is p xs lt)
+position_by p xs k false lt e = absurd (cc)
+
+position_is : (p : TypeDefRow → Bool) (xs : List TypeDefRow) (k : ℕ) → position p xs ≡ Some k → (y : TypeDefRow) × (slice_get xs k ≡ Some y) × (p y ≡ true)
+position_is p xs k e = position_by p xs k (nat_lt (position_or_len p xs) (length xs)) refl e
+
+all_at : (p : TypeDefRow → Bool) (xs : List TypeDefRow) (k : ℕ) (x : TypeDefRow) → list_all p xs ≡ true → slice_get xs k ≡ Some x → p x ≡ true
+all_at p [] k x h e = cc
+all_at p (y ∷ xs) zero x h e = let same : y ≡ x = cc in ap p (sym same) ∙ (and_parts (p y) (list_all p xs) h).0
+all_at p (y ∷ xs) (suc k) x h e = all_at p xs k x (and_parts (p y) (list_all p xs) h).1 e
+
+class_by : (n : ℕ) (o : Option ℕ) (b : Bool) → is_code n o ≡ true → (is_no_prim o || not b) ≡ true → b ≡ false
+class_by n None b c h = absurd (cc)
+class_by n (Some m) true c h = absurd (cc)
+class_by n (Some m) false c h = refl
+
+module _ (inputs : List AsmRec) (names : List CoreTypeName) where
+  abbrev row_of_prim : ℕ → Option ℕ
+  row_of_prim n = position (is_code_of n) (core_with core_record names).type_def
+
+  prim_class_by : (n : ℕ) (o : Option ℕ) → row_of_prim n ≡ o → is_interface (inputs ++ core_with core_record names ∷ []) (expr.Prim n) ≡ false
+  unfolding is_interface prim_type
+  prim_class_by n None e =
+      ap (λ (o : Option TypeId). list_any (is_interface_at (recs inputs names)) (listed (option_and_then (type_home (recs inputs names)) o)))
+      (owner_as (recs inputs names) [] (TypeExpr-F.Prim n) (expr.Prim n) (expr.rolls-Prim n)
+      ∙ ap (λ (rows : List TypeDefRow). option_map (λ k. type_id (recs inputs names) (length (recs inputs names) - 1) k) (position (is_code_of n) rows)) (core_types_are inputs (core inputs names))
+      ∙ ap (option_map (λ k. type_id (recs inputs names) (length (recs inputs names) - 1) k)) e)
+  prim_class_by n (Some j) e =
+      let r = position_is (is_code_of n) (core inputs names).type_def j e in
+      let class : is_interface_row r.0 ≡ false = class_by n (prim_of r.0) (is_interface_row r.0) r.2 (all_at is_right (core inputs names).type_def j r.0 (rows_right names) r.1) in
+      ap (λ (o : Option RowAt). list_any (is_interface_at (recs inputs names)) (listed o)) (prim_home inputs names n j r.0 r.1 e)
+      ∙ ap (λ (o : Option AsmRec). list_any (λ (rec : AsmRec). list_any is_interface_row (listed (slice_get rec.type_def j))) (listed o) || false) (core_is inputs names)
+      ∙ ap (λ (o : Option TypeDefRow). (list_any is_interface_row (listed o) || false) || false) r.1 ∙ ap (λ (b : Bool). ((b || false) || false) || false) class
+
+pub prim_class : (inputs : List AsmRec) (n : ℕ) → is_interface (assemblies inputs) (expr.Prim n) ≡ false
+unfolding assemblies
+prim_class inputs n = let names : List CoreTypeName = missing_names (inputs ++ core_record ∷ []) in prim_class_by inputs names n (row_of_prim inputs names n) refl
 
 module _ (inputs : List AsmRec) (sound : link_fault_of inputs ≡ None) where
   abbrev all : List AsmRec

@@ -103,7 +103,7 @@ module _ (recs : List AsmRec) where
   row_there above m s None e h = absurd (cc)
   row_there above m s (Some d) e h = (d, e)
 
-  slot_there : (m s : RowAt) → slot_of recs m ≡ Some s → IsMethodThere recs m
+  pub slot_there : (m s : RowAt) → slot_of recs m ≡ Some s → IsMethodThere recs m
   unfolding slot_of slot_within
   slot_there m s h = row_there (slot_within recs (type_count recs)) m s (method_row_at recs m) refl h
 

@@ -8,6 +8,7 @@ pub mod Kept
 pub mod Chosen
 pub mod Implied
 pub mod Owners
+pub mod Owned
 pub mod Rows
 pub mod Lists
 pub mod Calls

@@ -1,5 +1,5 @@
 -- A type of which there can be objects is of an instantiated definition, or of one of the core library.
-use Rattle.std.proofs.Common.{◌≡◌, suc, ◌-◌, ◌<◌, Bool, true, false, List, [], ◌∷◌, ◌++◌, length, map, Option, Some, None, ◌⊎◌, inl, inr, refl, sym, ap, subst, ◌∙◌}
+use Rattle.std.proofs.Common.{◌≡◌, ℕ, suc, ◌-◌, ◌<◌, Bool, true, false, List, [], ◌∷◌, ◌++◌, length, map, Option, Some, None, ◌⊎◌, inl, inr, refl, sym, ap, subst, ◌∙◌}
 use Rattle.std.specs.Prelude.{IsTrue, ◌==◌, ◌||◌}
 use Rattle.std.specs.List.{list_any}
 use Rattle.std.specs.Option.{option_and_then}
@@ -34,14 +34,24 @@ use Rattle.marked_call_laws.proofs.Core.{IsLast, IsCoreType}
 
 -- ---- a type without modifiers
 
-plain_def : (t : TypeId) → plain (expr.Def t) ≡ expr.Def t
+pub plain_def : (t : TypeId) → plain (expr.Def t) ≡ expr.Def t
 unfolding plain
 plain_def t = ap (λ (e : TypeExpr). (fold-TypeExpr (TypeExpr × TypeExpr) plain_layer e).1) (sym (expr.rolls-Def t)) ∙ ap (λ (p : TypeExpr × TypeExpr). p.1) (fold-roll-TypeExpr (TypeExpr × TypeExpr) plain_layer (TypeExpr-F.Def t))
 
-abbrev parts : List TypeExpr → List TypeExpr
+pub plain_prim : (n : ℕ) → plain (expr.Prim n) ≡ expr.Prim n
+unfolding plain
+plain_prim n = ap (λ (e : TypeExpr). (fold-TypeExpr (TypeExpr × TypeExpr) plain_layer e).1) (sym (expr.rolls-Prim n)) ∙ ap (λ (p : TypeExpr × TypeExpr). p.1) (fold-roll-TypeExpr (TypeExpr × TypeExpr) plain_layer (TypeExpr-F.Prim n))
+
+pub plain_array : (x : TypeExpr) → plain (expr.Array x) ≡ expr.Array (fold-TypeExpr (TypeExpr × TypeExpr) plain_layer x).0
+unfolding plain
+plain_array x =
+    ap (λ (e : TypeExpr). (fold-TypeExpr (TypeExpr × TypeExpr) plain_layer e).1) (sym (expr.rolls-Array x))
+    ∙ ap (λ (p : TypeExpr × TypeExpr). p.1) (fold-roll-TypeExpr (TypeExpr × TypeExpr) plain_layer (TypeExpr-F.Array x))
+
+abbrev pub parts : List TypeExpr → List TypeExpr
 parts args = map (λ (p : TypeExpr × TypeExpr). p.0) (map (fold-TypeExpr (TypeExpr × TypeExpr) plain_layer) args)
 
-plain_inst : (t : TypeId) (args : List TypeExpr) → plain (expr.Inst t args) ≡ expr.Inst t (parts args)
+pub plain_inst : (t : TypeId) (args : List TypeExpr) → plain (expr.Inst t args) ≡ expr.Inst t (parts args)
 unfolding plain
 plain_inst t args =
     ap (λ (e : TypeExpr). (fold-TypeExpr (TypeExpr × TypeExpr) plain_layer e).1) (sym (expr.rolls-Inst t args))

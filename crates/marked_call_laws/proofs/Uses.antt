@@ -1,26 +1,27 @@
 -- A use of a method has an owner of the definition that the method is of.
-use Rattle.std.proofs.Common.{◌≡◌, ℕ, zero, suc, ◌+◌, ◌<◌, Bool, true, false, nat_lt, List, [], ◌∷◌, ◌++◌, length, map, Option, Some, None, refl, sym, ap, subst as transport, ◌∙◌, arith}
-use Rattle.std.specs.Prelude.{slice_get, ◌==◌, if◌then◌else◌}
+use Rattle.std.proofs.Common.{◌≡◌, ℕ, zero, suc, ◌+◌, ◌<◌, Bool, true, false, nat_eq, nat_lt, List, [], ◌∷◌, ◌++◌, length, map, Option, Some, None, refl, sym, ap, subst as transport, ◌∙◌, arith}
+use Rattle.std.specs.Prelude.{IsTrue, slice_get, ◌==◌, if◌then◌else◌}
 use Rattle.std.specs.List.{position_from}
 use Rattle.std.specs.Option.{option_map, option_and_then}
-use Rattle.std.proofs.lemmas.Bool.{ltb-true, eqb-true}
+use Rattle.std.proofs.lemmas.Bool.{ltb-true, eqb-true, eq-eqb}
 use Rattle.std.proofs.lemmas.List.{length-append}
 use Rattle.il_base.specs.declared.ids.TypeId.{TypeId}
 use Rattle.il_base.specs.declared.table.TheConstants.{METHOD_DEF, MEMBER_REF}
 use Rattle.world_model.specs.declared.known.Known.{Known}
 use Rattle.world_model.specs.declared.known.Known.TheVariants.{Good, Bad}
-use Rattle.world_model.specs.declared.expr.TypeExpr.{TypeExpr, out-TypeExpr, roll-TypeExpr, roll-out-TypeExpr}
+use Rattle.world_model.specs.declared.expr.TypeExpr.{TypeExpr, fold-TypeExpr, out-TypeExpr, roll-TypeExpr, roll-out-TypeExpr}
 use Rattle.world_model.specs.declared.expr.TypeExpr.TheOpen.{TypeExpr-F}
 use Rattle.world_model.specs.declared.expr.TypeExpr.TheVariants as expr
 use Rattle.world_model.specs.declared.expr.MemberSig.{MemberSig}
 use Rattle.world_model.specs.declared.expr.MemberSig.TheVariants as member
 use Rattle.world_model.specs.declared.expr.MethodUse.{MethodUse}
 use Rattle.world_model.specs.declared.types.TypeDefRow.{TypeDefRow}
+use Rattle.world_model.specs.declared.members.MethodDefRow.{MethodDefRow}
 use Rattle.world_model.specs.declared.members.MemberRefRow.{MemberRefRow}
 use Rattle.world_model.specs.declared.record.AsmRec.{AsmRec}
 use Rattle.world_model.specs.Exprs.{subst, levels}
 use Rattle.world_model.specs.Tokens.{table_of, index_in}
-use Rattle.world_model.specs.Worlds.{rows_before, row_below, type_id, known_then, prim_of, core_types}
+use Rattle.world_model.specs.Worlds.{rows_before, row_below, types_in, type_id, known_then, prim_of, core_types}
 use Rattle.world_model.proofs.ExprLayers.{subst_prim, subst_def, subst_inst, subst_array}
 use Rattle.core_table.specs.Record.{core_record}
 use Rattle.link_rules.specs.declared.row_at.RowAt.{RowAt}
@@ -34,13 +35,19 @@ use Rattle.link_rules.specs.Linked.{assemblies}
 use Rattle.type_rules.specs.Slots.{type_of_method}
 use Rattle.type_laws.proofs.CoreRows.{place_front}
 use Rattle.type_laws.proofs.Places.{home_at, place_within}
-use Rattle.type_laws.proofs.Upwards.{owner_as}
+use Rattle.type_laws.proofs.Upwards.{out_is, owner_as}
+use Rattle.cil_values.specs.declared.definition.Method.{Method}
+use Rattle.step_rules.specs.Closing.{plain_layer, plain}
+use Rattle.view_rules.specs.Methods.{method_by, method_at, method_query}
+use Rattle.change_rules.specs.Keeps.{definition_passes}
+use Rattle.query_laws.proofs.Ids.{has_number}
 use Rattle.walk_laws.specs.Walks.{AreMethodRuns}
 use Rattle.walk_laws.proofs.Finds.{found, in_run, defined}
 use Rattle.walk_laws.proofs.MethodRuns.{AreApart, all_apart}
 use Rattle.walk_laws.proofs.Overrides.{owner_by}
 use Rattle.marked_laws.proofs.Places.{number_home}
-use Rattle.marked_call_laws.specs.Laws.{UsesOwned}
+use Rattle.marked_call_laws.specs.Laws.{is_of, IsOwned, UsesOwned}
+use Rattle.marked_call_laws.proofs.Made.{parts, plain_prim, plain_def, plain_inst, plain_array}
 
 -- ---- arguments put in leave the definition
 
@@ -74,6 +81,68 @@ module _ (recs : List AsmRec) (targs margs : List TypeExpr) where
   -- a type with a definition keeps it, whatever is put in
   pub put_home : (e : TypeExpr) (x : RowAt) → home_of recs e ≡ Some x → home_of recs (subst targs margs e) ≡ Some x
   put_home e x h = home_by e x (owner_of recs e) refl h
+
+module _ (recs : List AsmRec) where
+  -- ---- what the query says of a method
+
+  record Query (m : ℕ) (f : Method) : Type 0 where
+    at : RowAt
+    home : home_from methods_in 0 recs m ≡ Some at
+    owner : RowAt
+    of : type_of_method recs at ≡ Some owner
+    is : f.owner ≡ (type_id recs owner.asm owner.row).0
+
+  owner_of_query : (m : ℕ) (f : Method) (at : RowAt) (rec : AsmRec) (d : MethodDefRow) (o : Option RowAt) → home_from methods_in 0 recs m ≡ Some at → type_of_method recs at ≡ o
+      → option_map (method_by recs at rec d) o ≡ Some f → Query m f
+  owner_of_query m f at rec d None h of e = absurd (cc)
+  owner_of_query m f at rec d (Some x) h of e =
+      let same : method_by recs at rec d x ≡ f = cc in record { at = at; home = h; owner = x; of = of; is = ap (λ (g : Method). g.owner) (sym same) }
+
+  row_of_query : (m : ℕ) (f : Method) (at : RowAt) (rec : AsmRec) (o : Option MethodDefRow) → home_from methods_in 0 recs m ≡ Some at
+      → option_and_then (λ (d : MethodDefRow). option_map (method_by recs at rec d) (type_of_method recs at)) o ≡ Some f → Query m f
+  row_of_query m f at rec None h e = absurd (cc)
+  row_of_query m f at rec (Some d) h e = owner_of_query m f at rec d (type_of_method recs at) h refl e
+
+  rec_of_query : (m : ℕ) (f : Method) (at : RowAt) (o : Option AsmRec) → home_from methods_in 0 recs m ≡ Some at
+      → option_and_then (λ (rec : AsmRec). option_and_then (λ (d : MethodDefRow). option_map (method_by recs at rec d) (type_of_method recs at)) (slice_get rec.method_def at.row)) o ≡ Some f → Query m f
+  rec_of_query m f at None h e = absurd (cc)
+  rec_of_query m f at (Some rec) h e = row_of_query m f at rec (slice_get rec.method_def at.row) h e
+
+  home_of_query : (m : ℕ) (f : Method) (o : Option RowAt) → home_from methods_in 0 recs m ≡ o → option_and_then (method_at recs) o ≡ Some f → Query m f
+  home_of_query m f None h e = absurd (cc)
+  home_of_query m f (Some at) h e = rec_of_query m f at (slice_get recs at.asm) h e
+
+  query_is : (m : ℕ) (f : Method) → method_query recs m ≡ Some f → Query m f
+  unfolding method_query
+  query_is m f e = home_of_query m f (home_from methods_in 0 recs m) refl e
+
+  -- ---- a type with a definition is of it
+
+  number_is : (t : TypeId) (x : RowAt) → type_home recs t ≡ Some x → nat_eq (type_id recs x.asm x.row).0 t.0 ≡ true
+  number_is t x h = eq-eqb (type_id recs x.asm x.row).0 t.0 (has_number types_in recs t.0 x h)
+
+  out_of : (e : TypeExpr) (y : TypeExpr-F TypeExpr) (p : TypeExpr) → plain e ≡ p → roll-TypeExpr y ≡ p → out-TypeExpr (plain e) ≡ y
+  out_of e y p same is = ap out-TypeExpr same ∙ out_is y p is
+
+  passes_by : (x : RowAt) (e : TypeExpr) (y : TypeExpr-F TypeExpr) → roll-TypeExpr y ≡ e → option_and_then (type_home recs) (owner_in recs y) ≡ Some x → IsTrue (is_of (type_id recs x.asm x.row).0 e)
+  passes_by x e (TypeExpr-F.Prim n) is h =
+      ap (definition_passes (nat_eq (type_id recs x.asm x.row).0)) (out_of e (TypeExpr-F.Prim n) (expr.Prim n) (ap plain (sym is ∙ expr.rolls-Prim n) ∙ plain_prim n) (expr.rolls-Prim n))
+  passes_by x e (TypeExpr-F.Def t) is h =
+      ap (definition_passes (nat_eq (type_id recs x.asm x.row).0)) (out_of e (TypeExpr-F.Def t) (expr.Def t) (ap plain (sym is ∙ expr.rolls-Def t) ∙ plain_def t) (expr.rolls-Def t)) ∙ number_is t x h
+  passes_by x e (TypeExpr-F.Inst t args) is h =
+      ap (definition_passes (nat_eq (type_id recs x.asm x.row).0))
+      (out_of e (TypeExpr-F.Inst t (parts args)) (expr.Inst t (parts args)) (ap plain (sym is ∙ expr.rolls-Inst t args) ∙ plain_inst t args) (expr.rolls-Inst t (parts args))) ∙ number_is t x h
+  passes_by x e (TypeExpr-F.Array y) is h =
+      let whole : TypeExpr = (fold-TypeExpr (TypeExpr × TypeExpr) plain_layer y).0 in
+      ap (definition_passes (nat_eq (type_id recs x.asm x.row).0)) (out_of e (TypeExpr-F.Array whole) (expr.Array whole) (ap plain (sym is ∙ expr.rolls-Array y) ∙ plain_array y) (expr.rolls-Array whole))
+  passes_by x e (TypeExpr-F.ByRef y) is h = absurd (cc)
+  passes_by x e (TypeExpr-F.Var n) is h = absurd (cc)
+  passes_by x e (TypeExpr-F.MVar n) is h = absurd (cc)
+  passes_by x e (TypeExpr-F.Mod required by y) is h = absurd (cc)
+
+  home_of_is : (e : TypeExpr) (x : RowAt) → home_of recs e ≡ Some x → IsTrue (is_of (type_id recs x.asm x.row).0 e)
+  unfolding owner_of
+  home_of_is e x h = passes_by x e (out-TypeExpr e) (roll-out-TypeExpr e) h
 
 module _ (inputs : List AsmRec) (runs : (a : ℕ) (rec : AsmRec) → slice_get inputs a ≡ Some rec → AreMethodRuns rec) where
   abbrev recs : List AsmRec
@@ -273,9 +342,15 @@ module _ (inputs : List AsmRec) (runs : (a : ℕ) (rec : AsmRec) → slice_get i
     unfolding generic_method
     token_owned token v h = token_by token v (table_of token == METHOD_DEF) h
 
-    pub put_owned : (token : ℕ) (v : MethodUse) (targs margs : List TypeExpr) → generic_method recs a rec token ≡ Good v → (at : RowAt) → home_from methods_in 0 recs v.method.0 ≡ Some at
-        → home_of recs (subst targs margs v.owner) ≡ type_of_method recs at
-    put_owned token v targs margs h at is = let o = token_owned token v h at is in put_home recs targs margs v.owner o.0 o.1 ∙ sym o.2
+    pub use_is : (token : ℕ) (v : MethodUse) → generic_method recs a rec token ≡ Good v → IsOwned recs v.owner v.method.0
+    use_is token v h f is =
+        let q = query_is recs v.method.0 f is in
+        let o = token_owned token v h q.at q.home in
+        let same : o.0 ≡ q.owner = some_row o.0 q.owner (sym o.2 ∙ q.of) in
+        subst_is f v.owner q.owner q.is (o.1 ∙ ap Some same)
+      where
+        subst_is : (f : Method) (e : TypeExpr) (x : RowAt) → f.owner ≡ (type_id recs x.asm x.row).0 → home_of recs e ≡ Some x → IsTrue (is_of f.owner e)
+        subst_is f e x is home = ap (λ (n : ℕ). is_of n e) is ∙ home_of_is recs e x home
 
 pub all_owned : UsesOwned
-all_owned inputs runs a rec token v targs margs input h at is = put_owned inputs runs a rec input token v targs margs h at is
+all_owned inputs runs a rec token v input h f is = use_is inputs runs a rec input token v h f is
