@@ -12,4 +12,3 @@ pub mod Owned
 pub mod Rows
 pub mod Lists
 pub mod Calls
-pub mod Uses

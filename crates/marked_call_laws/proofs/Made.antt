@@ -1,8 +1,8 @@
 -- A type of which there can be objects is of an instantiated definition, or of one of the core library.
 use Rattle.std.proofs.Common.{◌≡◌, ℕ, suc, ◌-◌, ◌<◌, Bool, true, false, List, [], ◌∷◌, ◌++◌, length, map, Option, Some, None, ◌⊎◌, inl, inr, refl, sym, ap, subst, ◌∙◌}
-use Rattle.std.specs.Prelude.{IsTrue, ◌==◌, ◌||◌}
+use Rattle.std.specs.Prelude.{IsTrue, not, ◌==◌, ◌||◌}
 use Rattle.std.specs.List.{list_any}
-use Rattle.std.specs.Option.{option_and_then}
+use Rattle.std.specs.Option.{is_some, option_and_then}
 use Rattle.std.proofs.lemmas.Bool.{eqb-true}
 use Rattle.il_base.specs.declared.ids.TypeId.{TypeId}
 use Rattle.il_base.specs.declared.ids.Item.TheVariants as item
@@ -28,7 +28,7 @@ use Rattle.mark_rules.specs.Facts.Fact.{instantiated}
 use Rattle.mark_rules.specs.Places.{row_of, is_core}
 use Rattle.change_rules.specs.Change.{Keep}
 use Rattle.change_rules.specs.Keeps.{parameter_passes, makes_expr}
-use Rattle.marked_laws.specs.Flags.{is_core_type, keep_of}
+use Rattle.marked_laws.specs.Flags.{is_core_type, is_absent, keep_of}
 use Rattle.marked_laws.proofs.Places.{prim_is_core, last_type}
 use Rattle.marked_call_laws.proofs.Core.{IsLast, IsCoreType}
 
@@ -104,21 +104,25 @@ module _ (inputs : List AsmRec) (sound : link_fault_of inputs ≡ None) (has : F
   -- ---- the flag
 
   abbrev Flag : TypeId → Type 0
-  Flag t = (is_core recs (item.Typ t) ≡ true) ⊎ IsTrue (has (instantiated t))
+  Flag t = ((is_core recs (item.Typ t) ≡ true) ⊎ (is_absent recs t.0 ≡ true)) ⊎ IsTrue (has (instantiated t))
 
   or_by : (a b : Bool) → IsTrue (a || b) → (a ≡ true) ⊎ IsTrue b
   or_by true b h = inl refl
   or_by false b h = inr h
 
+  either_by : (a b c : Bool) → ((a || b) ≡ true) ⊎ IsTrue c → ((a ≡ true) ⊎ (b ≡ true)) ⊎ IsTrue c
+  either_by a b c (inl h) = inl (or_by a b h)
+  either_by a b c (inr h) = inr h
+
   flagged : (t : TypeId) → IsTrue (k.made t.0) → Flag t
   unfolding keep_of
-  flagged t h = or_by (is_core_type recs t.0) (has (instantiated t)) h
+  flagged t h = either_by (is_core_type recs t.0) (is_absent recs t.0) (has (instantiated t)) (or_by (is_core_type recs t.0 || is_absent recs t.0) (has (instantiated t)) h)
 
   some_is : (x y : TypeId) → Some x ≡ Some y → x ≡ y
   some_is x y h = cc
 
   made_in : (e : TypeExpr) (x : TypeExpr-F TypeExpr) → roll-TypeExpr x ≡ e → IsTrue (parameter_passes k.made (out-TypeExpr (plain e))) → (t : TypeId) → owner_in recs x ≡ Some t → Flag t
-  made_in e (TypeExpr-F.Prim n) is h t o = inl (prim_is_core recs n t o)
+  made_in e (TypeExpr-F.Prim n) is h t o = inl (inl (prim_is_core recs n t o))
   made_in e (TypeExpr-F.Def d) is h t o =
       let f : out-TypeExpr (plain e) ≡ TypeExpr-F.Def d =
       ap (λ (z : TypeExpr). out-TypeExpr (plain z)) (sym is ∙ expr.rolls-Def d) ∙ ap out-TypeExpr (plain_def d) ∙ out_is (TypeExpr-F.Def d) (expr.Def d) (expr.rolls-Def d) in
@@ -128,7 +132,7 @@ module _ (inputs : List AsmRec) (sound : link_fault_of inputs ≡ None) (has : F
       ap (λ (z : TypeExpr). out-TypeExpr (plain z)) (sym is ∙ expr.rolls-Inst d args) ∙ ap out-TypeExpr (plain_inst d args)
       ∙ out_is (TypeExpr-F.Inst d (parts args)) (expr.Inst d (parts args)) (expr.rolls-Inst d (parts args)) in
       subst Flag (some_is d t o) (flagged d (subst (λ (z : TypeExpr-F TypeExpr). IsTrue (parameter_passes k.made z)) f h))
-  made_in e (TypeExpr-F.Array x) is h t o = inl (array_core inputs t o)
+  made_in e (TypeExpr-F.Array x) is h t o = inl (inl (array_core inputs t o))
   made_in e (TypeExpr-F.ByRef x) is h t o = absurd (cc)
   made_in e (TypeExpr-F.Var n) is h t o = absurd (cc)
   made_in e (TypeExpr-F.MVar n) is h t o = absurd (cc)
@@ -145,7 +149,8 @@ module _ (inputs : List AsmRec) (sound : link_fault_of inputs ≡ None) (has : F
     pub is : IsTrue (has (instantiated id))
 
   flag_home : (t : TypeId) (x : RowAt) → type_home recs t ≡ Some x → Flag t → IsLast inputs sound x ⊎ Made x
-  flag_home t x e (inl h) = inl (core_last t x h e)
+  flag_home t x e (inl (inl h)) = inl (core_last t x h e)
+  flag_home t x e (inl (inr h)) = absurd (let f : false ≡ true = sym (ap (λ (o : Option RowAt). not (is_some o)) e) ∙ h in cc)
   flag_home t x e (inr h) = inr (record { id = t; home = e; is = h })
 
   pub record MadeType (e : TypeExpr) : Type 0 where

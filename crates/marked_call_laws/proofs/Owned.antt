@@ -25,7 +25,8 @@ use Rattle.view_rules.specs.Methods.{method_by, method_at, method_query}
 use Rattle.change_rules.specs.Keeps.{definition_passes}
 use Rattle.dispatch_laws.proofs.There.{IsTypeThere, owner_there}
 use Rattle.marked_laws.proofs.Places.{type_home_of}
-use Rattle.marked_call_laws.specs.Laws.{is_of, IsOwned}
+use Rattle.change_rules.specs.Keeps.{is_of}
+use Rattle.marked_call_laws.specs.Laws.{IsOwned}
 use Rattle.marked_call_laws.proofs.Core.{prim_class}
 use Rattle.marked_call_laws.proofs.Made.{parts, plain_def, plain_inst}
 

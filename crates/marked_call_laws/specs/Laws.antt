@@ -1,22 +1,17 @@
 -- What virtual calls run is marked, in a world of files that link (II.10.3, II.12.2).
-use Rattle.std.specs.Prelude.{◌≡◌, ◌<◌, ℕ, List, length, Option, Some, None, Bool, nat_eq, slice_get, IsTrue}
+use Rattle.std.specs.Prelude.{◌≡◌, ◌<◌, ℕ, List, length, Option, Some, None, Bool, slice_get, IsTrue}
 use Rattle.std.specs.Option.{option_and_then}
-use Rattle.world_model.specs.declared.known.Known.TheVariants.{Good}
-use Rattle.world_model.specs.declared.expr.TypeExpr.{TypeExpr, out-TypeExpr}
-use Rattle.world_model.specs.declared.expr.MethodUse.{MethodUse}
+use Rattle.world_model.specs.declared.expr.TypeExpr.{TypeExpr}
 use Rattle.world_model.specs.declared.record.AsmRec.{AsmRec}
 use Rattle.link_rules.specs.declared.row_at.RowAt.{RowAt}
 use Rattle.link_rules.specs.Linked.{assemblies, link_fault_of}
-use Rattle.link_rules.specs.Members.{generic_method}
 use Rattle.type_rules.specs.Dispatch.{in_interface, interface_method, dispatch_slot}
 use Rattle.cil_values.specs.declared.definition.Method.{Method}
-use Rattle.step_rules.specs.Closing.{plain}
 use Rattle.view_rules.specs.Methods.{method_query}
-use Rattle.walk_laws.specs.Walks.{AreMethodRuns}
 use Rattle.descriptor_file.specs.declared.root.Root.{Root}
 use Rattle.mark_rules.specs.Facts.{Fact}
 use Rattle.change_rules.specs.Change.{Keep}
-use Rattle.change_rules.specs.Keeps.{definition_passes, keeps_expr, keeps_made}
+use Rattle.change_rules.specs.Keeps.{keeps_expr, keeps_made, is_of}
 use Rattle.world_change_rules.specs.Places.{keeps_method_row}
 use Rattle.world_change_rules.specs.Kept.{KeepsRows}
 use Rattle.dispatch_laws.specs.Kept.{slot_numbered}
@@ -26,10 +21,6 @@ use Rattle.marked_laws.specs.Flags.{HasMarks, keep_of, kept_of}
 -- A token has three bytes for its row (II.22), so a file has fewer types.
 abbrev pub HasFewTypes : List AsmRec → Type 0
 HasFewTypes recs = (a : ℕ) (rec : AsmRec) → slice_get recs a ≡ Some rec → length rec.type_def < 16777216
-
--- whether a type, without the modifiers around it, is of a definition, where it is of one; a parameter isn't
-abbrev pub is_of : ℕ → TypeExpr → Bool
-is_of n e = definition_passes (nat_eq n) (out-TypeExpr (plain e))
 
 -- a method is called on a type of the definition that it is of
 abbrev pub IsOwned : List AsmRec → TypeExpr → ℕ → Type 0
@@ -49,9 +40,3 @@ MarkedRuns = ForCalls (λ k recs e owner m. (f : RowAt) → option_and_then (dis
 abbrev pub MarkedFinds : Type 0
 MarkedFinds = ForCalls (λ k recs e owner m. (s f : RowAt) → slot_numbered recs m ≡ Some s → IsTrue (in_interface recs s) → interface_method recs e owner s ≡ Some f
     → IsTrue (keeps_method_row k recs f))
-
--- A use of a method that an input's token names has an owner of the definition that the method is of.
-abbrev pub UsesOwned : Type 0
-UsesOwned =
-    (inputs : List AsmRec) → ((a : ℕ) (rec : AsmRec) → slice_get inputs a ≡ Some rec → AreMethodRuns rec)
-    → (a : ℕ) (rec : AsmRec) (token : ℕ) (u : MethodUse) → slice_get inputs a ≡ Some rec → generic_method (assemblies inputs) a rec token ≡ Good u → IsOwned (assemblies inputs) u.owner u.method.0

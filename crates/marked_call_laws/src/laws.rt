@@ -1,4 +1,4 @@
-ghost use Rattle.marked_call_laws.specs.Laws.{MarkedRuns, MarkedFinds, UsesOwned};
+ghost use Rattle.marked_call_laws.specs.Laws.{MarkedRuns, MarkedFinds};
 
 /// A law: the method that a virtual call of a marked method runs is marked. It does nothing.
 pub fn marked_runs()
@@ -8,9 +8,4 @@ pub fn marked_runs()
 /// A law: what the search for a marked slot of an interface finds first is marked. It does nothing.
 pub fn marked_finds()
     ensures { MarkedFinds }
-{}
-
-/// A law: a method that a token names is used with an owner of the definition that it is of. It does nothing.
-pub fn uses_owned()
-    ensures { UsesOwned }
 {}

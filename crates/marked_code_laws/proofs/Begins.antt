@@ -1,6 +1,6 @@
 -- The initializer of a type can begin where a marked method or a marked static field is in its run.
 use Rattle.std.proofs.Common.{◌≡◌, ℕ, zero, suc, ◌+◌, ◌<◌, ◌≤◌, Bool, true, false, min, List, [], length, Option, Some, None, ◌⊎◌, inl, inr, refl, sym, ap, subst, ◌∙◌, arith}
-use Rattle.std.specs.Prelude.{IsTrue, slice_get, bit_and, ◌&&◌}
+use Rattle.std.specs.Prelude.{IsTrue, nat_eq, slice_get, bit_and, ◌&&◌}
 use Rattle.std.specs.Int.{bit_at}
 use Rattle.std.specs.List.{list_any, position_from, range_with_len}
 use Rattle.std.specs.Option.{option_map, option_and_then}
@@ -16,25 +16,27 @@ use Rattle.world_model.specs.declared.types.TypeDefRow.{TypeDefRow}
 use Rattle.world_model.specs.declared.members.MethodDefRow.{MethodDefRow}
 use Rattle.world_model.specs.declared.members.FieldRow.{FieldRow}
 use Rattle.world_model.specs.declared.record.AsmRec.{AsmRec}
-use Rattle.world_model.specs.Worlds.{rows_before}
+use Rattle.world_model.specs.Worlds.{rows_before, types_in as types_of, type_id}
 use Rattle.link_rules.specs.declared.row_at.RowAt.{RowAt}
 use Rattle.link_rules.specs.Types.{at_row}
-use Rattle.link_rules.specs.Members.{home_from, type_home, owner_of, fields_in, owns_method, owns_field}
+use Rattle.link_rules.specs.Members.{home_from, type_home, owner_of, methods_in, fields_in, owns_method, owns_field}
 use Rattle.link_rules.specs.Cycles.{listed, same_row, is_static_field}
 use Rattle.type_rules.specs.Slots.{type_of_method}
 use Rattle.type_rules.specs.Rows.{rec_at, field_row_at, owner_of_field}
 use Rattle.type_laws.proofs.Within.{In}
 use Rattle.type_laws.proofs.Places.{rows_decide, place_has}
 use Rattle.type_laws.proofs.Upwards.{owner_as}
+use Rattle.query_laws.proofs.Ids.{has_number}
 use Rattle.mark_rules.specs.Facts.{Fact}
 use Rattle.mark_rules.specs.Facts.Fact.{marked}
 use Rattle.mark_rules.specs.Places.{marks_method, marks_field}
 use Rattle.mark_rules.specs.Naming.{types_in}
+use Rattle.cil_values.specs.declared.definition.Method.{Method}
 use Rattle.step_rules.specs.Closing.{plain}
 use Rattle.view_rules.specs.declared.seen_flags.TheConstants as seen
-use Rattle.view_rules.specs.Methods.{field_by, field_at, field_query}
+use Rattle.view_rules.specs.Methods.{method_by, method_at, method_query, field_by, field_at, field_query}
 use Rattle.change_rules.specs.Change.{Keep}
-use Rattle.change_rules.specs.Keeps.{definition_passes, begins_expr, is_static}
+use Rattle.change_rules.specs.Keeps.{definition_passes, begins_expr, is_of_owner, is_static}
 use Rattle.lock_words.proofs.Types.{plain_in, plain_rolled}
 use Rattle.marked_laws.specs.Flags.{keep_of, type_numbered, is_of_type, begun_by_method, begun_by_field, begun_in, begun_at, begins}
 use Rattle.marked_laws.proofs.Flags.{begun_is}
@@ -183,3 +185,27 @@ module _ (recs : List AsmRec) (owner at : RowAt) (r : InOwner recs owns_field (�
 
   pub static_row : is_static (field_query recs (rows_before fields_in recs at.asm + at.row)) ≡ true → list_any is_static_field (listed (field_row_at recs at)) ≡ true
   static_row h = let f = place_has r.rec.field at.row r.below in static_by f.0 f.1 (sym (ap is_static queried) ∙ h)
+
+-- ---- a method is called on a type of the definition that has it
+
+module _ (recs : List AsmRec) (owner at : RowAt) (r : InOwner recs owns_method (λ (rec : AsmRec). rec.method_def) owner at) where
+  abbrev number : ℕ
+  number = rows_before methods_in recs at.asm + at.row
+
+  method_home_is : home_from methods_in 0 recs number ≡ Some at
+  method_home_is = let z : 0 + at.asm ≡ at.asm = omega arith in number_home methods_in recs 0 at.asm at.row r.rec r.there r.below ∙ ap (λ (a : ℕ). Some (at_row a at.row)) z
+
+  method_there : (d : MethodDefRow) → slice_get r.rec.method_def at.row ≡ Some d → method_query recs number ≡ Some (method_by recs at r.rec d owner)
+  unfolding method_query
+  method_there d e =
+      ap (option_and_then (method_at recs)) method_home_is
+      ∙ ap (option_and_then (λ (rec : AsmRec). option_and_then (λ (m : MethodDefRow). option_map (method_by recs at rec m) (type_of_method recs at)) (slice_get rec.method_def at.row))) r.there
+      ∙ ap (option_and_then (λ (m : MethodDefRow). option_map (method_by recs at r.rec m) (type_of_method recs at))) e ∙ ap (option_map (method_by recs at r.rec d)) r.owned
+
+  own_number : (t : TypeId) → type_home recs t ≡ Some owner → nat_eq (type_id recs owner.asm owner.row).0 t.0 ≡ true
+  own_number t home = eq-eqb (type_id recs owner.asm owner.row).0 t.0 (has_number types_of recs t.0 owner home)
+
+  pub called_owned : (e : TypeExpr) → OwnedBy recs owner e → IsTrue (is_of_owner (method_query recs number) e)
+  called_owned e o =
+      let d = place_has r.rec.method_def at.row r.below in
+      ap (λ (f : Option Method). is_of_owner f e) (method_there d.0 d.1) ∙ owner_passes recs (nat_eq (type_id recs owner.asm owner.row).0) owner e o (λ t home of i. own_number t home)

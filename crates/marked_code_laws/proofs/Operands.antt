@@ -35,11 +35,11 @@ use Rattle.mark_rules.specs.Shown.{arguments_in, definitions_in, arguments_of_pa
 use Rattle.mark_rules.specs.Calls.{makes_type, makes_by}
 use Rattle.cil_values.specs.declared.resolved.Use.{Use}
 use Rattle.cil_values.specs.declared.resolved.Use.TheVariants as use_of
-use Rattle.view_rules.specs.Methods.{field_query}
+use Rattle.view_rules.specs.Methods.{method_query, field_query}
 use Rattle.view_rules.specs.Answers.{queries_of}
 use Rattle.view_rules.specs.Code.{use_by}
 use Rattle.change_rules.specs.Change.{Keep}
-use Rattle.change_rules.specs.Keeps.{keeps_expr, shows_expr, news_expr, begins_expr, keeps_use, if_good, keeps_called, is_static, keeps_accessed, keeps_operand, keeps_of_form}
+use Rattle.change_rules.specs.Keeps.{keeps_expr, shows_expr, news_expr, begins_expr, keeps_use, is_of_owner, if_good, keeps_called, is_static, keeps_accessed, keeps_operand, keeps_of_form}
 use Rattle.marked_laws.specs.Flags.{HasMarks, keep_of}
 use Rattle.marked_laws.proofs.Closing.{mapped_in, in_arguments_of, item_gives_shown}
 use Rattle.marked_laws.proofs.Named.{kept_by_parts, arguments_are_types, shown_by_parts, all_are_types}
@@ -47,7 +47,7 @@ use Rattle.marked_laws.proofs.Flags.{typ_is, shown_is, method_is, field_is, made
 use Rattle.marked_laws.proofs.Parts.{HasParts, part_marks, part_kept}
 use Rattle.marked_code_laws.specs.Laws.{MethodsApart, FieldsApart}
 use Rattle.marked_code_laws.proofs.Uses.{MethodIn, method_in_owner, FieldIn, field_in_owner}
-use Rattle.marked_code_laws.proofs.Begins.{owner_passes, method_begins_type, field_begins_type, static_row}
+use Rattle.marked_code_laws.proofs.Begins.{owner_passes, method_begins_type, field_begins_type, static_row, called_owned}
 use Rattle.marked_code_laws.proofs.Shown.{shows_by}
 
 pub all_of : {A : Type 0} (p : A → Bool) (xs : List A) → ((x : A) → In x xs → IsTrue (p x)) → IsTrue (list_all p xs)
@@ -118,10 +118,13 @@ module _ (recs : List AsmRec) (entry : Option RowAt) (roots : List Root) (has : 
           and_from (k.method u.method.0 && keeps_expr k u.owner) (list_all (shows_expr k) u.args)
           (and_from (k.method u.method.0) (keeps_expr k u.owner) (method_is recs has u.method method_marked) owner_kept) (all_of (shows_expr k) u.args arg_shown)
 
-      called : MethodIn recs methods u → IsTrue (keeps_called k u)
+      called : MethodIn recs methods u → IsTrue (keeps_called k (queries_of recs) u)
+      unfolding queries_of
       called o =
-          and_from (keeps_use k u) (begins_expr k u.owner) use_kept
-          (method_begins_type recs has o.owner o.at u.owner o.row o.owned owner_marked (subst (λ (n : MethodId). IsTrue (has (marked (item.Method n)))) o.method method_marked))
+          and_from (keeps_use k u && begins_expr k u.owner) (is_of_owner (method_query recs u.method.0) u.owner)
+          (and_from (keeps_use k u) (begins_expr k u.owner) use_kept
+          (method_begins_type recs has o.owner o.at u.owner o.row o.owned owner_marked (subst (λ (n : MethodId). IsTrue (has (marked (item.Method n)))) o.method method_marked)))
+          (ap (λ (n : MethodId). is_of_owner (method_query recs n.0) u.owner) o.method ∙ called_owned recs o.owner o.at o.row u.owner o.owned)
 
       -- what `newobj` makes
       made_owner : MethodIn recs methods u → ((t : TypeId) → In t (definitions_in u.owner) → IsTrue (has (shown t))) → ((x : Fact) → In x (makes_type recs u) → IsTrue (has x)) → IsTrue (shows_expr k u.owner && news_expr k u.owner)
@@ -181,7 +184,7 @@ module _ (recs : List AsmRec) (entry : Option RowAt) (roots : List Root) (has : 
     typ_shown token (Bad why) e q d = refl
     typ_shown token (Good x) e q d = type_shown i at whole (type_token_part recs a rec place offset token) q.0 q.1 x (ap (known_map type) e) d
 
-    method_kept : (token : ℕ) (t : Known MethodUse) → method_named recs a rec token ≡ t → InParts (method_token_part recs a rec place offset token) → IsTrue (if_good (keeps_called k) t)
+    method_kept : (token : ℕ) (t : Known MethodUse) → method_named recs a rec token ≡ t → InParts (method_token_part recs a rec place offset token) → IsTrue (if_good (keeps_called k (queries_of recs)) t)
     method_kept token (Bad why) e q = refl
     method_kept token (Good u) e q = called i at whole (method_token_part recs a rec place offset token) q.0 q.1 u (ap (known_map method) e) (method_in_owner recs methods a rec token u there e)
 
