@@ -11,7 +11,8 @@ use Rattle.walk_laws.specs.Walks.{BasesWhole}
 use Rattle.walk_laws.proofs.Bases.{all_whole}
 use Rattle.view_rules.specs.Answers.{core_type_id, queries_of}
 use Rattle.change_rules.specs.Change.{Change}
-use Rattle.change_rules.specs.Keeps.{names_of, keeps_expr, shows_expr, makes_expr, keeps_made}
+use Rattle.view_rules.specs.Methods.{method_query}
+use Rattle.change_rules.specs.Keeps.{names_of, keeps_expr, shows_expr, makes_expr, keeps_made, is_of_owner}
 use Rattle.change_rules.specs.Agree.{is_asked, Agree}
 use Rattle.world_change_rules.specs.Places.{Places}
 use Rattle.dispatch_laws.specs.Kept.{KeepsRuns}
@@ -47,10 +48,10 @@ module _ (k : Change) (kept : RowAt → Bool) (p : Places) (outputs inputs : Lis
   made_kept : (e : TypeExpr) → IsTrue (keeps_made k.keep e) → IsTrue (keeps_expr k.keep e)
   made_kept e h = shown_kept e (first_so (shows_expr k.keep e) (makes_expr k.keep e) h)
 
-  runs : (e owner : TypeExpr) (m : ℕ) → IsTrue (keeps_made k.keep e) → IsTrue (keeps_expr k.keep owner) → IsTrue (k.keep.method m) → KeepsRuns k after before e owner m
-  runs e owner m h g u = record {
-    runs = λ f is. t.closed.runs e owner m f h g u is;
-    finds = λ s f is face found. t.closed.finds e owner m s f h g u is face found;
+  runs : (e owner : TypeExpr) (m : ℕ) → IsTrue (keeps_made k.keep e) → IsTrue (keeps_expr k.keep owner) → IsTrue (k.keep.method m) → IsTrue (is_of_owner (method_query before m) owner) → KeepsRuns k after before e owner m
+  runs e owner m h g u o = record {
+    runs = λ f is. t.closed.runs e owner m f h g u o is;
+    finds = λ s f is face found. t.closed.finds e owner m s f h g u o is face found;
     chooses = λ s is face. choices_moved k kept p outputs inputs t.linked t.sound t.moves t.closed.rows t.closed.implied e owner (made_kept e h) g;
   }
 
@@ -75,8 +76,8 @@ module _ (k : Change) (kept : RowAt → Bool) (p : Places) (outputs inputs : Lis
     cells = λ e h. cells_moved k kept p after before t.moves t.closed.rows later earlier e h;
     starts = λ i h. starts_moved k kept p after before t.moves t.closed.rows i h;
     below = λ a b h g. below_moved k kept p outputs inputs t.linked t.sound t.moves t.closed.rows t.closed.implied a b h g;
-    answers = λ e owner m h g u.
-        answers_moved k kept p after before t.moves t.closed.rows t.apart t.closed.impls later earlier t.slots_after t.slots_before e (made_kept e h) owner m u (runs e owner m h g u);
+    answers = λ e owner m h g u o.
+        answers_moved k kept p after before t.moves t.closed.rows t.apart t.closed.impls later earlier t.slots_after t.slots_before e (made_kept e h) owner m u (runs e owner m h g u o);
     text = λ e h. text_moved k kept p after before t.moves t.closed.rows e h;
     kin = λ e h. kin_moved k kept p after before t.moves t.closed.rows later earlier e h;
     to_string = t.moves.core.methods core.ToString;
@@ -87,7 +88,7 @@ module _ (k : Change) (kept : RowAt → Bool) (p : Places) (outputs inputs : Lis
     keeps_shapes = λ e h. shape_kept k kept p after before t.moves t.closed.rows e h;
     keeps_cells = λ e h. cells_kept k kept p after before t.moves t.closed.rows exception e h;
     keeps_starts = λ i m h is. starts_kept k kept p after before t.moves t.closed.rows i m h is;
-    keeps_answers = λ e owner m u h g v is. answers_kept k kept p after before t.moves t.closed.rows exception e owner m u (made_kept e h) (λ f it. t.closed.runs e owner m f h g v it) is;
+    keeps_answers = λ e owner m u h g v o is. answers_kept k kept p after before t.moves t.closed.rows exception e owner m u (made_kept e h) (λ f it. t.closed.runs e owner m f h g v o it) is;
     keeps_to_string = t.closed.to_string;
     keeps_equals = t.closed.equals;
     makes_values = λ e h is. t.closed.values e h is;

@@ -16,7 +16,7 @@ use Rattle.change_rules.specs.Change.{Keep, Change}
 use Rattle.change_rules.specs.Moves.{move_expr, move_use}
 use Rattle.change_rules.specs.Answers.{move_method, move_field, move_layout, move_shape}
 use Rattle.change_rules.specs.States.{mask}
-use Rattle.change_rules.specs.Keeps.{keeps_expr, keeps_defined, shows_expr, makes_expr, keeps_made, keeps_use, keeps_method, keeps_field, keeps_layout, keeps_shape}
+use Rattle.change_rules.specs.Keeps.{keeps_expr, keeps_defined, shows_expr, makes_expr, keeps_made, keeps_use, is_of_owner, keeps_method, keeps_field, keeps_layout, keeps_shape}
 
 -- the types of the core library that a step asks for by name: of exceptions that it raises, of objects of reflection
 unfoldable pub is_asked : CoreName → Bool
@@ -58,7 +58,8 @@ pub record Agree (k : Change) (after before : Queries) : Type 0 where
   pub starts : (t : ℕ) → IsTrue (k.keep.begun t) → after.starts (k.rho.typ t) ≡ option_map k.rho.method (before.starts t)
   pub below : (a b : TypeExpr) → IsTrue (keeps_expr k.keep a) → IsTrue (keeps_defined k.keep b)
       → after.below (move_expr k.rho a) (move_expr k.rho b) ≡ before.below a b
-  pub answers : (e owner : TypeExpr) (m : ℕ) → IsTrue (keeps_made k.keep e) → IsTrue (keeps_expr k.keep owner) → IsTrue (k.keep.method m)
+  -- of a method that is called on a type of its owner's definition
+  pub answers : (e owner : TypeExpr) (m : ℕ) → IsTrue (keeps_made k.keep e) → IsTrue (keeps_expr k.keep owner) → IsTrue (k.keep.method m) → IsTrue (is_of_owner (before.method m) owner)
       → after.answers (move_expr k.rho e) (move_expr k.rho owner) (k.rho.method m) ≡ option_map (move_use k.rho) (before.answers e owner m)
   pub text : (e : TypeExpr) → IsTrue (shows_expr k.keep e) → after.text (move_expr k.rho e) ≡ before.text e
   pub kin : (e : TypeExpr) → IsTrue (keeps_expr k.keep e) → after.kin (move_expr k.rho e) ≡ before.kin e
@@ -74,7 +75,7 @@ pub record Agree (k : Change) (after before : Queries) : Type 0 where
       → IsTrue (list_all (keeps_layout k.keep) (keep (mask k.keep (before.cells e)) (before.cells e)))
   pub keeps_starts : (t m : ℕ) → IsTrue (k.keep.begun t) → before.starts t ≡ Some m → IsTrue (k.keep.method m)
   pub keeps_answers : (e owner : TypeExpr) (m : ℕ) (u : MethodUse) → IsTrue (keeps_made k.keep e) → IsTrue (keeps_expr k.keep owner)
-      → IsTrue (k.keep.method m) → before.answers e owner m ≡ Some u → IsTrue (keeps_use k.keep u)
+      → IsTrue (k.keep.method m) → IsTrue (is_of_owner (before.method m) owner) → before.answers e owner m ≡ Some u → IsTrue (keeps_use k.keep u)
   pub keeps_to_string : IsTrue (k.keep.method before.to_string)
   pub keeps_equals : IsTrue (k.keep.method before.equals)
   -- there can be objects of each value type that is kept

@@ -1,5 +1,5 @@
 -- Whether all that something names is kept.
-use Rattle.std.specs.Prelude.{ℕ, List, Bool, true, false, not, ◌&&◌, ◌||◌, ◌==◌, Option, Some, None}
+use Rattle.std.specs.Prelude.{ℕ, List, Bool, true, false, nat_eq, not, ◌&&◌, ◌||◌, ◌==◌, Option, Some, None}
 use Rattle.std.specs.List.{list_all}
 use Rattle.il_base.specs.declared.body.Form.{Form}
 use Rattle.il_base.specs.declared.body.Form.TheVariants as form
@@ -139,9 +139,21 @@ keeps_values k = list_all (keeps_value k)
 
 -- ---- code
 
+-- whether a type, without the modifiers around it, is of a definition, where it is of one; a parameter isn't
+abbrev pub is_of : ℕ → TypeExpr → Bool
+is_of n e = definition_passes (nat_eq n) (out-TypeExpr (plain e))
+
+abbrev pub is_of_owner : Option Method → TypeExpr → Bool
+is_of_owner None e = true
+is_of_owner (Some f) e = is_of f.owner e
+
+-- a method is called on a type of the definition that has it
+abbrev pub calls_own : Queries → MethodUse → Bool
+calls_own q u = is_of_owner (q.method u.method.0) u.owner
+
 -- a method that is called begins its type
-abbrev pub keeps_called : Keep → MethodUse → Bool
-keeps_called k u = keeps_use k u && begins_expr k u.owner
+abbrev pub keeps_called : Keep → Queries → MethodUse → Bool
+keeps_called k q u = keeps_use k u && begins_expr k u.owner && calls_own q u
 
 abbrev pub is_static : Option FieldDef → Bool
 is_static None = false
@@ -153,7 +165,7 @@ keeps_accessed k q u = k.field u.field.0 && keeps_expr k u.owner && (not (is_sta
 
 abbrev pub keeps_operand : Keep → Queries → Use → Bool
 keeps_operand k q (typ e) = if_good (keeps_expr k) e
-keeps_operand k q (method u) = if_good (keeps_called k) u
+keeps_operand k q (method u) = if_good (keeps_called k q) u
 keeps_operand k q (field u) = if_good (keeps_accessed k q) u
 keeps_operand k q _ = true
 

@@ -34,7 +34,7 @@ use Rattle.change_rules.specs.Change.{Change}
 use Rattle.change_rules.specs.Moves.{move_expr, move_path, move_value, move_values}
 use Rattle.change_rules.specs.Answers.{move_signature, move_here, move_instruction, move_callee}
 use Rattle.change_rules.specs.States.{move_obj, move_prefix, move_waits, move_state}
-use Rattle.change_rules.specs.Keeps.{keeps_expr, shows_expr, makes_expr, keeps_made, keeps_path, keeps_value, keeps_values, keeps_signature}
+use Rattle.change_rules.specs.Keeps.{keeps_expr, shows_expr, makes_expr, keeps_made, calls_own, keeps_path, keeps_value, keeps_values, keeps_signature}
 use Rattle.change_rules.specs.Covered.{keeps_obj, keeps_prefix, keeps_waits, Covered}
 use Rattle.change_rules.specs.Agree.{Agree, is_asked}
 use Rattle.change_rules.specs.Lock.{Lock, keeps_result, GivesLock}
@@ -167,29 +167,29 @@ module _ (k : Change) (after before : Queries) (a : Agree k after before) where
 
         -- ---- `callvirt`
 
-        found_from_lock : (d : Callee) (e : TypeExpr) (f g : Callee → Next) → KeptCallee k.keep before d → IsTrue (keeps_made k.keep e) → ((x : Callee) → KeptCallee k.keep before x → Lock k before (f (move_callee k.rho x)) (g x))
+        found_from_lock : (d : Callee) (e : TypeExpr) (f g : Callee → Next) → KeptCallee k.keep before d → IsTrue (calls_own before d.called) → IsTrue (keeps_made k.keep e) → ((x : Callee) → KeptCallee k.keep before x → Lock k before (f (move_callee k.rho x)) (g x))
             → Lock k before (found_from after (move_callee k.rho d) (move_expr k.rho e) (move_state k before s) f) (found_from before d e s g)
         unfolding found_from
-        found_from_lock d e f g hd he l =
-            if_lock k before _ (is_virtual d.method) _ _ _ _ refl (λ b. dispatched_lock k after before a d e s f g hd he l) (λ b. required_lock k before _ (not (is_abstract d.method)) s _ _ refl (λ n. l d hd))
+        found_from_lock d e f g hd ho he l =
+            if_lock k before _ (is_virtual d.method) _ _ _ _ refl (λ b. dispatched_lock k after before a d e s f g hd ho he l) (λ b. required_lock k before _ (not (is_abstract d.method)) s _ _ refl (λ n. l d hd))
 
-        virtual_lock : (d : Callee) → KeptCallee k.keep before d → (n : ℕ)
+        virtual_lock : (d : Callee) → KeptCallee k.keep before d → IsTrue (calls_own before d.called) → (n : ℕ)
             → Lock k before (virtual_on after (move_here k.rho here) (move_instruction k.rho i) (move_callee k.rho d) (move_values k.rho vs) (move_state k before s) n) (virtual_on before here i d vs s n)
-        virtual_lock d hd n =
+        virtual_lock d hd own n =
             given_moved k before (move_obj k before) (object_at s n) _ s _ _ (object_moved k after before a s n) (λ o is.
             let ho : IsTrue (keeps_obj k.keep before o) = object_kept k after before a s c n o is in
             subst (λ (t : TypeExpr). Lock k before (found_from after (move_callee k.rho d) t (move_state k before s) (runs_on after (move_here k.rho here) (move_instruction k.rho i) (move_values k.rho vs) (move_state k before s) (value.Object n)))
             (found_from before d (type_of before o) s (runs_on before here i vs s (value.Object n)))) (sym (type_of_moved k after before a o))
-            (found_from_lock d (type_of before o) (runs_on after (move_here k.rho here) (move_instruction k.rho i) (move_values k.rho vs) (move_state k before s) (value.Object n)) (runs_on before here i vs s (value.Object n)) hd (type_of_made k after before a o ho)
+            (found_from_lock d (type_of before o) (runs_on after (move_here k.rho here) (move_instruction k.rho i) (move_values k.rho vs) (move_state k before s) (value.Object n)) (runs_on before here i vs s (value.Object n)) hd own (type_of_made k after before a o ho)
             (λ x hx. runs_on_lock x (value.Object n) (value.Object n) s (sym (move_object k.rho n)) hx (keeps_object k.keep n) c)))
 
-        call_virtual_lock : (d : Callee) → KeptCallee k.keep before d → (v : Value) → IsTrue (keeps_value k.keep v)
+        call_virtual_lock : (d : Callee) → KeptCallee k.keep before d → IsTrue (calls_own before d.called) → (v : Value) → IsTrue (keeps_value k.keep v)
             → Lock k before (call_virtual after (move_here k.rho here) (move_instruction k.rho i) (move_callee k.rho d) (move_values k.rho vs) (move_state k before s) (move_value k.rho v)) (call_virtual before here i d vs s v)
         unfolding roll-Value denote.Hole.Carrier.roll out-Value denote.Hole.Carrier.out
-        call_virtual_lock d hd =
+        call_virtual_lock d hd own =
             let out : Lock k before (stuck (move_state k before s)) (stuck s) = stuck_lock k before s in
             kept_cases k (λ w v. Lock k before (call_virtual after (move_here k.rho here) (move_instruction k.rho i) (move_callee k.rho d) (move_values k.rho vs) (move_state k before s) w) (call_virtual before here i d vs s v))
-            (raise_lock k after before a name.NullReferenceException null_asked s c) (λ n. out) (λ n. out) (λ n. out) (λ n. virtual_lock d hd n) (λ p h. out) (λ e cells h q. out) (λ e h. out) (λ e h. out)
+            (raise_lock k after before a name.NullReferenceException null_asked s c) (λ n. out) (λ n. out) (λ n. out) (λ n. virtual_lock d hd own n) (λ p h. out) (λ e cells h q. out) (λ e h. out) (λ e h. out)
 
         -- ---- `constrained.`
 
@@ -206,37 +206,37 @@ module _ (k : Change) (after before : Queries) (a : Agree k after before) where
             if_lock k before _ (is_own d.called.owner e) _ _ _ _ (own_moved k d.called.owner e)
             (λ b. runs_this d (value.Pointer (move_path k.rho p)) (value.Pointer p) vs s (sym (move_pointer k.rho p)) hd (keeps_pointer k.keep p ∙ hp) hvs c) (λ b. boxed_lock e p d he hp hd)
 
-        at_lock : (d : Callee) (e : TypeExpr) (p : Path) → KeptCallee k.keep before d → IsTrue (shows_expr k.keep e) → IsTrue (keeps_path k.keep p)
+        at_lock : (d : Callee) (e : TypeExpr) (p : Path) → KeptCallee k.keep before d → IsTrue (calls_own before d.called) → IsTrue (shows_expr k.keep e) → IsTrue (keeps_path k.keep p)
             → Lock k before (constrained_at after (move_here k.rho here) (move_instruction k.rho i) (move_callee k.rho d) (move_values k.rho vs) (move_state k before s) (move_expr k.rho e) (move_path k.rho p)) (constrained_at before here i d vs s e p)
-        at_lock d e p hd shown hp =
+        at_lock d e p hd own shown hp =
             let he : IsTrue (keeps_expr k.keep e) = shown_kept k.keep e shown in
             if_lock k before _ (is_value before e) _ _ _ _ (is_value_moved k after before a e he)
             (λ b. let made : IsTrue (keeps_made k.keep e) = and_from (shows_expr k.keep e) (makes_expr k.keep e) shown (a.makes_values e he b) in
-            found_from_lock d e (constrained_found after (move_here k.rho here) (move_instruction k.rho i) (move_values k.rho vs) (move_state k before s) (move_expr k.rho e) (move_path k.rho p)) (constrained_found before here i vs s e p) hd made
+            found_from_lock d e (constrained_found after (move_here k.rho here) (move_instruction k.rho i) (move_values k.rho vs) (move_state k before s) (move_expr k.rho e) (move_path k.rho p)) (constrained_found before here i vs s e p) hd own made
             (λ x hx. found_lock e p x made hp hx))
-            (λ b. at_place_lock k after before a p s (call_virtual after (move_here k.rho here) (move_instruction k.rho i) (move_callee k.rho d) (move_values k.rho vs) (move_state k before s)) (call_virtual before here i d vs s) c hp (λ v hv. call_virtual_lock d hd v hv))
+            (λ b. at_place_lock k after before a p s (call_virtual after (move_here k.rho here) (move_instruction k.rho i) (move_callee k.rho d) (move_values k.rho vs) (move_state k before s)) (call_virtual before here i d vs s) c hp (λ v hv. call_virtual_lock d hd own v hv))
 
-        constrained_lock : (d : Callee) (e : TypeExpr) → KeptCallee k.keep before d → IsTrue (shows_expr k.keep e) → (v : Value) → IsTrue (keeps_value k.keep v)
+        constrained_lock : (d : Callee) (e : TypeExpr) → KeptCallee k.keep before d → IsTrue (calls_own before d.called) → IsTrue (shows_expr k.keep e) → (v : Value) → IsTrue (keeps_value k.keep v)
             → Lock k before (constrained_on after (move_here k.rho here) (move_instruction k.rho i) (move_callee k.rho d) (move_values k.rho vs) (move_state k before s) (move_expr k.rho e) (move_value k.rho v)) (constrained_on before here i d vs s e v)
         unfolding roll-Value denote.Hole.Carrier.roll out-Value denote.Hole.Carrier.out
-        constrained_lock d e hd shown =
+        constrained_lock d e hd own shown =
             let out : Lock k before (stuck (move_state k before s)) (stuck s) = stuck_lock k before s in
             kept_cases k (λ w v. Lock k before (constrained_on after (move_here k.rho here) (move_instruction k.rho i) (move_callee k.rho d) (move_values k.rho vs) (move_state k before s) (move_expr k.rho e) w) (constrained_on before here i d vs s e v))
             (raise_lock k after before a name.NullReferenceException null_asked s c) (λ n. out) (λ n. out) (λ n. out) (λ n. out)
-            (λ p h. alive_lock k before p s _ _ (required_lock k before _ (same_expr p.of e) s _ _ (same_exprs_moved k.back k.rho k.undone p.of e) (λ b. at_lock d e p hd shown h)))
+            (λ p h. alive_lock k before p s _ _ (required_lock k before _ (same_expr p.of e) s _ _ (same_exprs_moved k.back k.rho k.undone p.of e) (λ b. at_lock d e p hd own shown h)))
             (λ t cells h q. out) (λ t h. out) (λ t h. out)
 
-        prefix_lock : (d : Callee) → KeptCallee k.keep before d → (v : Value) → IsTrue (keeps_value k.keep v) → (p : Prefix) → IsTrue (keeps_prefix k.keep p)
+        prefix_lock : (d : Callee) → KeptCallee k.keep before d → IsTrue (calls_own before d.called) → (v : Value) → IsTrue (keeps_value k.keep v) → (p : Prefix) → IsTrue (keeps_prefix k.keep p)
             → Lock k before (by_prefix after (move_here k.rho here) (move_instruction k.rho i) (move_callee k.rho d) (move_values k.rho vs) (move_state k before s) (move_prefix k.rho p) (move_value k.rho v)) (by_prefix before here i d vs s p v)
-        prefix_lock d hd v hv (prefixed.Constrained e) hp = constrained_lock d e hd hp v hv
-        prefix_lock d hd v hv prefixed.None hp = call_virtual_lock d hd v hv
-        prefix_lock d hd v hv prefixed.Readonly hp = call_virtual_lock d hd v hv
+        prefix_lock d hd own v hv (prefixed.Constrained e) hp = constrained_lock d e hd own hp v hv
+        prefix_lock d hd own v hv prefixed.None hp = call_virtual_lock d hd own v hv
+        prefix_lock d hd own v hv prefixed.Readonly hp = call_virtual_lock d hd own v hv
 
-        pub receives_lock : (d : Callee) → KeptCallee k.keep before d → (v : Value) → IsTrue (keeps_value k.keep v) → (p : Prefix) → IsTrue (keeps_prefix k.keep p)
+        pub receives_lock : (d : Callee) → KeptCallee k.keep before d → IsTrue (calls_own before d.called) → (v : Value) → IsTrue (keeps_value k.keep v) → (p : Prefix) → IsTrue (keeps_prefix k.keep p)
             → Lock k before (receives after (move_here k.rho here) (move_instruction k.rho i) (move_callee k.rho d) (move_values k.rho vs) (move_state k before s) (move_prefix k.rho p) (move_value k.rho v)) (receives before here i d vs s p v)
-        receives_lock d hd v hv p hp = if_lock k before _ (i.opcode == CALL) _ _ _ _ refl (λ e. call_on_lock d hd v hv) (λ e. prefix_lock d hd v hv p hp)
+        receives_lock d hd own v hv p hp = if_lock k before _ (i.opcode == CALL) _ _ _ _ refl (λ e. call_on_lock d hd v hv) (λ e. prefix_lock d hd own v hv p hp)
 
-    pub received_lock : (d : Callee) (vs : List Value) (s : State) (p : Prefix) → KeptCallee k.keep before d → IsTrue (keeps_values k.keep vs) → Covered k.keep before s → IsTrue (keeps_prefix k.keep p)
+    pub received_lock : (d : Callee) (vs : List Value) (s : State) (p : Prefix) → KeptCallee k.keep before d → IsTrue (calls_own before d.called) → IsTrue (keeps_values k.keep vs) → Covered k.keep before s → IsTrue (keeps_prefix k.keep p)
         → Lock k before (received after (move_here k.rho here) (move_instruction k.rho i) (move_callee k.rho d) (move_values k.rho vs) (move_state k before s) (move_prefix k.rho p)) (received before here i d vs s p)
-    received_lock d [] s p hd hv c hp = stuck_lock k before s
-    received_lock d (v ∷ vs) s p hd hv c hp = receives_lock vs (second_so (keeps_value k.keep v) (keeps_values k.keep vs) hv) s c d hd v (first_so (keeps_value k.keep v) (keeps_values k.keep vs) hv) p hp
+    received_lock d [] s p hd own hv c hp = stuck_lock k before s
+    received_lock d (v ∷ vs) s p hd own hv c hp = receives_lock vs (second_so (keeps_value k.keep v) (keeps_values k.keep vs) hv) s c d hd own v (first_so (keeps_value k.keep v) (keeps_values k.keep vs) hv) p hp

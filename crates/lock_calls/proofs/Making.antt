@@ -1,6 +1,6 @@
 -- `call`, `callvirt`, `newobj` and the prefixes.
-use Rattle.std.proofs.Common.{◌≡◌, ℕ, Bool, true, false, ◌&&◌, ◌||◌, not, List, ◌∷◌, length, Option, refl, sym, ap, subst, ◌∙◌}
-use Rattle.std.specs.Prelude.{IsTrue, ◌==◌}
+use Rattle.std.proofs.Common.{◌≡◌, ℕ, Bool, true, false, ◌&&◌, ◌||◌, not, List, ◌∷◌, length, Option, Some, None, refl, sym, ap, subst, ◌∙◌}
+use Rattle.std.specs.Prelude.{IsTrue, nat_eq, ◌==◌}
 use Rattle.std.specs.Option.{option_map, option_and_then}
 use Rattle.std.specs.Cmp.{first_so, second_so}
 use Rattle.std.proofs.lemmas.Bool.{and_from, false≢true}
@@ -12,6 +12,8 @@ use Rattle.world_model.specs.declared.known.Known.{Known}
 use Rattle.world_model.specs.declared.known.Known.TheVariants.{Good}
 use Rattle.world_model.specs.declared.expr.TypeExpr.{TypeExpr}
 use Rattle.world_model.specs.declared.expr.MethodUse.{MethodUse}
+use Rattle.il_base.specs.declared.ids.MethodId.{MethodId}
+use Rattle.cil_values.specs.declared.definition.Method.{Method}
 use Rattle.world_model.specs.Exprs as exprs
 use Rattle.cil_values.specs.declared.value.Value.{Value}
 use Rattle.cil_values.specs.declared.value.Value.TheVariants as value
@@ -39,7 +41,7 @@ use Rattle.change_rules.specs.Change.{Change}
 use Rattle.change_rules.specs.Moves.{move_expr, move_value, move_values}
 use Rattle.change_rules.specs.Answers.{move_here, move_operand, move_instruction, move_callee}
 use Rattle.change_rules.specs.States.{move_prefix, move_state}
-use Rattle.change_rules.specs.Keeps.{keeps_expr, shows_expr, makes_expr, news_expr, keeps_made, begins_expr, keeps_use, keeps_called, keeps_value, keeps_values, if_good, keeps_operand, keeps_of_form}
+use Rattle.change_rules.specs.Keeps.{keeps_expr, shows_expr, makes_expr, news_expr, keeps_made, begins_expr, keeps_use, is_of_owner, calls_own, keeps_called, keeps_value, keeps_values, if_good, keeps_operand, keeps_of_form}
 use Rattle.change_rules.specs.Covered.{keeps_prefix, Covered}
 use Rattle.change_rules.specs.Agree.{Agree}
 use Rattle.change_rules.specs.Lock.{Lock, GivesLock}
@@ -48,7 +50,7 @@ use Rattle.change_laws.proofs.Values.{move_object, move_pointer, keeps_object, k
 use Rattle.change_laws.proofs.Cells.{zeros_move}
 use Rattle.lock_words.proofs.Words.{stuck_lock, given_moved, had_moved, required_lock, if_lock, made_lock, may_go_moved, goes_with_lock}
 use Rattle.lock_words.proofs.Types.{in_names}
-use Rattle.lock_words.proofs.Definitions.{Begins as MayBegin, begins_closed, makes_closed}
+use Rattle.lock_words.proofs.Definitions.{Begins as MayBegin, begins_closed, passes_closed, makes_closed}
 use Rattle.lock_words.proofs.Fits.{is_value_moved}
 use Rattle.lock_throwing.proofs.Objects.{zeros_kept}
 use Rattle.lock_throwing.proofs.Here.{KeptHere}
@@ -86,25 +88,25 @@ module _ (k : Change) (after before : Queries) (a : Agree k after before) where
   module _ (here : Here) (i : Instruction) where
     -- ---- `call`, `callvirt`
 
-    with_args_lock : (d : Callee) (s : State) (t : List Value × List Value) → KeptCallee k.keep before d → Covered k.keep before s → KeptTaken k.keep t
+    with_args_lock : (d : Callee) (s : State) (t : List Value × List Value) → KeptCallee k.keep before d → IsTrue (calls_own before d.called) → Covered k.keep before s → KeptTaken k.keep t
         → Lock k before (with_args after (move_here k.rho here) (move_instruction k.rho i) (move_callee k.rho d) (move_state k before s) (move_taken k.rho t)) (with_args before here i d s t)
-    with_args_lock d s t hd c ht =
+    with_args_lock d s t hd own c ht =
         if_lock k before _ d.signature.this _ _ _ _ refl
-        (λ e. received_lock k after before a here i d t.0 (waiting t.1 s) s.top.prefix hd ht.args (waiting_covered t.1 s c ht.rest) c.top.prefix)
+        (λ e. received_lock k after before a here i d t.0 (waiting t.1 s) s.top.prefix hd own ht.args (waiting_covered t.1 s c ht.rest) c.top.prefix)
         (λ e. runs_lock k after before a here i d t.0 (waiting t.1 s) hd ht.args (waiting_covered t.1 s c ht.rest))
 
-    taken_lock : (d : Callee) (s : State) → KeptCallee k.keep before d → Covered k.keep before s
+    taken_lock : (d : Callee) (s : State) → KeptCallee k.keep before d → IsTrue (calls_own before d.called) → Covered k.keep before s
         → Lock k before (given (taken (slots_of (move_callee k.rho d).signature) (move_values k.rho s.top.stack)) (move_state k before s) (with_args after (move_here k.rho here) (move_instruction k.rho i) (move_callee k.rho d) (move_state k before s)))
         (given (taken (slots_of d.signature) s.top.stack) s (with_args before here i d s))
-    taken_lock d s hd c =
-        given_moved k before (move_taken k.rho) (taken (slots_of d.signature) s.top.stack) _ s _ _ (taken_slots d s) (λ t is. with_args_lock d s t hd c (taken_kept k.keep (slots_of d.signature) s.top.stack t c.top.stack is))
+    taken_lock d s hd own c =
+        given_moved k before (move_taken k.rho) (taken (slots_of d.signature) s.top.stack) _ s _ _ (taken_slots d s) (λ t is. with_args_lock d s t hd own c (taken_kept k.keep (slots_of d.signature) s.top.stack t c.top.stack is))
 
-    calls_lock : (s : State) (d : Callee) → KeptCallee k.keep before d → MayBegin k.keep d.called.owner → Covered k.keep before s
+    calls_lock : (s : State) (d : Callee) → KeptCallee k.keep before d → IsTrue (calls_own before d.called) → MayBegin k.keep d.called.owner → Covered k.keep before s
         → Lock k before (calls after (move_here k.rho here) (move_instruction k.rho i) (move_state k before s) (move_callee k.rho d)) (calls before here i s d)
-    calls_lock s d hd b c =
+    calls_lock s d hd own b c =
         required_lock k before _ (may_call i d) s _ _ refl (λ e.
         begun_lock d s (λ t. given (taken (slots_of (move_callee k.rho d).signature) t.top.stack) t (with_args after (move_here k.rho here) (move_instruction k.rho i) (move_callee k.rho d) t))
-        (λ t. given (taken (slots_of d.signature) t.top.stack) t (with_args before here i d t)) hd b c (taken_lock d s hd c))
+        (λ t. given (taken (slots_of d.signature) t.top.stack) t (with_args before here i d t)) hd b c (taken_lock d s hd own c))
 
     -- ---- `newobj`
 
@@ -201,17 +203,27 @@ module _ (k : Change) (after before : Queries) (a : Agree k after before) where
     -- ---- the forms
 
     module _ (r : KeptHere k.keep before here) (s : State) (c : Covered k.keep before s) where
-      named_uses : (o : Known MethodUse) → IsTrue (if_good (keeps_called k.keep) o) → IsTrue (if_good (keeps_use k.keep) o)
-      named_uses o h = weaker (keeps_called k.keep) (keeps_use k.keep) (λ u g. first_so (keeps_use k.keep u) (begins_expr k.keep u.owner) g) o h
+      named_uses : (o : Known MethodUse) → IsTrue (if_good (keeps_called k.keep before) o) → IsTrue (if_good (keeps_use k.keep) o)
+      named_uses o h = weaker (keeps_called k.keep before) (keeps_use k.keep) (λ u g. first_so (keeps_use k.keep u) (begins_expr k.keep u.owner) (first_so _ (calls_own before u) g)) o h
 
-      begins_at : (o : Known MethodUse) (u : MethodUse) (d : Callee) → IsTrue (if_good (keeps_called k.keep) o) → o ≡ Good u → plain (exprs.subst here.targs here.margs u.owner) ≡ d.called.owner → MayBegin k.keep d.called.owner
+      begins_at : (o : Known MethodUse) (u : MethodUse) (d : Callee) → IsTrue (if_good (keeps_called k.keep before) o) → o ≡ Good u → plain (exprs.subst here.targs here.margs u.owner) ≡ d.called.owner → MayBegin k.keep d.called.owner
       begins_at o u d h e is =
-          subst (MayBegin k.keep) is (begins_closed k.keep here.targs here.margs u.owner (second_so (keeps_use k.keep u) (begins_expr k.keep u.owner) (known_is (keeps_called k.keep) o u e h)))
+          subst (MayBegin k.keep) is (begins_closed k.keep here.targs here.margs u.owner (second_so (keeps_use k.keep u) (begins_expr k.keep u.owner) (first_so _ (calls_own before u) (known_is (keeps_called k.keep before) o u e h))))
+
+      own_closed : (u : MethodUse) (f : Option Method) → IsTrue (is_of_owner f u.owner) → IsTrue (is_of_owner f (plain (exprs.subst here.targs here.margs u.owner)))
+      own_closed u None h = refl
+      own_closed u (Some f) h = passes_closed (nat_eq f.owner) here.targs here.margs u.owner h
+
+      owned_at : (o : Known MethodUse) (u : MethodUse) (d : Callee) → IsTrue (if_good (keeps_called k.keep before) o) → o ≡ Good u → u.method ≡ d.called.method → plain (exprs.subst here.targs here.margs u.owner) ≡ d.called.owner → IsTrue (calls_own before d.called)
+      owned_at o u d h e m is =
+          subst (λ (x : MethodId). IsTrue (is_of_owner (before.method x.0) d.called.owner)) m
+          (subst (λ (x : TypeExpr). IsTrue (is_of_owner (before.method u.method.0) x)) is
+          (own_closed u (before.method u.method.0) (second_so _ (calls_own before u) (known_is (keeps_called k.keep before) o u e h))))
 
       call_by : (u : Use) → IsTrue (keeps_operand k.keep before u)
           → Lock k before (elim (move_operand k.rho u) [ method m ↦ closed_use after (move_here k.rho here) m (move_state k before s) (calls after (move_here k.rho here) (move_instruction k.rho i) (move_state k before s)) | _ ↦ stuck (move_state k before s) ])
           (elim u [ method m ↦ closed_use before here m s (calls before here i s) | _ ↦ stuck s ])
-      call_by (method o) h = closed_use_lock k after before a here r s o _ _ (named_uses o h) (λ u d e is hd. calls_lock s d hd (begins_at o u d h e is) c)
+      call_by (method o) h = closed_use_lock k after before a here r s o _ _ (named_uses o h) (λ u d e m is hd. calls_lock s d hd (owned_at o u d h e m is) (begins_at o u d h e is) c)
       call_by _ h = stuck_lock k before s
 
       pub call_lock : IsTrue (keeps_operand k.keep before i.operand) → Lock k before (call after (move_here k.rho here) (move_instruction k.rho i) (move_state k before s)) (call before here i s)
@@ -232,7 +244,7 @@ module _ (k : Change) (after before : Queries) (a : Agree k after before) where
       new_by : (u : Use) → IsTrue (keeps_operand k.keep before u) → IsTrue (keeps_of_form k.keep i.opcode form.NewObj u)
           → Lock k before (elim (move_operand k.rho u) [ method m ↦ closed_use after (move_here k.rho here) m (move_state k before s) (makes after (move_here k.rho here) (move_instruction k.rho i) (move_state k before s)) | _ ↦ stuck (move_state k before s) ])
           (elim u [ method m ↦ closed_use before here m s (makes before here i s) | _ ↦ stuck s ])
-      new_by (method o) h g = closed_use_lock k after before a here r s o _ _ (named_uses o h) (λ u d e is hd. makes_lock s d hd (begins_at o u d h e is) (made_at o u d g e is) c)
+      new_by (method o) h g = closed_use_lock k after before a here r s o _ _ (named_uses o h) (λ u d e m is hd. makes_lock s d hd (begins_at o u d h e is) (made_at o u d g e is) c)
       new_by _ h g = stuck_lock k before s
 
       pub new_object_lock : IsTrue (keeps_operand k.keep before i.operand) → IsTrue (keeps_of_form k.keep i.opcode form.NewObj i.operand)

@@ -25,7 +25,7 @@ use Rattle.change_rules.specs.Change.{Change}
 use Rattle.change_rules.specs.Moves.{move_expr, move_use, move_value}
 use Rattle.change_rules.specs.Answers.{move_signature, move_method, move_callee}
 use Rattle.change_rules.specs.States.{move_obj, move_state}
-use Rattle.change_rules.specs.Keeps.{keeps_expr, keeps_made, keeps_use, keeps_value, keeps_signature, if_good}
+use Rattle.change_rules.specs.Keeps.{keeps_expr, keeps_made, keeps_use, calls_own, keeps_value, keeps_signature, if_good}
 use Rattle.change_rules.specs.Covered.{keeps_obj, Covered}
 use Rattle.change_rules.specs.Agree.{Agree}
 use Rattle.change_rules.specs.Lock.{Lock}
@@ -55,28 +55,28 @@ module _ (k : Change) (after before : Queries) (a : Agree k after before) where
   found_by c None = refl
   found_by c (Some u) = refl
 
-  found_moved : (e : TypeExpr) (c : Callee) → IsTrue (keeps_made k.keep e) → KeptCallee k.keep before c → found_use after (move_expr k.rho e) (move_callee k.rho c) ≡ option_map (move_use k.rho) (found_use before e c)
-  found_moved e c h hc =
-      ap (option_map (λ (u : MethodUse). record u { args = (move_callee k.rho c).called.args })) (a.answers e c.called.owner c.called.method.0 h (use_owner k.keep c.called hc.named) (use_method k.keep c.called hc.named))
+  found_moved : (e : TypeExpr) (c : Callee) → IsTrue (keeps_made k.keep e) → KeptCallee k.keep before c → IsTrue (calls_own before c.called) → found_use after (move_expr k.rho e) (move_callee k.rho c) ≡ option_map (move_use k.rho) (found_use before e c)
+  found_moved e c h hc ho =
+      ap (option_map (λ (u : MethodUse). record u { args = (move_callee k.rho c).called.args })) (a.answers e c.called.owner c.called.method.0 h (use_owner k.keep c.called hc.named) (use_method k.keep c.called hc.named) ho)
       ∙ found_by c (before.answers e c.called.owner c.called.method.0)
 
-  found_kept : (e : TypeExpr) (c : Callee) (u : MethodUse) → IsTrue (keeps_made k.keep e) → KeptCallee k.keep before c → found_use before e c ≡ Some u → IsTrue (keeps_use k.keep u)
-  found_kept e c u h hc is =
+  found_kept : (e : TypeExpr) (c : Callee) (u : MethodUse) → IsTrue (keeps_made k.keep e) → KeptCallee k.keep before c → IsTrue (calls_own before c.called) → found_use before e c ≡ Some u → IsTrue (keeps_use k.keep u)
+  found_kept e c u h hc ho is =
       let m : Made (λ (u : MethodUse). record u { args = c.called.args }) (before.answers e c.called.owner c.called.method.0) u = made_is _ _ _ is in
-      let g : IsTrue (keeps_use k.keep m.x) = a.keeps_answers e c.called.owner c.called.method.0 m.x h (use_owner k.keep c.called hc.named) (use_method k.keep c.called hc.named) m.there in
+      let g : IsTrue (keeps_use k.keep m.x) = a.keeps_answers e c.called.owner c.called.method.0 m.x h (use_owner k.keep c.called hc.named) (use_method k.keep c.called hc.named) ho m.there in
       subst (λ (v : MethodUse). IsTrue (keeps_use k.keep v)) m.is
       (use_from k.keep (record m.x { args = c.called.args }) (use_method k.keep m.x g) (use_owner k.keep m.x g) (use_args k.keep c.called hc.named))
 
   sig_kept : (m : ℕ) (x : Method) → IsTrue (k.keep.method m) → before.method m ≡ Some x → IsTrue (if_good (keeps_signature k.keep) x.signature)
   sig_kept m x h e = second_so _ (if_good (keeps_signature k.keep) x.signature) (first_so _ _ (a.keeps_methods m x h e))
 
-  pub dispatched_lock : (c : Callee) (e : TypeExpr) (s : State) (f g : Callee → Next) → KeptCallee k.keep before c → IsTrue (keeps_made k.keep e)
+  pub dispatched_lock : (c : Callee) (e : TypeExpr) (s : State) (f g : Callee → Next) → KeptCallee k.keep before c → IsTrue (calls_own before c.called) → IsTrue (keeps_made k.keep e)
       → ((d : Callee) → KeptCallee k.keep before d → Lock k before (f (move_callee k.rho d)) (g d))
       → Lock k before (dispatched after (move_callee k.rho c) (move_expr k.rho e) (move_state k before s) f) (dispatched before c e s g)
   unfolding dispatched
-  dispatched_lock c e s f g hc he l =
-      given_moved k before (move_use k.rho) (found_use before e c) _ s _ _ (found_moved e c he hc) (λ u is.
-      let hu : IsTrue (keeps_use k.keep u) = found_kept e c u he hc is in
+  dispatched_lock c e s f g hc ho he l =
+      given_moved k before (move_use k.rho) (found_use before e c) _ s _ _ (found_moved e c he hc ho) (λ u is.
+      let hu : IsTrue (keeps_use k.keep u) = found_kept e c u he hc ho is in
       given_moved k before (move_method k.rho) (before.method u.method.0) _ s _ _ (a.method u.method.0 (use_method k.keep u hu)) (λ m there.
       required_lock k before _ (not (is_abstract m)) s _ _ refl (λ n.
       known_moved k before (move_signature k.rho) (keeps_signature k.keep) m.signature s _ _ (sig_kept u.method.0 m (use_method k.keep u hu) there) (λ sig hs.

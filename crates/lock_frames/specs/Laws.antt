@@ -13,7 +13,7 @@ use Rattle.change_rules.specs.Change.{Keep, Change}
 use Rattle.change_rules.specs.Moves.{move_expr, move_values}
 use Rattle.change_rules.specs.Answers.{move_callee}
 use Rattle.change_rules.specs.States.{move_waits, move_state}
-use Rattle.change_rules.specs.Keeps.{keeps_expr, keeps_made, keeps_use, keeps_values, keeps_method, keeps_signature}
+use Rattle.change_rules.specs.Keeps.{keeps_expr, keeps_made, keeps_use, calls_own, keeps_values, keeps_method, keeps_signature}
 use Rattle.change_rules.specs.Covered.{keeps_waits, Covered}
 use Rattle.change_rules.specs.Agree.{Agree}
 use Rattle.change_rules.specs.Lock.{Lock}
@@ -39,7 +39,7 @@ StartedLocks = (k : Change) (after before : Queries) → Agree k after before �
 -- for an object of a type
 abbrev pub DispatchLocks : Type 0
 DispatchLocks = (k : Change) (after before : Queries) → Agree k after before → (c : Callee) (e : TypeExpr) (s : State) (then now : Callee → Next)
-    → Keeps k.keep before c → IsTrue (keeps_made k.keep e) → ((d : Callee) → Keeps k.keep before d → Lock k before (then (move_callee k.rho d)) (now d))
+    → Keeps k.keep before c → IsTrue (calls_own before c.called) → IsTrue (keeps_made k.keep e) → ((d : Callee) → Keeps k.keep before d → Lock k before (then (move_callee k.rho d)) (now d))
     → Lock k before (dispatched after (move_callee k.rho c) (move_expr k.rho e) (move_state k before s) then) (dispatched before c e s now)
 
 pub record FramesLock : Type 0 where

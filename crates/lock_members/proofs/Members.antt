@@ -1,11 +1,15 @@
 -- All members of the core library, those that call a method of the program too.
 use Rattle.std.proofs.Common.{◌≡◌, ℕ, Bool, true, false, List, [], ◌∷◌, Option, Some, None, refl, sym, ap, subst, ◌∙◌}
-use Rattle.std.specs.Prelude.{IsTrue}
+use Rattle.std.specs.Prelude.{IsTrue, nat_eq}
 use Rattle.std.specs.Option.{option_map}
 use Rattle.std.specs.Cmp.{first_so}
 use Rattle.std.proofs.lemmas.Bool.{and_from}
 use Rattle.il_base.specs.declared.element.TheConstants.{BOOLEAN, OBJECT}
 use Rattle.world_model.specs.declared.expr.TypeExpr.{TypeExpr}
+use Rattle.world_model.specs.declared.expr.TypeExpr.TheVariants as expr
+use Rattle.world_model.specs.declared.expr.MethodUse.{MethodUse}
+use Rattle.cil_values.specs.declared.definition.Method.{Method}
+use Rattle.lock_words.proofs.Definitions.{passes_prim}
 use Rattle.cil_values.specs.declared.value.Value.{Value, out-Value, roll-Value}
 use Rattle.cil_values.specs.declared.value.Value.TheVariants as value
 use Rattle.cil_values.specs.declared.state.State.{State}
@@ -29,7 +33,7 @@ use Rattle.change_rules.specs.Change.{Change}
 use Rattle.change_rules.specs.Moves.{move_use, move_value, move_values}
 use Rattle.change_rules.specs.Answers.{move_callee}
 use Rattle.change_rules.specs.States.{move_obj, move_state}
-use Rattle.change_rules.specs.Keeps.{Names, keeps_use, keeps_value, keeps_values}
+use Rattle.change_rules.specs.Keeps.{Names, keeps_use, is_of_owner, calls_own, keeps_value, keeps_values}
 use Rattle.change_rules.specs.Covered.{keeps_obj, Covered}
 use Rattle.change_rules.specs.Agree.{Agree}
 use Rattle.change_rules.specs.Lock.{Lock, keeps_result, GivesLock}
@@ -131,6 +135,11 @@ module _ (k : Change) (after before : Queries) (a : Agree k after before) where
   slot_kept : (m : ℕ) → IsTrue (k.keep.method m) → IsTrue (keeps_use k.keep (object_slot m))
   slot_kept m h = use_from k.keep (object_slot m) h (ap (λ (n : Names). n.kept) (names_prim k.keep OBJECT)) refl
 
+  -- a slot of Object is called on Object
+  slot_owned : (f : Option Method) → IsTrue (is_of_owner f (expr.Prim OBJECT))
+  slot_owned None = refl
+  slot_owned (Some f) = passes_prim (nat_eq f.owner) OBJECT
+
   abbrev goes_found : CoreCall → List Value → ℕ → List Value → State → Gives → Callee → Next
   goes_found w args n vs s f x =
       given (found_args after (move_state k before s) x (value.Object n) (move_values k.rho vs)) (move_state k before s) (λ ws. run_found after w (move_values k.rho args) x ws (move_state k before s) f (after.core x.called.method.0))
@@ -150,12 +159,13 @@ module _ (k : Change) (after before : Queries) (a : Agree k after before) where
   slot_lock m new is hm w args n vs s f g ha hv c gl =
       had_moved k before (move_callee k.rho) (callee_of before (object_slot m)) _ s _ _
       (ap (λ (x : ℕ). callee_of after (object_slot x)) is ∙ ap (callee_of after) (slot_moved m) ∙ callee_moved k after before a (object_slot m) (slot_kept m hm)) (λ d e.
-      let hd : KeptCallee k.keep before d = (callee_kept k after before a (object_slot m) (slot_kept m hm) d e).kept in
+      let of = callee_kept k after before a (object_slot m) (slot_kept m hm) d e in
+      let hd : KeptCallee k.keep before d = of.kept in
       given_moved k before (move_obj k before) (object_at s n) _ s _ _ (object_moved k after before a s n) (λ o there.
       let ho : IsTrue (keeps_obj k.keep before o) = object_kept k after before a s c n o there in
       subst (λ (t : TypeExpr). Lock k before (dispatched after (move_callee k.rho d) t (move_state k before s) (goes_found w args n vs s f)) (dispatched before d (type_of before o) s (goes_before w args n vs s g)))
       (sym (type_of_moved k after before a o))
-      (dispatched_lock k after before a d (type_of before o) s (goes_found w args n vs s f) (goes_before w args n vs s g) hd (type_of_made k after before a o ho) (λ x hx.
+      (dispatched_lock k after before a d (type_of before o) s (goes_found w args n vs s f) (goes_before w args n vs s g) hd (subst (λ (u : MethodUse). IsTrue (calls_own before u)) of.called (slot_owned (before.method m))) (type_of_made k after before a o ho) (λ x hx.
       subst (λ (this : Value). Lock k before (given (found_args after (move_state k before s) (move_callee k.rho x) this (move_values k.rho vs)) (move_state k before s) (λ ws. run_found after w (move_values k.rho args) (move_callee k.rho x) ws (move_state k before s) f (after.core (move_callee k.rho x).called.method.0)))
       (goes_before w args n vs s g x)) (move_object k.rho n)
       (given_moved k before (move_values k.rho) (found_args before s x (value.Object n) vs) _ s _ _ (found_args_moved s x (value.Object n) vs hx) (λ ws isw.

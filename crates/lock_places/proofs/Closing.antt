@@ -217,6 +217,7 @@ module _ (k : Change) (after before : Queries) (a : Agree k after before) where
         ∙ use_by u (closed_cell before here.targs here.margs u.owner) (all_of (closed_arg before here.targs here.margs) u.args)
 
     record ClosedUse (u v : MethodUse) : Type 0 where
+      method : u.method ≡ v.method
       owner : Closed u.owner ≡ v.owner
       kept : IsTrue (keeps_use k.keep v)
 
@@ -226,6 +227,7 @@ module _ (k : Change) (after before : Queries) (a : Agree k after before) where
         let t : Through (λ owner. option_map (with_owner u owner) (all_of (closed_arg before here.targs here.margs) u.args)) (closed_cell before here.targs here.margs u.owner) v = through_is _ _ _ e in
         let m : Made (with_owner u t.x) (all_of (closed_arg before here.targs here.margs) u.args) v = made_is _ _ _ t.is in
         subst (ClosedUse u) m.is (record {
+          method = refl;
           owner = closed_cell_is k after before a here.targs here.margs r.targs r.margs u.owner t.x t.there;
           kept = use_from k.keep (with_owner u t.x m.x) (use_method k.keep u h)
               (closed_cell_kept k after before a here.targs here.margs r.targs r.margs u.owner t.x (use_owner k.keep u h) t.there)
@@ -239,7 +241,7 @@ module _ (k : Change) (after before : Queries) (a : Agree k after before) where
     callees_moved (Some v) h = callee_moved v (h v refl)
 
     pub closed_use_lock : (o : Known MethodUse) (f g : Callee → Next) → IsTrue (if_good (keeps_use k.keep) o)
-        → ((u : MethodUse) (c : Callee) → o ≡ Good u → Closed u.owner ≡ c.called.owner → KeptCallee k.keep before c → Lock k before (f (move_callee k.rho c)) (g c))
+        → ((u : MethodUse) (c : Callee) → o ≡ Good u → u.method ≡ c.called.method → Closed u.owner ≡ c.called.owner → KeptCallee k.keep before c → Lock k before (f (move_callee k.rho c)) (g c))
         → Lock k before (closed_use after (move_here k.rho here) (known_map (move_use k.rho) o) (move_state k before s) f) (closed_use before here o s g)
     unfolding closed_use
     closed_use_lock (Good u) f g h l =
@@ -249,7 +251,7 @@ module _ (k : Change) (after before : Queries) (a : Agree k after before) where
         let t : Through (callee_of before) (closed_method_use before here u) c = through_is _ _ _ is in
         let v : ClosedUse u t.x = method_use_kept u t.x h t.there in
         let w : CalleeOf t.x v.kept c = callee_kept t.x v.kept c t.is in
-        l u c refl (v.owner ∙ ap (λ (m : MethodUse). m.owner) w.called) w.kept)
+        l u c refl (v.method ∙ ap (λ (m : MethodUse). m.method) w.called) (v.owner ∙ ap (λ (m : MethodUse). m.owner) w.called) w.kept)
     closed_use_lock (Bad why) f g h l = stopped_lock k before s
 
     -- ---- fields

@@ -139,7 +139,7 @@ module _ (flag : ℕ → Bool) where
   passes_array : (e : TypeExpr) → Passes (expr.Array e) ≡ true
   passes_array e = ap Passes (sym (expr.rolls-Array e)) ∙ passes_rolled (TypeExpr-F.Array e)
 
-  passes_prim : (n : ℕ) → Passes (expr.Prim n) ≡ true
+  pub passes_prim : (n : ℕ) → Passes (expr.Prim n) ≡ true
   passes_prim n = ap Passes (sym (expr.rolls-Prim n)) ∙ passes_rolled (TypeExpr-F.Prim n)
 
   -- with arguments put in

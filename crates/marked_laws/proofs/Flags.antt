@@ -10,7 +10,7 @@ use Rattle.il_base.specs.declared.ids.Item.TheVariants as item
 use Rattle.world_model.specs.declared.record.AsmRec.{AsmRec}
 use Rattle.mark_rules.specs.Facts.{Fact}
 use Rattle.mark_rules.specs.Facts.Fact.{marked, instantiated, shown}
-use Rattle.marked_laws.specs.Flags.{is_core_type, begins, keep_of}
+use Rattle.marked_laws.specs.Flags.{is_core_type, is_absent, begins, keep_of}
 
 module _ (recs : List AsmRec) (has : Fact → Bool) where
   pub typ_is : (t : TypeId) → IsTrue (has (marked (item.Typ t))) → IsTrue ((keep_of recs has).typ t.0)
@@ -63,8 +63,12 @@ module _ (recs : List AsmRec) (has : Fact → Bool) where
 
   pub made_is : (t : TypeId) → IsTrue (has (instantiated t)) → IsTrue ((keep_of recs has).made t.0)
   unfolding keep_of
-  made_is t h = or_right (is_core_type recs t.0) (has (instantiated t)) h
+  made_is t h = or_right (is_core_type recs t.0 || is_absent recs t.0) (has (instantiated t)) h
 
   pub made_core : (t : TypeId) → is_core_type recs t.0 ≡ true → IsTrue ((keep_of recs has).made t.0)
   unfolding keep_of
-  made_core t h = or_left (is_core_type recs t.0) (has (instantiated t)) h
+  made_core t h = or_left (is_core_type recs t.0 || is_absent recs t.0) (has (instantiated t)) (or_left (is_core_type recs t.0) (is_absent recs t.0) h)
+
+  pub made_absent : (t : TypeId) → is_absent recs t.0 ≡ true → IsTrue ((keep_of recs has).made t.0)
+  unfolding keep_of
+  made_absent t h = or_left (is_core_type recs t.0 || is_absent recs t.0) (has (instantiated t)) (or_right (is_core_type recs t.0) (is_absent recs t.0) h)

@@ -15,11 +15,11 @@ use Rattle.change_rules.specs.Keeps.{Names, both, names_layer, names_of, keeps_e
 use Rattle.change_laws.proofs.Exprs.{With, plain_parts}
 use Rattle.change_laws.proofs.Subst.{names_rolled}
 
-types_rolled : (x : TypeExpr-F TypeExpr) → types_in (roll-TypeExpr x) ≡ types_layer (map-TypeExpr TypeExpr (List TypeId) types_in x)
+pub types_rolled : (x : TypeExpr-F TypeExpr) → types_in (roll-TypeExpr x) ≡ types_layer (map-TypeExpr TypeExpr (List TypeId) types_in x)
 unfolding types_in
 types_rolled x = fold-roll-TypeExpr (List TypeId) types_layer x
 
-within_rolled : (x : TypeExpr-F TypeExpr) → within (roll-TypeExpr x) ≡ within_layer (map-TypeExpr TypeExpr Within within x)
+pub within_rolled : (x : TypeExpr-F TypeExpr) → within (roll-TypeExpr x) ≡ within_layer (map-TypeExpr TypeExpr Within within x)
 unfolding within
 within_rolled x = fold-roll-TypeExpr Within within_layer x
 
@@ -138,6 +138,9 @@ module _ (k : Keep) where
 
   pub shown_by_parts : (e : TypeExpr) → TypesKept e → AllShown e → IsTrue (shows_expr k e)
   shown_by_parts e h g = and_from (keeps_expr k e) (names_of k e).shown (kept_by_parts e h (λ t i. g t ((by_parts e).fewer t i))) ((by_parts e).shows h g)
+
+  pub all_are_types : (e : TypeExpr) (t : TypeId) → In t (within e).all → In t (types_in e)
+  all_are_types e t i = (by_parts e).types t i
 
   pub arguments_are_types : (e : TypeExpr) (t : TypeId) → In t (arguments_in e) → In t (types_in e)
   arguments_are_types e t i = (by_parts e).types t ((by_parts e).fewer t i)

@@ -1,8 +1,8 @@
 -- What is kept where the marked set is kept: the flags of a change (`change_rules/specs/Change`), by which facts are marked.
-use Rattle.std.specs.Prelude.{◌≡◌, ◌≤◌, ℕ, suc, List, length, Option, Some, slice_get, Bool, ◌&&◌, ◌||◌}
+use Rattle.std.specs.Prelude.{◌≡◌, ◌≤◌, ℕ, suc, List, length, Option, Some, slice_get, Bool, not, ◌&&◌, ◌||◌}
 use Rattle.std.specs.Bool.{Decides}
 use Rattle.std.specs.List.{list_any, range_with_len}
-use Rattle.std.specs.Option.{option_map}
+use Rattle.std.specs.Option.{is_some, option_map}
 use Rattle.il_base.specs.declared.ids.TypeId.{TypeId}
 use Rattle.il_base.specs.declared.ids.MethodId.{MethodId}
 use Rattle.il_base.specs.declared.ids.FieldId.{FieldId}
@@ -38,6 +38,10 @@ field_numbered n = record { 0 = n }
 abbrev pub is_core_type : List AsmRec → ℕ → Bool
 is_core_type recs t = is_core recs (item.Typ (type_numbered t))
 
+-- a type that isn't there: it has no objects, so it counts as made
+abbrev pub is_absent : List AsmRec → ℕ → Bool
+is_absent recs t = not (is_some (type_home recs (type_numbered t)))
+
 -- ---- types whose initializer an access can begin: those of a marked method, or of a marked static field
 
 abbrev pub is_of_type : RowAt → Option RowAt → Bool
@@ -67,7 +71,7 @@ keep_of recs has = record {
   typ = λ t. has (marked (item.Typ (type_numbered t)));
   method = λ m. has (marked (item.Method (method_numbered m)));
   field = λ f. has (marked (item.Field (field_numbered f)));
-  made = λ t. is_core_type recs t || has (instantiated (type_numbered t));
+  made = λ t. is_core_type recs t || is_absent recs t || has (instantiated (type_numbered t));
   shown = λ t. has (marked (item.Typ (type_numbered t))) && (is_core_type recs t || has (shown (type_numbered t)));
   begun = λ t. has (marked (item.Typ (type_numbered t))) && begins recs has t;
 }

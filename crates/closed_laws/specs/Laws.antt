@@ -1,0 +1,24 @@
+-- Where the marked set is kept, all that a step of a kept method can reach is kept, in a world of files that link.
+use Rattle.std.specs.Prelude.{◌≡◌, List, Option, None, Bool}
+use Rattle.world_model.specs.declared.record.AsmRec.{AsmRec}
+use Rattle.link_rules.specs.declared.row_at.RowAt.{RowAt}
+use Rattle.link_rules.specs.Linked.{assemblies, link_fault_of}
+use Rattle.descriptor_file.specs.declared.root.Root.{Root}
+use Rattle.mark_rules.specs.Facts.{Fact}
+use Rattle.agree_laws.specs.Closed.{Closed}
+use Rattle.marked_laws.specs.Flags.{HasMarks, keep_of, kept_of, RunsEnd}
+use Rattle.marked_code_laws.specs.Laws.{MethodsApart, FieldsApart, AreRead}
+use Rattle.marked_call_laws.specs.Laws.{HasFewTypes}
+
+-- what is so of files, and of a set without bad items
+pub record IsMarked (inputs : List AsmRec) (has : Fact → Bool) : Type 0 where
+  pub few : HasFewTypes inputs
+  pub ends : RunsEnd (assemblies inputs)
+  pub methods : MethodsApart (assemblies inputs)
+  pub fields : FieldsApart (assemblies inputs)
+  pub reads : AreRead (assemblies inputs) has
+
+abbrev pub MarkedClosed : Type 0
+MarkedClosed =
+    (inputs : List AsmRec) (entry : Option RowAt) (roots : List Root) (has : Fact → Bool) → link_fault_of inputs ≡ None → HasMarks (assemblies inputs) entry roots has → IsMarked inputs has
+    → Closed (keep_of (assemblies inputs) has) (kept_of (assemblies inputs) has) (assemblies inputs)

@@ -1,0 +1,14 @@
+pub mod Opened
+pub mod Bases
+pub mod Alike
+pub mod Core
+pub mod Found
+pub mod Made
+pub mod Kept
+pub mod Chosen
+pub mod Implied
+pub mod Owners
+pub mod Owned
+pub mod Rows
+pub mod Lists
+pub mod Calls
