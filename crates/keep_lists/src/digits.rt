@@ -14,24 +14,24 @@ fn hex_digit(n: u32) -> u8
     if n < 10 { 48 + n as u8 } else { 87 + n as u8 }
 }
 
-/// Puts the high four digits of a token at the end.
-fn put_high(token: u32, out: &mut Text) -> Result<(), NoMemory>
-    ensures { OnOk result (out.new ≡ out.old ++ high_digits token) }
+/// Puts the high four digits of a number at the end.
+fn put_high(n: u32, out: &mut Text) -> Result<(), NoMemory>
+    ensures { OnOk result (out.new ≡ out.old ++ high_digits n) }
 {
-    out.push(hex_digit(token / 0x1000_0000 % 16))?;
-    out.push(hex_digit(token / 0x100_0000 % 16))?;
-    out.push(hex_digit(token / 0x10_0000 % 16))?;
-    out.push(hex_digit(token / 0x1_0000 % 16))
+    out.push(hex_digit(n / 0x1000_0000 % 16))?;
+    out.push(hex_digit(n / 0x100_0000 % 16))?;
+    out.push(hex_digit(n / 0x10_0000 % 16))?;
+    out.push(hex_digit(n / 0x1_0000 % 16))
 }
 
-/// Puts the low four digits of a token at the end.
-fn put_low(token: u32, out: &mut Text) -> Result<(), NoMemory>
-    ensures { OnOk result (out.new ≡ out.old ++ low_digits token) }
+/// Puts the low four digits of a number at the end.
+fn put_low(n: u32, out: &mut Text) -> Result<(), NoMemory>
+    ensures { OnOk result (out.new ≡ out.old ++ low_digits n) }
 {
-    out.push(hex_digit(token / 0x1000 % 16))?;
-    out.push(hex_digit(token / 0x100 % 16))?;
-    out.push(hex_digit(token / 0x10 % 16))?;
-    out.push(hex_digit(token % 16))
+    out.push(hex_digit(n / 0x1000 % 16))?;
+    out.push(hex_digit(n / 0x100 % 16))?;
+    out.push(hex_digit(n / 0x10 % 16))?;
+    out.push(hex_digit(n % 16))
 }
 
 /// Puts a token in 8 digits at the end.
