@@ -1,0 +1,8 @@
+use Rattle.std.proofs.Common.{◌≡◌, ◌++◌, drop}
+use Rattle.std.specs.List.{filter}
+use Rattle.mark_rules.specs.Roots.{fits_field}
+use Rattle.mark_roots.specs.Lookups.{recs_in}
+use Rattle.mark_roots.proofs.fields.fitting.Given as goal
+
+abbrev pub invariant-loop-at : goal.invariant-loop-at
+invariant-loop-at l = l.found.items ++ filter (fits_field (recs_in l.lookup) l.r l.t) (drop l.at-index l.rows) ≡ filter (fits_field (recs_in l.lookup) l.r l.t) l.rows

@@ -1,0 +1,11 @@
+use descriptor_types::types::DescriptorTypes;
+use mark_tables::marker::Marker;
+use slashed_names::names::SlashedNames;
+
+/// A world with what is made of it once, the names of its types, and its types by these names.
+#[derive(Clone, Copy)]
+pub struct Lookup<'a, 'w> {
+    pub marker: &'a Marker<'w>,
+    pub names: &'a SlashedNames,
+    pub types: &'a DescriptorTypes<'a>,
+}
