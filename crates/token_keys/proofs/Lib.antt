@@ -1,0 +1,3 @@
+pub mod MadeLayers
+pub mod Plain
+pub mod Prims

@@ -1,0 +1,11 @@
+use mark_tables::assembly::Assembly;
+use mark_tables::marker::Marker;
+use moved_parts::NewTokens;
+
+/// An assembly of a world, and the numbers of the types that its tokens name.
+#[derive(Clone, Copy)]
+pub struct Keys<'a> {
+    pub marker: &'a Marker<'a>,
+    pub asm: Assembly<'a>,
+    pub numbers: &'a NewTokens,
+}
