@@ -5,7 +5,7 @@ ghost use Rattle.file_layout.specs.Heaps.{user_item};
 ghost use Rattle.file_layout.specs.Interning.{added};
 ghost use Rattle.merged_texts.specs.Texts.{text_number, texts_in, ArePlaces, numbered};
 
-use il_base::{NoMemory, Seq};
+use il_base::{NoMemory, Seq, table};
 use std::alloc::Global;
 use std::collections::HashMap;
 use world_model::UserText;
@@ -44,7 +44,7 @@ impl<'a> Places<'a> {
         Places {
             texts: Vec::new(alloc),
             tokens: HashMap::new(alloc),
-            end: 0x7000_0001,
+            end: u32::from(table::USER_STRING) * 0x100_0000 + 1,
         }
     }
 

@@ -1,6 +1,6 @@
 //! The visibility of types (II.23.1.15).
 
-ghost use Rattle.std.specs.Prelude.{◌≡◌};
+ghost use Rattle.std.specs.Prelude.{◌≡◌, bit_and};
 ghost use Rattle.merge_rules.specs.Names.{is_top_level};
 ghost use Rattle.merge_rules.specs.Moved.{without};
 ghost use Rattle.type_links.specs.Index.{IsIndex};
@@ -16,6 +16,13 @@ pub(crate) fn without(bits: u32, word: u32) -> u32
     ensures { result ≡ without bits word }
 {
     word.saturating_sub(word & bits)
+}
+
+/// The bits of a word under a mask.
+fn under(mask: u32, word: u32) -> u32
+    ensures { result ≡ bit_and word mask }
+{
+    word & mask
 }
 
 /// Whether a type is there and isn't nested.
@@ -40,7 +47,7 @@ pub(crate) fn visibility(index: &TypeIndex<'_>, internal: bool, at: RowAt, flags
     if internal
         && at.asm > 0
         && is_top_level(index, at)
-        && flags & type_flags::VISIBILITY_MASK == type_flags::PUBLIC
+        && under(type_flags::VISIBILITY_MASK, flags) == type_flags::PUBLIC
     {
         without(type_flags::VISIBILITY_MASK, flags)
     } else {
