@@ -1,0 +1,10 @@
+//! The MethodImpl rows of the output of a merge (II.22.27): in go a world with what is made of it once, the kept items with the tables of
+//! the output, and the new tokens of each assembly; out come the rows of kept classes whose body is kept or the core library's.
+//! `merge_rules/specs/Restricted` defines them.
+#![tactic(auto)]
+
+mod bodies;
+pub mod laws;
+mod rows;
+
+pub use rows::method_impls;
