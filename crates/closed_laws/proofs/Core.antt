@@ -1,20 +1,18 @@
 -- Types and methods of the core library are marked, shown and made.
-use Rattle.std.proofs.Common.{◌≡◌, ℕ, zero, suc, ◌+◌, ◌-◌, ◌<◌, ◌≤◌, Bool, true, false, nat_lt, List, [], ◌∷◌, ◌++◌, length, map, Option, Some, None, refl, sym, ap, subst, ◌∙◌, arith}
+use Rattle.std.proofs.Common.{◌≡◌, ℕ, ◌+◌, ◌-◌, ◌<◌, Bool, true, false, nat_lt, List, [], ◌∷◌, ◌++◌, length, map, Option, Some, None, refl, sym, ap, subst, ◌∙◌, arith}
 use Rattle.std.specs.Prelude.{IsTrue, slice_get, position, unwrap_or, ◌&&◌, if◌then◌else◌}
 use Rattle.std.specs.List.{position_or_len, flat_map}
 use Rattle.std.proofs.lemmas.Bool.{and_from, ltb-true}
 use Rattle.std.proofs.lemmas.List.{length-append}
 use Rattle.il_base.specs.declared.ids.TypeId.{TypeId}
-use Rattle.il_base.specs.declared.ids.MethodId.{MethodId}
 use Rattle.il_base.specs.declared.ids.Item.TheVariants as item
 use Rattle.world_model.specs.declared.types.TypeDefRow.{TypeDefRow}
 use Rattle.world_model.specs.declared.record.AsmRec.{AsmRec}
 use Rattle.world_model.specs.Worlds.{rows_before, type_id, core_types}
 use Rattle.core_table.specs.declared.names.CoreName.{CoreName}
-use Rattle.core_table.specs.declared.names.CoreName.TheVariants as core
 use Rattle.core_table.specs.declared.types.TheConstants.{TYPES}
-use Rattle.core_table.specs.Names.{text_of}
-use Rattle.core_table.specs.Record.{core_record, record_with, type_rows, all_methods}
+use Rattle.core_table.specs.Members.{methods_of}
+use Rattle.core_table.specs.Record.{core_record, record_with, type_rows, method_row, all_methods}
 use Rattle.link_rules.specs.declared.row_at.RowAt.{RowAt}
 use Rattle.link_rules.specs.declared.core_type_name.CoreTypeName.{CoreTypeName}
 use Rattle.link_rules.specs.CoreNames.{missing_names, added_row, core_with}
@@ -65,12 +63,16 @@ unfolding core_with
 rows_are names = refl
 
 method_count : length core_record.method_def ≡ length (flat_map names_of TYPES)
-unfolding core_record record_with all_methods
+unfolding core_record record_with all_methods method_row methods_of
 method_count = refl
+
+some_methods : nat_lt 0 (length (flat_map names_of TYPES)) ≡ true
+unfolding methods_of
+some_methods = refl
 
 method_below : (n : CoreName) → object_method n < length core_record.method_def
 unfolding object_method
-method_below n = let lt = position_below (is_name n) (flat_map names_of TYPES) (omega arith) in let same = method_count in omega (arith, lt, same)
+method_below n = let lt = position_below (is_name n) (flat_map names_of TYPES) (ltb-true 0 (length (flat_map names_of TYPES)) some_methods) in let same = method_count in omega (arith, lt, same)
 
 -- ---- in the world of the inputs
 

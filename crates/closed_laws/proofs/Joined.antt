@@ -1,5 +1,5 @@
 -- The laws on rows, methods and calls, joined.
-use Rattle.std.proofs.Common.{◌≡◌, List, Option, Some, sym, ap, ◌∙◌}
+use Rattle.std.proofs.Common.{List, Option, sym, ap, ◌∙◌}
 use Rattle.std.specs.Prelude.{ℕ, IsTrue}
 use Rattle.world_model.specs.declared.expr.TypeExpr.{TypeExpr}
 use Rattle.world_model.specs.declared.record.AsmRec.{AsmRec}
@@ -7,7 +7,7 @@ use Rattle.core_table.specs.declared.names.CoreName.TheVariants as core
 use Rattle.link_rules.specs.Linked.{assemblies}
 use Rattle.cil_values.specs.declared.definition.Method.{Method}
 use Rattle.view_rules.specs.Methods.{method_query}
-use Rattle.change_rules.specs.Keeps.{is_of, is_of_owner}
+use Rattle.change_rules.specs.Keeps.{is_of_owner}
 use Rattle.marked_laws.proofs.Joined.{rows_kept, implied_kept}
 use Rattle.marked_laws.proofs.Impls.{all_impls_kept}
 use Rattle.marked_code_laws.proofs.Methods.{methods_kept}

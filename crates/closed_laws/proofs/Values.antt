@@ -1,5 +1,5 @@
 -- Of a value type that is kept there can be values.
-use Rattle.std.proofs.Common.{◌≡◌, ℕ, zero, suc, Bool, true, false, List, [], Option, Some, None, refl, sym, ap, subst, ◌∙◌}
+use Rattle.std.proofs.Common.{◌≡◌, ℕ, zero, suc, Bool, true, false, List, [], Option, Some, None, refl, sym, ap, subst}
 use Rattle.std.specs.Prelude.{IsTrue, not, if◌then◌else◌}
 use Rattle.std.specs.Option.{is_some}
 use Rattle.il_base.specs.declared.ids.TypeId.{TypeId}
@@ -10,7 +10,6 @@ use Rattle.world_model.specs.Worlds.{types_in}
 use Rattle.link_rules.specs.declared.row_at.RowAt.{RowAt}
 use Rattle.link_rules.specs.Members.{type_home}
 use Rattle.link_rules.specs.Cycles.{is_value_type}
-use Rattle.type_rules.specs.Rows.{is_enum}
 use Rattle.query_laws.proofs.Ids.{has_number}
 use Rattle.descriptor_file.specs.declared.root.Root.{Root}
 use Rattle.mark_rules.specs.Facts.{Fact}
@@ -19,10 +18,10 @@ use Rattle.cil_values.specs.declared.layout.Shape.TheVariants as shape
 use Rattle.step_rules.specs.Closing.{plain}
 use Rattle.step_rules.specs.Frames.{definition_in, definition_of}
 use Rattle.step_rules.specs.Stores.{is_value_shape, is_value}
-use Rattle.view_rules.specs.Layouts.{fits_params, enum_shape, or_shape, value_shape, home_shape, shape_in, without_struct, most_nested, shape_within, shape_query}
+use Rattle.view_rules.specs.Layouts.{home_shape, shape_in, without_struct, most_nested, shape_within, shape_query}
 use Rattle.view_rules.specs.Answers.{queries_of}
 use Rattle.change_rules.specs.Change.{Keep}
-use Rattle.change_rules.specs.Keeps.{names_of, keeps_expr, parameter_passes, makes_expr}
+use Rattle.change_rules.specs.Keeps.{keeps_expr, parameter_passes, makes_expr}
 use Rattle.lock_words.proofs.Types.{plain_stays}
 use Rattle.lock_words.proofs.Definitions.{definition_kept}
 use Rattle.marked_laws.specs.Flags.{HasMarks, keep_of}

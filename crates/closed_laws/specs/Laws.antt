@@ -11,7 +11,7 @@ use Rattle.marked_code_laws.specs.Laws.{MethodsApart, FieldsApart, AreRead}
 use Rattle.marked_call_laws.specs.Laws.{HasFewTypes}
 
 -- what is so of files, and of a set without bad items
-pub record IsMarked (inputs : List AsmRec) (has : Fact → Bool) : Type 0 where
+pub record AreSound (inputs : List AsmRec) (has : Fact → Bool) : Type 0 where
   pub few : HasFewTypes inputs
   pub ends : RunsEnd (assemblies inputs)
   pub methods : MethodsApart (assemblies inputs)
@@ -20,5 +20,5 @@ pub record IsMarked (inputs : List AsmRec) (has : Fact → Bool) : Type 0 where
 
 abbrev pub MarkedClosed : Type 0
 MarkedClosed =
-    (inputs : List AsmRec) (entry : Option RowAt) (roots : List Root) (has : Fact → Bool) → link_fault_of inputs ≡ None → HasMarks (assemblies inputs) entry roots has → IsMarked inputs has
+    (inputs : List AsmRec) (entry : Option RowAt) (roots : List Root) (has : Fact → Bool) → link_fault_of inputs ≡ None → HasMarks (assemblies inputs) entry roots has → AreSound inputs has
     → Closed (keep_of (assemblies inputs) has) (kept_of (assemblies inputs) has) (assemblies inputs)
