@@ -1,0 +1,10 @@
+//! What the output of a merge refers to, each once, in the order in which it is met: in go a world with its keys (`world_keys`), the kept
+//! items, and the attributes that are written (`merged_attributes`); out come the types, signatures, members, methods with arguments and
+//! locals that have reference rows. `merge_rules/specs/Refs` defines them.
+#![tactic(auto)]
+
+mod met;
+mod references;
+
+pub use met::output_mets;
+pub use references::{OutputReferences, output_references};
