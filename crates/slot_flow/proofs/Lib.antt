@@ -1,3 +1,4 @@
+mod Alone
 pub mod Lists
 pub mod Rules
 pub mod Within

@@ -1,5 +1,5 @@
 -- Numbers below the universe fit.
-use Rattle.std.proofs.Common.{◌≡◌, ℕ, ◌+◌, ◌*◌, ◌<◌, ◌≤◌, arith}
+use Rattle.std.proofs.Common.{ℕ, ◌+◌, ◌*◌, ◌<◌, ◌≤◌, arith}
 use Rattle.std.proofs.lemmas.Nat.{mul-add-lt, mul-le}
 
 grows : (c m : ℕ) → 0 < c → m ≤ c * m

@@ -1,12 +1,11 @@
 -- What holds at first is below the universe.
-use Rattle.std.proofs.Common.{◌≡◌, ℕ, ◌+◌, ◌<◌, List, [], ◌∷◌, ◌++◌, ◌∙◌, ap, append_assoc, drop, length, get_or, arith, refl, sym, subst, ◌⊎◌, inl, inr}
-use Rattle.std.specs.Prelude.{Option, Some, None, slice_get}
-use Rattle.std.specs.List.{Contains, flat_map}
+use Rattle.std.proofs.Common.{◌≡◌, ℕ, ◌+◌, ◌<◌, List, ◌++◌, ◌∙◌, ap, append_assoc, drop, length, get_or, sym, subst, ◌⊎◌, inl, inr}
+use Rattle.std.specs.Prelude.{Option, None}
+use Rattle.std.specs.List.{Contains}
 use Rattle.std.proofs.lemmas.List.Elements.{Contains-append_cases, Contains-get_or}
-use Rattle.stack_depths.specs.Depths.{depth_at}
 use Rattle.slot_flow.specs.declared.moves.Flowing.{Flowing}
-use Rattle.slot_flow.specs.Carrying.{Held, held, born}
-use Rattle.slot_flow.specs.Facts.{flow_in, universe, fact_of, facts_of, begin_facts, taken_facts, born_facts, place_facts, root_facts, numbered}
+use Rattle.slot_flow.specs.Carrying.{held, born}
+use Rattle.slot_flow.specs.Facts.{flow_in, universe, fact_of, begin_facts, taken_facts, born_facts, place_facts, root_facts, numbered}
 use Rattle.slot_flow.specs.Laws.{fact_below, facts_below}
 use Rattle.slot_flow.proofs.Lists.{Among, from_flat, AmongNumbered, from_numbered, numbered_step}
 use Rattle.slot_flow.proofs.Rules.{born_facts_are}

@@ -1,5 +1,5 @@
 -- Facts are the numbers of what is sent and born.
-use Rattle.std.proofs.Common.{◌≡◌, ℕ, ◌+◌, ◌*◌, ◌/◌, ◌%◌, ◌<◌, List, [], ◌∷◌, ◌++◌, map, length, arith, refl, sym, ap, ◌∙◌, subst, Bool, true, false, ◌&&◌, lt-ltb, nat_lt}
+use Rattle.std.proofs.Common.{◌≡◌, ℕ, ◌+◌, ◌*◌, ◌/◌, ◌%◌, ◌<◌, List, [], ◌∷◌, ◌++◌, map, length, refl, sym, ap, ◌∙◌, Bool, true, false, ◌&&◌, lt-ltb, nat_lt}
 use Rattle.std.specs.Prelude.{Option, Some, None}
 use Rattle.std.specs.List.{Contains, filter, flat_map}
 use Rattle.std.proofs.lemmas.List.{append-nil}
@@ -10,7 +10,7 @@ use Rattle.stack_depths.specs.declared.exit.Exit.{Exit}
 use Rattle.stack_depths.specs.Depths.{depth_at}
 use Rattle.slot_flow.specs.declared.moves.Flowing.{Flowing}
 use Rattle.slot_flow.specs.declared.moves.Move.{Move}
-use Rattle.slot_flow.specs.Carrying.{Held, held, only_if, is_slot, lowest, through, made, is_handler, is_caught, passes, before, caught, arriving, along, sent_along, born_along, of_depth, at_instruction, sent, born}
+use Rattle.slot_flow.specs.Carrying.{Held, held, only_if, is_slot, through, made, is_handler, is_caught, passes, before, caught, arriving, along, sent_along, born_along, of_depth, sent, born}
 use Rattle.slot_flow.specs.Facts.{flow_in, turned, number, has_number, fact_of, facts_of, put_if, facts_along, sent_facts, born_along_facts, low_of, follows_by, born_facts, place_in, slot_in, source_in}
 use Rattle.slot_flow.specs.Laws.{Numbered, numbered_by}
 use Rattle.slot_flow.proofs.Lists.{from_only, to_only}

@@ -1,5 +1,5 @@
 -- Sources stay below their count.
-use Rattle.std.proofs.Common.{◌≡◌, ℕ, suc, ◌+◌, ◌<◌, ◌≤◌, List, [], ◌∷◌, ◌++◌, map, length, arith, refl, sym, ap, ◌∙◌, subst, ◌⊎◌, inl, inr, Bool, true, false, nat_eq, nat_lt, ◌&&◌, not, ltb-true}
+use Rattle.std.proofs.Common.{◌≡◌, ℕ, suc, ◌+◌, ◌<◌, ◌≤◌, List, [], ◌++◌, map, length, arith, refl, subst, ◌⊎◌, inl, inr, Bool, true, nat_eq, nat_lt, ◌&&◌, not, ltb-true}
 use Rattle.std.specs.Prelude.{Option, Some, None, slice_get, unwrap_or}
 use Rattle.std.specs.List.{Contains, filter, flat_map}
 use Rattle.std.proofs.lemmas.List.Elements.{Contains-append_cases}
@@ -11,7 +11,7 @@ use Rattle.slot_flow.specs.declared.moves.Turning.{Turning}
 use Rattle.slot_flow.specs.declared.moves.Turning.TheVariants as turning
 use Rattle.slot_flow.specs.declared.moves.Move.{Move}
 use Rattle.slot_flow.specs.declared.moves.Move.TheVariants as move
-use Rattle.slot_flow.specs.Carrying.{Held, held, only_if, stays, is_slot, is_slot_by, lowest, through, made, is_handler, is_caught, passes, before, caught, arriving, along, sent_along, born_along, of_depth, sent, born}
+use Rattle.slot_flow.specs.Carrying.{Held, only_if, stays, is_slot, is_slot_by, through, made, is_handler, is_caught, passes, before, caught, arriving, along, sent_along, born_along, of_depth, sent, born}
 use Rattle.slot_flow.specs.Facts.{flow_in, turned, low_of, IsWithin}
 use Rattle.slot_flow.proofs.Lists.{Among, from_flat, from_only, from_map, from_filter}
 

@@ -1,5 +1,5 @@
 -- Sources in slots as numbers, for a flow whose sources are numbers.
-use Rattle.std.specs.Prelude.{◌≡◌, ℕ, ◌+◌, ◌*◌, ◌/◌, ◌%◌, ◌<◌, ◌≤◌, Bool, true, false, ◌&&◌, nat_lt, List, [], ◌∷◌, ◌++◌, length, map, slice_get, unwrap_or, Option, Some, ◌↔◌, IsTrue}
+use Rattle.std.specs.Prelude.{◌≡◌, ℕ, ◌+◌, ◌*◌, ◌/◌, ◌%◌, ◌<◌, ◌≤◌, Bool, true, false, ◌&&◌, nat_lt, List, [], ◌∷◌, ◌++◌, length, map, slice_get, unwrap_or, Some, ◌↔◌, IsTrue}
 use Rattle.std.specs.List.{Contains, filter, flat_map}
 use Rattle.stack_depths.specs.declared.exit.Step.{Step}
 use Rattle.stack_depths.specs.declared.exit.Exit.{Exit}
@@ -7,7 +7,6 @@ use Rattle.stack_depths.specs.Depths.{depth_at}
 use Rattle.slot_flow.specs.declared.moves.Flowing.{Flowing}
 use Rattle.slot_flow.specs.declared.moves.Turning.{Turning}
 use Rattle.slot_flow.specs.declared.moves.Turning.TheVariants as turning
-use Rattle.slot_flow.specs.declared.moves.Move.{Move}
 use Rattle.slot_flow.specs.declared.moves.Move.TheVariants as move
 use Rattle.il_base.specs.declared.bits.Bits.{Bits}
 use Rattle.closure.specs.Facts.{facts_in, Derived}

@@ -1,5 +1,5 @@
 -- What follows from a fact is below the universe.
-use Rattle.std.specs.Prelude.{◌≡◌, ℕ, ◌+◌, ◌*◌, ◌<◌, Bool, true, false, ◌&&◌, nat_lt, List, [], ◌∷◌, ◌++◌, length, map, slice_get, Option, Some, None}
+use Rattle.std.specs.Prelude.{◌≡◌, ℕ, ◌+◌, ◌*◌, ◌<◌, Bool, true, false, ◌&&◌, nat_lt, List, [], ◌∷◌, length, map, slice_get, Option, Some, None}
 use Rattle.std.specs.List.{Contains, filter, flat_map}
 use Rattle.std.proofs.Common.{zero, suc, refl, subst, sym, arith, ltb-true, zero-mul, ◌⊎◌, inl, inr}
 use Rattle.std.proofs.lemmas.Nat.{mul-add-lt}
@@ -101,3 +101,6 @@ stays_below f size whole fact c t = subst (λ (x : ℕ). c < x) (sym whole) (fol
 pub positive : (count rest size fact : ℕ) → size ≡ count * rest → fact < size → 0 < count
 positive zero rest size fact e h = let z : zero * rest ≡ 0 = zero-mul rest in omega arith
 positive (suc count) rest size fact e h = omega arith
+
+pub nothing_below : (size c : ℕ) → Contains [] c → c < size
+nothing_below size c (k, inside, e) = absurd (omega arith)

@@ -6,8 +6,8 @@ ghost use Rattle.slot_flow.specs.Facts.{number, place_in, slot_in, source_in, un
 
 use crate::facts::{follow, root_facts};
 use crate::moves::Flowing;
-use closure::{Rules, least};
 use il_base::{Bits, NoMemory, Seq};
+use queued_closure::{Rules, least};
 use std::alloc::Global;
 
 /// What follows from a source in a slot, as rules over numbers.
@@ -57,26 +57,37 @@ fn size_of(f: &Flowing<'_>) -> Result<u32, NoMemory>
 }
 
 impl Rules for Walks<'_> {
+    ghost use Rattle.std.specs.Prelude.{[]};
     ghost use Rattle.std.specs.List.{Contains};
     ghost use Rattle.slot_flow.specs.Facts.{follows};
-    ghost use Rattle.slot_flow.specs.Laws.{stays_below};
+    ghost use Rattle.slot_flow.specs.Laws.{stays_below, nothing_below};
+
+    ghost ready = { λ w. Unit {0} };
 
     ghost universe_of = { λ w. w.size };
 
-    ghost brings = { λ w have fact c. Contains (follows w.flow fact) c };
+    ghost alone = { λ w fact c. Contains (follows w.flow fact) c };
 
-    ghost stays_below = { λ w have fact c below brought. stays_below w.flow w.size w.whole fact c brought };
+    ghost joined = { λ w have fact c. Contains [] c };
 
-    ghost is_monotone = { λ w few many fact c below within brought. brought };
+    ghost alone_below = { λ w fact c ready below brought. stays_below w.flow w.size w.whole fact c brought };
+
+    ghost joined_below = { λ w have fact c ready below brought. nothing_below w.size c brought };
+
+    ghost is_monotone = { λ w few many fact c ready below within brought. brought };
 
     fn universe(&self) -> u32 {
         self.size
     }
 
-    fn consequences(&self, alloc: Global, _have: &Bits, fact: u32) -> Result<Seq<u32>, NoMemory> {
+    fn brought_alone(&self, alloc: Global, fact: u32) -> Result<Seq<u32>, NoMemory> {
         let (at, slot, source) = spot_of(&self.flow, fact);
         let facts = follow(alloc, &self.flow, at, slot, source)?;
         Ok(facts)
+    }
+
+    fn brought_with(&self, alloc: Global, _have: &Bits, _fact: u32) -> Result<Seq<u32>, NoMemory> {
+        Ok(Seq::new(alloc))
     }
 }
 
