@@ -1,0 +1,8 @@
+use Rattle.std.proofs.Common.{sym, subst}
+use Rattle.world_model.specs.declared.world.World.{World}
+use Rattle.value_flow.specs.Flows.{IsItsGraph}
+use Rattle.flow_tests.proofs.tests.wrong_in.Goals as goal
+
+pub of-requires-2-clause-graph : goal.of-requires-2-clause-graph
+of-requires-2-clause-graph c =
+    subst (λ (w : World). IsItsGraph w.recs (record { 0 = c.args.m }) c.in-Ok.graph) (sym c.in_ok-types.ensures) c.in-Ok.ensures

@@ -1,0 +1,173 @@
+//! Which sources are in which slots. The slots are the argument, 0, the local, 1, and the stack from 2 on.
+
+ghost use Rattle.link_rules.specs.Linked.{IsWorld};
+
+use crate::build::world;
+use body_graph::Graph;
+use flow_rules::Source;
+use il_base::{MethodId, NoMemory};
+use std::alloc::Global;
+use std::test::Fail;
+use type_system::Types;
+use value_flow::Flow;
+use world_model::World;
+
+/// The sources of the bodies.
+#[derive(Clone, Copy, Debug, PartialEq, Eq)]
+enum Known {
+    Null,
+    Opaque,
+    Argument,
+    /// The handle of the class C.
+    Handle,
+    /// The text `A`.
+    Text,
+    Other,
+}
+
+fn kind_of(s: &Source) -> Known {
+    match s {
+        Source::Null => Known::Null,
+        Source::Opaque => Known::Opaque,
+        Source::Parameter(0) => Known::Argument,
+        Source::KnownHandle(t) => if t.0 == 2 {
+            Known::Handle
+        } else {
+            Known::Other
+        },
+        Source::KnownText(text) => {
+            if text.as_slice() == [0x41].as_slice() {
+                Known::Text
+            } else {
+                Known::Other
+            }
+        }
+        _ => Known::Other,
+    }
+}
+
+/// Whether exactly these sources are in a slot at the instruction at an offset.
+fn holds(flow: &Flow<'_>, at: u32, slot: u32, wanted: &[Known]) -> bool {
+    let mut found = 0usize;
+    for (k, s) in flow.sources().as_slice().iter().enumerate() {
+        let Ok(k) = u32::try_from(k) else {
+            return false;
+        };
+        if flow.has(at, slot, k) {
+            if !wanted.contains(&kind_of(s)) {
+                return false;
+            }
+            found = found.saturating_add(1);
+        }
+    }
+    found == wanted.len()
+}
+
+/// An offset, a slot, and what has to be there.
+type Row<'a> = (u32, u32, &'a [Known]);
+
+/// The first row that isn't so, by its offset and its slot.
+fn first_wrong(flow: &Flow<'_>, rows: &[Row<'_>]) -> Option<(u32, u32)> {
+    for row in rows {
+        if !holds(flow, row.0, row.1, row.2) {
+            return Some((row.0, row.1));
+        }
+    }
+    None
+}
+
+/// The first row of a method that isn't so.
+fn wrong_in(
+    alloc: Global,
+    world: &World,
+    m: u32,
+    rows: &[Row<'_>],
+) -> Result<Option<(u32, u32)>, Fail>
+    requires { IsWorld world.now }
+{
+    let types = Types::new(alloc, world)?;
+    let Ok(graph) = Graph::of(alloc, world, MethodId(m)) else {
+        return Err("no graph".into());
+    };
+    let Ok(flow) = Flow::of(alloc, &types, &graph, MethodId(m)) else {
+        return Err("no flow".into());
+    };
+    Ok(first_wrong(&flow, rows))
+}
+
+/// The handler sees the local as it is before each instruction of the block and after it, and behind a store only what was stored.
+#[test]
+fn from_a_try_block_into_its_handler(rt: HostRuntime) -> Result<(), Fail> {
+    let alloc = rt.alloc();
+    let world = world(alloc)?;
+    let rows: &[Row<'_>] = &[
+        (2, 1, &[Known::Null]),
+        (7, 2, &[Known::Handle]),
+        (8, 1, &[Known::Handle]),
+        (13, 2, &[Known::Opaque]),
+        (14, 1, &[Known::Null, Known::Handle]),
+        (14, 2, &[Known::Opaque]),
+        (16, 2, &[Known::Null, Known::Handle]),
+        (21, 3, &[Known::Text]),
+        (25, 0, &[Known::Argument]),
+        (25, 1, &[Known::Null, Known::Handle]),
+        (25, 2, &[]),
+    ];
+    let wrong = wrong_in(alloc, &world, 0, rows)?;
+    assert_eq!(rt; wrong, None);
+    Ok(())
+}
+
+/// A conditional branch goes on both ways; nothing goes on behind `throw`.
+#[test]
+fn along_branches(rt: HostRuntime) -> Result<(), Fail> {
+    let alloc = rt.alloc();
+    let world = world(alloc)?;
+    let rows: &[Row<'_>] = &[
+        (3, 0, &[Known::Argument]),
+        (4, 2, &[Known::Null]),
+        (6, 0, &[Known::Argument, Known::Null]),
+        (7, 2, &[Known::Argument, Known::Null]),
+        (8, 0, &[]),
+    ];
+    let wrong = wrong_in(alloc, &world, 1, rows)?;
+    assert_eq!(rt; wrong, None);
+    Ok(())
+}
+
+/// A `switch` goes to each target and to the next instruction; nothing goes on behind `ret`.
+#[test]
+fn along_a_switch(rt: HostRuntime) -> Result<(), Fail> {
+    let alloc = rt.alloc();
+    let world = world(alloc)?;
+    let rows: &[Row<'_>] = &[
+        (14, 0, &[Known::Argument]),
+        (18, 2, &[Known::Argument]),
+        (25, 2, &[Known::Null, Known::Argument, Known::Text]),
+        (26, 2, &[]),
+        (27, 0, &[]),
+    ];
+    let wrong = wrong_in(alloc, &world, 2, rows)?;
+    assert_eq!(rt; wrong, None);
+    Ok(())
+}
+
+/// `leave` goes to the handler, and the end of the handler to what comes next for each `leave`, not to the next instruction.
+#[test]
+fn through_a_finally_handler(rt: HostRuntime) -> Result<(), Fail> {
+    let alloc = rt.alloc();
+    let world = world(alloc)?;
+    let rows: &[Row<'_>] = &[
+        (9, 1, &[Known::Text]),
+        (11, 1, &[Known::Null]),
+        (17, 1, &[Known::Handle]),
+        (19, 1, &[Known::Null, Known::Text, Known::Handle]),
+        (21, 0, &[]),
+        (22, 1, &[Known::Null, Known::Text, Known::Handle]),
+        (25, 2, &[Known::Null, Known::Text, Known::Handle]),
+        (26, 2, &[]),
+    ];
+    let wrong = wrong_in(alloc, &world, 3, rows)?;
+    assert_eq!(rt; wrong, None);
+    Ok(())
+}
