@@ -1,3 +1,4 @@
 pub mod Core
 pub mod Values
 pub mod Joined
+pub mod Exact

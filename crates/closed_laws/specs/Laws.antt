@@ -1,10 +1,12 @@
 -- Where the marked set is kept, all that a step of a kept method can reach is kept, in a world of files that link.
-use Rattle.std.specs.Prelude.{◌≡◌, List, Option, None, Bool}
+use Rattle.std.specs.Prelude.{◌≡◌, List, Option, None, Bool, not, ◌||◌, IsTrue, ◌↔◌}
 use Rattle.world_model.specs.declared.record.AsmRec.{AsmRec}
 use Rattle.link_rules.specs.declared.row_at.RowAt.{RowAt}
 use Rattle.link_rules.specs.Linked.{assemblies, link_fault_of}
 use Rattle.descriptor_file.specs.declared.root.Root.{Root}
 use Rattle.mark_rules.specs.Facts.{Fact}
+use Rattle.mark_rules.specs.Marking.{Marks}
+use Rattle.mark_numbers.specs.Numbers.{is_there}
 use Rattle.agree_laws.specs.Closed.{Closed}
 use Rattle.marked_laws.specs.Flags.{HasMarks, keep_of, kept_of, RunsEnd}
 use Rattle.marked_code_laws.specs.Laws.{MethodsApart, FieldsApart, AreRead}
@@ -22,3 +24,9 @@ abbrev pub MarkedClosed : Type 0
 MarkedClosed =
     (inputs : List AsmRec) (entry : Option RowAt) (roots : List Root) (has : Fact → Bool) → link_fault_of inputs ≡ None → HasMarks (assemblies inputs) entry roots has → AreSound inputs has
     → Closed (keep_of (assemblies inputs) has) (kept_of (assemblies inputs) has) (assemblies inputs)
+
+-- Flags that are exact for the facts whose item or type is there give one for each fact, if the others are set.
+abbrev pub ExactMarks : Type 0
+ExactMarks =
+    (recs : List AsmRec) (entry : Option RowAt) (roots : List Root) (holds : Fact → Bool) → ((f : Fact) → IsTrue (is_there recs f) → IsTrue (holds f) ↔ Marks recs entry roots f)
+    → HasMarks recs entry roots (λ f. not (is_there recs f) || holds f)

@@ -1,6 +1,11 @@
-ghost use Rattle.closed_laws.specs.Laws.{MarkedClosed};
+ghost use Rattle.closed_laws.specs.Laws.{MarkedClosed, ExactMarks};
 
 /// A law: where the marked set is kept, all that a step of a kept method can reach is kept. It does nothing.
 pub fn marked_closed()
     ensures { MarkedClosed }
+{}
+
+/// A law: flags that are exact where facts are there follow the rules of marking. It does nothing.
+pub fn exact_marks()
+    ensures { ExactMarks }
 {}

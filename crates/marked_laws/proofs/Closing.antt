@@ -17,7 +17,7 @@ use Rattle.link_rules.specs.Cycles.{listed}
 use Rattle.type_laws.proofs.Within.{In, in_front, in_behind, listed_in, flat_in}
 use Rattle.walk_laws.proofs.Finds.{contains}
 use Rattle.descriptor_file.specs.declared.root.Root.{Root}
-use Rattle.mark_rules.specs.Facts.{Fact, Derived}
+use Rattle.mark_rules.specs.Facts.{Fact}
 use Rattle.mark_rules.specs.Facts.Fact.{marked, instantiated, shown}
 use Rattle.mark_rules.specs.Places.{row_of, is_core}
 use Rattle.mark_rules.specs.Naming.{Named, Part, of_known, of_named, of_parts}
@@ -25,7 +25,7 @@ use Rattle.mark_rules.specs.Attributes.{attribute_needs}
 use Rattle.mark_rules.specs.Dependencies.{dependency_needs}
 use Rattle.mark_rules.specs.Roots.{waiting_facts}
 use Rattle.mark_rules.specs.Shown.{arguments_of_part, arguments_of_parts, showing_parts, shown_by_item, item_shows, shows}
-use Rattle.mark_rules.specs.Marking.{row_needs, item_needs, one, of_rows, two, of_three, three, is_core_fact, given, marking, Marks}
+use Rattle.mark_rules.specs.Marking.{row_needs, item_needs, one, of_rows, two, of_three, three, is_core_fact, given}
 use Rattle.mark_rules.specs.Types.{rows_for}
 use Rattle.mark_rules.specs.Calls.{class_runs, interface_runs}
 use Rattle.marked_laws.specs.Flags.{HasMarks}
@@ -45,43 +45,21 @@ pub in_arguments_of : (parts : List Part) (p : Part) (n : Named) (t : TypeId) �
 in_arguments_of parts p n t i e h = flat_in (λ (p : Part). arguments_of_part p.named) t p parts i (subst (λ (k : Known Named). In t (arguments_of_part k)) (sym e) h)
 
 module _ (recs : List AsmRec) (entry : Option RowAt) (roots : List Root) (has : Fact → Bool) (m : HasMarks recs entry roots has) where
-  pub derived : (f : Fact) → IsTrue (has f) → Marks recs entry roots f
-  derived f h = (m.decides f).0 h
-
-  pub holds : (f : Fact) → Marks recs entry roots f → IsTrue (has f)
-  holds f d = (m.decides f).1 d
-
   given_core : (f : Fact) → is_core_fact recs f ≡ true → IsTrue (given recs entry roots f)
   unfolding given
   given_core f h = or_left (is_core_fact recs f) _ h
 
-  core_start : (f : Fact) → IsTrue (given recs entry roots f) → Marks recs entry roots f
-  unfolding marking
-  core_start f h = Derived.start f h
-
   pub by_core : (i : Item) → is_core recs i ≡ true → IsTrue (has (marked i))
-  by_core i h = holds (marked i) (core_start (marked i) (given_core (marked i) h))
-
-  one_step : (a f : Fact) → Marks recs entry roots a → In f (one recs roots a) → Marks recs entry roots f
-  unfolding marking
-  one_step a f d i = Derived.by_one a f d (contains (one recs roots a) f i)
+  by_core i h = m.start (marked i) (given_core (marked i) h)
 
   pub by_one : (a f : Fact) → IsTrue (has a) → In f (one recs roots a) → IsTrue (has f)
-  by_one a f h i = holds f (one_step a f (derived a h) i)
-
-  two_step : (a b f : Fact) → Marks recs entry roots a → Marks recs entry roots b → In f (two recs a b) → Marks recs entry roots f
-  unfolding marking
-  two_step a b f d e i = Derived.by_two a b f d e (contains (two recs a b) f i)
+  by_one a f h i = m.by_one a f h (contains (one recs roots a) f i)
 
   pub by_two : (a b f : Fact) → IsTrue (has a) → IsTrue (has b) → In f (two recs a b) → IsTrue (has f)
-  by_two a b f h g i = holds f (two_step a b f (derived a h) (derived b g) i)
-
-  three_step : (a b c f : Fact) → Marks recs entry roots a → Marks recs entry roots b → Marks recs entry roots c → In f (three recs a b c) → Marks recs entry roots f
-  unfolding marking
-  three_step a b c f d e g i = Derived.by_three a b c f d e g (contains (three recs a b c) f i)
+  by_two a b f h g i = m.by_two a b f h g (contains (two recs a b) f i)
 
   pub by_three : (a b c f : Fact) → IsTrue (has a) → IsTrue (has b) → IsTrue (has c) → In f (three recs a b c) → IsTrue (has f)
-  by_three a b c f h g u i = holds f (three_step a b c f (derived a h) (derived b g) (derived c u) i)
+  by_three a b c f h g u i = m.by_three a b c f h g u (contains (three recs a b c) f i)
 
   -- ---- what a marked item needs by its row
 

@@ -1,7 +1,6 @@
 -- What is kept where the marked set is kept: the flags of a change (`change_rules/specs/Change`), by which facts are marked.
-use Rattle.std.specs.Prelude.{◌≡◌, ◌≤◌, ℕ, suc, List, length, Option, Some, slice_get, Bool, not, ◌&&◌, ◌||◌}
-use Rattle.std.specs.Bool.{Decides}
-use Rattle.std.specs.List.{list_any, range_with_len}
+use Rattle.std.specs.Prelude.{◌≡◌, ◌≤◌, ℕ, suc, List, length, Option, Some, slice_get, Bool, not, ◌&&◌, ◌||◌, IsTrue}
+use Rattle.std.specs.List.{Contains, list_any, range_with_len}
 use Rattle.std.specs.Option.{is_some, option_map}
 use Rattle.il_base.specs.declared.ids.TypeId.{TypeId}
 use Rattle.il_base.specs.declared.ids.MethodId.{MethodId}
@@ -19,12 +18,15 @@ use Rattle.descriptor_file.specs.declared.root.Root.{Root}
 use Rattle.mark_rules.specs.Facts.{Fact}
 use Rattle.mark_rules.specs.Facts.Fact.{marked, instantiated, shown}
 use Rattle.mark_rules.specs.Places.{is_core, marks_method, marks_field, impl_item}
-use Rattle.mark_rules.specs.Marking.{Marks}
+use Rattle.mark_rules.specs.Marking.{given, one, two, three}
 use Rattle.change_rules.specs.Change.{Keep}
 
--- a flag for each fact, set exactly where the rules derive it
+-- a flag for each fact, set for those that are given, and for what the rules bring of facts whose flags are set
 pub record HasMarks (recs : List AsmRec) (entry : Option RowAt) (roots : List Root) (has : Fact → Bool) : Type 0 where
-  pub decides : (f : Fact) → Decides (has f) (Marks recs entry roots f)
+  pub start : (f : Fact) → IsTrue (given recs entry roots f) → IsTrue (has f)
+  pub by_one : (a f : Fact) → IsTrue (has a) → Contains (one recs roots a) f → IsTrue (has f)
+  pub by_two : (a b f : Fact) → IsTrue (has a) → IsTrue (has b) → Contains (two recs a b) f → IsTrue (has f)
+  pub by_three : (a b c f : Fact) → IsTrue (has a) → IsTrue (has b) → IsTrue (has c) → Contains (three recs a b c) f → IsTrue (has f)
 
 abbrev pub type_numbered : ℕ → TypeId
 type_numbered n = record { 0 = n }
