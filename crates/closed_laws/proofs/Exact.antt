@@ -1,5 +1,5 @@
 -- A fact that brings something is there, so flags that are exact where facts are there follow the rules.
-use Rattle.std.proofs.Common.{◌≡◌, Bool, true, false, List, Option, refl, sym, ◌∙◌}
+use Rattle.std.proofs.Common.{◌≡◌, Bool, true, false, List, Option, refl}
 use Rattle.std.specs.Prelude.{IsTrue, not, ◌||◌, ◌↔◌}
 use Rattle.std.specs.List.{Contains}
 use Rattle.world_model.specs.declared.record.AsmRec.{AsmRec}

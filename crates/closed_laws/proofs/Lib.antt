@@ -2,3 +2,4 @@ pub mod Core
 pub mod Values
 pub mod Joined
 pub mod Exact
+pub mod Readings

@@ -6,6 +6,7 @@ use Rattle.link_rules.specs.Linked.{assemblies, link_fault_of}
 use Rattle.descriptor_file.specs.declared.root.Root.{Root}
 use Rattle.mark_rules.specs.Facts.{Fact}
 use Rattle.mark_rules.specs.Marking.{Marks}
+use Rattle.mark_rules.specs.BadItems.{IsFirstFlaw}
 use Rattle.mark_numbers.specs.Numbers.{is_there}
 use Rattle.agree_laws.specs.Closed.{Closed}
 use Rattle.marked_laws.specs.Flags.{HasMarks, keep_of, kept_of, RunsEnd}
@@ -30,3 +31,9 @@ abbrev pub ExactMarks : Type 0
 ExactMarks =
     (recs : List AsmRec) (entry : Option RowAt) (roots : List Root) (holds : Fact → Bool) → ((f : Fact) → IsTrue (is_there recs f) → IsTrue (holds f) ↔ Marks recs entry roots f)
     → HasMarks recs entry roots (λ f. not (is_there recs f) || holds f)
+
+-- Where flags are exact and no marked item is bad, signatures and locals of marked methods with bodies have a reading.
+abbrev pub MarkedReads : Type 0
+MarkedReads =
+    (inputs : List AsmRec) (entry : Option RowAt) (roots : List Root) (holds : Fact → Bool) → ((f : Fact) → IsTrue (is_there (assemblies inputs) f) → IsTrue (holds f) ↔ Marks (assemblies inputs) entry roots f)
+    → IsFirstFlaw (assemblies inputs) entry (Marks (assemblies inputs) entry roots) None → AreRead (assemblies inputs) (λ f. not (is_there (assemblies inputs) f) || holds f)
