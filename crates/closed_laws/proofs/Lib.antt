@@ -3,3 +3,5 @@ pub mod Values
 pub mod Joined
 pub mod Exact
 pub mod Readings
+pub mod Runs
+pub mod Trims
