@@ -40,7 +40,7 @@ EXCEPTIONS = {
 }
 # Thin records and their crates name tables and tokens by their numbers.
 THIN = re.compile(r"crates/(?:thin_\w+|trim_\w+|restriction|agreement|written_\w+)/|crates/world_model/specs/Thin\.antt")
-SKIPPED = re.compile(r"/tests(?:/|\.rt$)|/specs/(?:Sample|Examples)\.antt$")
+SKIPPED = re.compile(r"^crates/\w+_tests/|/tests(?:/|\.rt$)|/specs/(?:Sample|Examples)\.antt$")
 
 
 def plain(path, line):
