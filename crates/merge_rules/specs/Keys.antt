@@ -215,14 +215,21 @@ abbrev pub is_plain_input : List AsmRec → Option RowAt → Bool
 is_plain_input recs owner =
     list_any (λ (t : RowAt). nat_lt (suc t.asm) (length recs) && list_any (λ (rec : AsmRec). param_count rec t.row == 0) (listed (rec_at recs t))) (listed owner)
 
+-- not written with type arguments: a type without parameters that has some names nothing that runs
+abbrev pub is_bare_in : TypeExpr-F TypeExpr → Bool
+is_bare_in (TypeExpr-F.Inst t args) = false
+is_bare_in _ = true
+
+-- an owner that is a type of an input that isn't generic, and is written so
+abbrev pub is_plain_owner : List AsmRec → TypeExpr → Bool
+is_plain_owner recs e = is_bare_in (out-TypeExpr e) && is_plain_input recs (option_and_then (type_home recs) (owner_of recs e))
+
 -- A MethodDef token keeps naming its row, and so does a reference to a method of an input's type that isn't generic.
 abbrev pub method_key_of : List AsmRec → Bool → MethodUse → MethodKey
-method_key_of recs own u =
-    if own || is_plain_input recs (option_and_then (type_home recs) (owner_of recs u.owner)) then own_method u.method else found_method u.method u.owner
+method_key_of recs own u = if own || is_plain_owner recs u.owner then own_method u.method else found_method u.method u.owner
 
 abbrev pub field_key_of : List AsmRec → Bool → FieldUse → FieldKey
-field_key_of recs own u =
-    if own || is_plain_input recs (option_and_then (type_home recs) (owner_of recs u.owner)) then own_field u.field else found_field u.field u.owner
+field_key_of recs own u = if own || is_plain_owner recs u.owner then own_field u.field else found_field u.field u.owner
 
 abbrev pub good : {A : Type 0} → Known A → Option A
 good (Good x) = Some x

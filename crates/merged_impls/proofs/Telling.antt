@@ -3,19 +3,18 @@ use Rattle.std.proofs.Common.{◌≡◌, ℕ, suc, ◌+◌, arith, Bool, true, f
 use Rattle.std.proofs.lemmas.List.{append-nil}
 use Rattle.std.specs.Prelude.{slice_get, ◌||◌, ◌==◌, if◌then◌else◌}
 use Rattle.std.specs.List.{list_any, flat_map}
-use Rattle.std.specs.Option.{option_map, option_and_then}
+use Rattle.std.specs.Option.{option_map}
 use Rattle.il_base.specs.declared.table.TheConstants.{TYPE_DEF, METHOD_DEF}
 use Rattle.world_model.specs.declared.expr.MethodUse.{MethodUse}
 use Rattle.world_model.specs.declared.members.MethodImplRow.{MethodImplRow}
 use Rattle.world_model.specs.declared.record.AsmRec.{AsmRec}
 use Rattle.world_model.specs.Tokens.{table_of}
-use Rattle.link_rules.specs.Members.{type_home, owner_of}
 use Rattle.link_rules.specs.Cycles.{listed}
 use Rattle.type_rules.specs.Rows.{each_from}
 use Rattle.mark_rules.specs.Naming.{method_named}
 use Rattle.merge_rules.specs.Numbers.{Kept, inputs_from}
 use Rattle.merge_rules.specs.Sorted.{by_key}
-use Rattle.merge_rules.specs.Keys.{own_method, found_method, is_plain_input, good, method_key, method_key_of}
+use Rattle.merge_rules.specs.Keys.{own_method, found_method, is_plain_owner, good, method_key, method_key_of}
 use Rattle.merge_rules.specs.Order.{is_kept_method}
 use Rattle.merge_rules.specs.Refs.{Output}
 use Rattle.merge_rules.specs.Restricted.{new_method_impl, method_impls}
@@ -41,7 +40,7 @@ module _ (recs : List AsmRec) (kept : Kept) (own : Bool) where
   by_case u false = refl
 
   use_case : (u : MethodUse) → is_kept_use recs kept u ≡ is_kept_method recs kept (method_key_of recs own u)
-  use_case u = by_case u (own || is_plain_input recs (option_and_then (type_home recs) (owner_of recs u.owner)))
+  use_case u = by_case u (own || is_plain_owner recs u.owner)
 
   uses_same : (o : Option MethodUse) → has_kept_use recs kept o ≡ list_any (is_kept_method recs kept) (listed (option_map (method_key_of recs own) o))
   uses_same None = refl

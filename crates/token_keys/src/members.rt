@@ -10,7 +10,8 @@ ghost use Rattle.link_rules.specs.Cycles.{listed};
 ghost use Rattle.type_rules.specs.Rows.{rec_at};
 ghost use Rattle.mark_rules.specs.Naming.{method_named, field_named};
 ghost use Rattle.mark_tables.specs.Assemblies.{all_of, IsMarker};
-ghost use Rattle.merge_rules.specs.Keys.{good, is_plain_input, method_key_of, field_key_of, method_key, field_key, instance_by, instance_key};
+ghost use Rattle.world_model.specs.declared.expr.TypeExpr.{out-TypeExpr};
+ghost use Rattle.merge_rules.specs.Keys.{good, is_bare_in, is_plain_input, is_plain_owner, method_key_of, field_key_of, method_key, field_key, instance_by, instance_key};
 ghost use Rattle.key_codes.specs.Keys as coded;
 ghost use Rattle.token_keys.specs.Keys.{IsKeys, recs_of, place_of, rec_of};
 ghost use Rattle.token_keys.specs.Instances.{made_instance};
@@ -55,17 +56,45 @@ fn is_plain_input(marker: &Marker<'_>, owner: Option<RowAt>) -> Result<bool, NoM
     Ok(is)
 }
 
+/// Whether a type isn't written with type arguments.
+fn is_bare(owner: &TypeExpr) -> bool
+    ensures { result ≡ is_bare_in (out-TypeExpr owner.now) }
+{
+    match owner {
+        TypeExpr::Inst(_, _) => false,
+        TypeExpr::Prim(_)
+        | TypeExpr::Def(_)
+        | TypeExpr::Array(_)
+        | TypeExpr::ByRef(_)
+        | TypeExpr::Var(_)
+        | TypeExpr::MVar(_)
+        | TypeExpr::Mod { .. } => true,
+    }
+}
+
+/// Whether an owner is a type of an input that isn't generic, and is written so.
+fn is_plain_owner(marker: &Marker<'_>, owner: &TypeExpr) -> Result<bool, NoMemory>
+    requires { IsMarker marker.now }
+    ensures { IfOk result (λ is. is ≡ is_plain_owner (all_of marker.now) owner.now) }
+{
+    if !is_bare(owner) {
+        return Ok(false);
+    }
+    let home = definition(marker.tables.world.recs.as_slice(), owner)?;
+    let is = is_plain_input(marker, home)?;
+    Ok(is)
+}
+
 /// Whether a member of an owner is named by its own row: where it is named by its own token, or the owner is an input's and isn't
 /// generic.
 fn is_own(marker: &Marker<'_>, own: bool, owner: &TypeExpr) -> Result<bool, NoMemory>
     requires { IsMarker marker.now }
-    ensures { IfOk result (λ is. is ≡ (own || is_plain_input (all_of marker.now) (option_and_then (type_home (all_of marker.now)) (owner_of (all_of marker.now) owner.now)))) }
+    ensures { IfOk result (λ is. is ≡ (own || is_plain_owner (all_of marker.now) owner.now)) }
 {
     if own {
         return Ok(true);
     }
-    let home = definition(marker.tables.world.recs.as_slice(), owner)?;
-    let is = is_plain_input(marker, home)?;
+    let is = is_plain_owner(marker, owner)?;
     Ok(is)
 }
 
