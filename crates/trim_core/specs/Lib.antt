@@ -1,3 +1,4 @@
 pub mod Told
 pub mod Places
 pub mod Trim
+pub mod Colliding
