@@ -52,19 +52,36 @@ fault_from i (d ∷ ds) = or_fault (fault_in i d) (fault_from (suc i) ds)
 
 -- ---- those of a trim: input by input, and then the named ones
 
-abbrev pub all_descriptors : List AsmRec → List (List ℕ) → List (Option (List ℕ))
-all_descriptors inputs named = map (λ (rec : AsmRec). rec.descriptor) inputs ++ map (λ d. Some d) named
+abbrev pub embedded : List AsmRec → List (Option (List ℕ))
+embedded inputs = map (λ (rec : AsmRec). rec.descriptor) inputs
+
+abbrev pub given : List (List ℕ) → List (Option (List ℕ))
+given named = map (λ d. Some d) named
 
 -- the elements of all descriptors, where each can be read
 abbrev pub roots_of : List AsmRec → List (List ℕ) → List Root
-roots_of inputs named = roots_from 0 (all_descriptors inputs named)
+roots_of inputs named = roots_from 0 (embedded inputs) ++ roots_from (length inputs) (given named)
 
 -- why the first that can't be read isn't
 abbrev pub descriptor_fault : List AsmRec → List (List ℕ) → Option RootsError
-descriptor_fault inputs named = fault_from 0 (all_descriptors inputs named)
+descriptor_fault inputs named = or_fault (fault_from 0 (embedded inputs)) (fault_from (length inputs) (given named))
 
 -- what a read of them answers; want of memory is free
 abbrev pub ReadsRoots : List AsmRec → List (List ℕ) → Result (List Root) RootsError → Type 0
 ReadsRoots inputs named (Ok roots) = (descriptor_fault inputs named ≡ None) × (roots ≡ roots_of inputs named)
 ReadsRoots inputs named (Err NoMemory) = Unit {0}
 ReadsRoots inputs named (Err e) = descriptor_fault inputs named ≡ Some e
+
+-- ---- parts of it, as the code goes through them
+
+-- roots are put behind others, unless a fault is there
+abbrev pub Adds : Option RootsError → List Root → List Root → List Root → Result Unit RootsError → Type 0
+Adds fault more old new (Ok tt) = (fault ≡ None) × (new ≡ old ++ more)
+Adds fault more old new (Err NoMemory) = Unit {0}
+Adds fault more old new (Err e) = fault ≡ Some e
+
+abbrev pub AddsOne : ℕ → Option (List ℕ) → List Root → List Root → Result Unit RootsError → Type 0
+AddsOne i d old new r = Adds (fault_in i d) (roots_in i d) old new r
+
+abbrev pub AddsFrom : ℕ → List (Option (List ℕ)) → List Root → List Root → Result Unit RootsError → Type 0
+AddsFrom i ds old new r = Adds (fault_from i ds) (roots_from i ds) old new r
