@@ -1,107 +1,190 @@
--- What a file is, by a link of its record.
-use Rattle.std.proofs.Common.{◌≡◌, ℕ, ◌≤◌, Bool, List, [], ◌∷◌, ◌++◌, length, Some, None, Ok, Err, true, false, nat_le, refl, sym, ap, subst, ◌∙◌, arith}
-use Rattle.std.specs.Prelude.{IsTrue}
+-- What files were taken as, and what a trim of them is.
+use Rattle.std.proofs.Common.{◌≡◌, ℕ, ◌≤◌, Bool, List, [], ◌∷◌, ◌++◌, length, take, map, Option, Some, None, Result, Ok, Err, true, false, nat_le, refl, sym, ap, subst, ◌∙◌, arith, rules}
+use Rattle.std.specs.Prelude.{IsTrue, is_some, not, ◌&&◌, if◌then◌else◌}
+use Rattle.std.specs.Option.{option_map}
 use Rattle.std.proofs.lemmas.Bool.Decides.{nat_tests}
-use Rattle.record_format.specs.Record.{record_at, HasRecord}
+use Rattle.cli_format.specs.declared.error.TablesError.{TablesError}
+use Rattle.cli_format.specs.Demand.{first_fault}
+use Rattle.record_format.specs.Record.{record_demands, record_at, HasRecord}
 use Rattle.world_model.specs.declared.record.AsmRec.{AsmRec}
 use Rattle.world_model.specs.declared.world.World.{World}
 use Rattle.world_model.specs.Thin.{is_thin}
 use Rattle.core_table.specs.Record.{core_record}
-use Rattle.link_rules.specs.declared.link_error.LinkError.TheVariants as unlinked
+use Rattle.link_rules.specs.declared.link_error.LinkError.{LinkError}
 use Rattle.link_rules.specs.CoreNames.{missing_names, core_with}
-use Rattle.link_rules.specs.Linked.{assemblies, world_in, world_of, link_fault_of}
+use Rattle.link_rules.specs.Linked.{IsWorld, assemblies, world_in, world_of, link_fault_of}
 use Rattle.file_layout.specs.Laid.{laid}
 use Rattle.restriction.specs.Restricted.{restricted}
 use Rattle.trim_laws.specs.Headline.{Headline}
-use Rattle.inputs.specs.Files.{input_fault}
+use Rattle.inputs.specs.declared.error.InputError.{InputError}
+use Rattle.inputs.specs.Files.{or_fault, limit_fault, record_fault, linking_fault, entry_fault, input_fault, records, unread_as, unlinked_as}
 use Rattle.run_rules.specs.Runs.{run_of_files, thin_run}
 use Rattle.run_rules.specs.ThinFiles.{IsThinFile}
-use Rattle.trim_core.specs.Trim.{RunsAs}
+use Rattle.descriptor_file.specs.declared.root.Root.{Root}
+use Rattle.descriptor_roots.specs.Roots.{roots_of, descriptor_fault, fault_from, long_descriptor}
+use Rattle.trim_core.specs.declared.answers.Opts.{Opts}
 use Rattle.trim_core.specs.declared.answers.Refusal.{Refusal}
-use Rattle.trim_core.specs.declared.answers.Refusal.TheVariants as refusal
-use Rattle.trim_core.specs.Told.{most_bytes, told_alone, told_linked, if_linked, if_thin, unlinked_as, AloneRead, StartsLinked, starts_thin, TakenWorld, Told, RefusedBy}
+use Rattle.trim_core.specs.declared.answers.Trimmed.{Trimmed}
+use Rattle.trim_core.specs.Taken.{IsTaken, IsThinOf, AreThin}
+use Rattle.trim_core.specs.Told.{trim_fault, or_refusal, input_refusal, roots_refusal, too_long, is_plain, is_thin_alone, thin_alone, entry_row}
+use Rattle.trim_core.specs.Trim.{most_bytes, plain, TakenAs, RunsAs, TrimsRecord, TrimsProgram, TrimsBy, TrimsFiles, TrimsUnless}
 
-module _ (file : List ℕ) (small : length file ≤ most_bytes) (inputs : List AsmRec) (a : AloneRead file inputs) where
-  -- a file of a size that is read, whose record is good, is what linking says
-  told_is : told_alone file ≡ if_linked file (record_at file)
-  unfolding told_alone
-  told_is =
-      let t : nat_le (length file) most_bytes ≡ true = grind (arith, nat_tests) in
-      rw (t, a.good) refl
+-- ---- files that were taken
 
-  fault_is : link_fault_of (record_at file ∷ []) ≡ link_fault_of inputs
-  fault_is = ap link_fault_of (sym a.one)
+rest_passes : (a b : Option InputError) → or_fault a b ≡ None → b ≡ None
+rest_passes None b h = h
+rest_passes (Some e) b h = search rules
 
-  pub is_refused : (i why token : ℕ) (answer : Refusal) → link_fault_of inputs ≡ Some (unlinked.Bad i why token) → RefusedBy (unlinked_as file i why token) answer → Told (told_alone file) (Err answer)
-  is_refused i why token answer h r =
-      let e : told_alone file ≡ Err (unlinked_as file i why token) = told_is ∙ ap (told_linked file (record_at file)) (fault_is ∙ h) in
-      rw e r
+pub front_passes : (a b : Option InputError) → or_fault a b ≡ None → a ≡ None
+front_passes None b h = refl
+front_passes (Some e) b h = h
 
-  links : link_fault_of inputs ≡ None → told_alone file ≡ if_thin (record_at file)
-  links h = told_is ∙ ap (told_linked file (record_at file)) (fault_is ∙ h)
+links : (files : List (List ℕ)) → input_fault files ≡ None → linking_fault files ≡ None
+links files h =
+    front_passes (linking_fault files) (entry_fault (records files))
+    (rest_passes (record_fault 0 files) _ (rest_passes (limit_fault files) _ h))
 
-  pub not_yet : link_fault_of inputs ≡ None → is_thin (record_at file) ≡ false → Told (told_alone file) (Err (refusal.NotYet 0))
-  not_yet h f =
-      let e : told_alone file ≡ Err (refusal.NotYet 0) = links h ∙ rw f refl in
-      rw e refl
+no_fault : (files : List (List ℕ)) (e : Option LinkError) → unlinked_as files e ≡ None → e ≡ None
+no_fault files None h = refl
+no_fault files (Some (LinkError.Bad i why token)) h = search rules
+no_fault files (Some LinkError.NoMemory) h = search rules
 
-  -- the world's first record is the file's
-  pub first_is : (w : World) → w ≡ world_of inputs → w.recs ≡ record_at file ∷ (core_with core_record (missing_names (inputs ++ core_record ∷ [])) ∷ [])
-  unfolding world_in assemblies
-  first_is w e = ap (λ (v : World). v.recs) e ∙ ap (λ (xs : List AsmRec). xs ++ core_with core_record (missing_names (inputs ++ core_record ∷ [])) ∷ []) a.one
+pub sound : (files : List (List ℕ)) (w : World) → IsTaken files w → link_fault_of (records files) ≡ None
+sound files w t = no_fault files (link_fault_of (records files)) (links files t.sound)
 
-  pub taken : (w : World) → link_fault_of inputs ≡ None → w ≡ world_of inputs → is_thin (record_at file) ≡ true → TakenWorld file w
-  taken w h e t = record {
-    rec = record_at file;
-    told = links h ∙ rw t refl;
-    has = a.has;
-    thin = t;
-    linked = fault_is ∙ h;
-    others = core_with core_record (missing_names (inputs ++ core_record ∷ [])) ∷ [];
-    stands = first_is w e;
-  }
+pub is_world : (files : List (List ℕ)) (w : World) → IsTaken files w → IsWorld w
+is_world files w t = record { inputs = records files; sound = sound files w t; linked = t.world }
 
-  pub starts : (w : World) → link_fault_of inputs ≡ None → w ≡ world_of inputs → StartsLinked w.recs
-  starts w h e = subst StartsLinked (sym (first_is w e)) (fault_is ∙ h)
+-- the records of the world: those of the files, and the core library's
+recs_are : (files : List (List ℕ)) (w : World) → IsTaken files w
+    → w.recs ≡ records files ++ (core_with core_record (missing_names (records files ++ core_record ∷ [])) ∷ [])
+unfolding world_in assemblies
+recs_are files w t = ap (λ (v : World). v.recs) t.world
 
-  pub thin_is : (w : World) → w ≡ world_of inputs → starts_thin w.recs ≡ is_thin (record_at file)
-  thin_is w e = ap starts_thin (first_is w e)
+front_within : (files : List (List ℕ)) (rest : List AsmRec) → length files ≤ length (records files ++ rest)
+front_within [] rest = omega arith
+front_within (f ∷ fs) rest = let h = front_within fs rest in omega (arith, h)
 
--- ---- bytes that have a record
+front_is : (files : List (List ℕ)) (rest : List AsmRec) → take (length files) (records files ++ rest) ≡ records files
+front_is [] rest = search rules
+front_is (f ∷ fs) rest = ap (λ (xs : List AsmRec). record_at f ∷ xs) (front_is fs rest)
 
-told_record : (bs : List ℕ) (rec : AsmRec) → HasRecord bs rec → link_fault_of (rec ∷ []) ≡ None → IsTrue (is_thin rec) → length bs ≤ most_bytes → told_alone bs ≡ Ok rec
-unfolding told_alone
-told_record bs rec has linked thin small =
-    let t : nat_le (length bs) most_bytes ≡ true = grind (arith, nat_tests) in
-    let l : told_linked bs rec (link_fault_of (rec ∷ [])) ≡ if_thin rec = ap (told_linked bs rec) linked in
-    let h : is_thin rec ≡ true = thin in
-    let r : if_linked bs (record_at bs) ≡ Ok rec = subst (λ (x : AsmRec). if_linked bs x ≡ Ok rec) has.is (l ∙ rw h refl) in
-    rw (t, has.meets) r
+pub inputs_within : (files : List (List ℕ)) (w : World) → IsTaken files w → length files ≤ length w.recs
+inputs_within files w t = subst (λ (xs : List AsmRec). length files ≤ length xs) (sym (recs_are files w t)) (front_within files _)
 
--- what was written is told as what is left
-pub told_again : (bs : List ℕ) (rec : AsmRec) (flags : List Bool) → bs ≡ laid (restricted rec flags) → Headline rec flags → length bs ≤ most_bytes → told_alone bs ≡ Ok (restricted rec flags)
-told_again bs rec flags e h small =
-    told_record bs (restricted rec flags) (subst (λ (x : List ℕ). HasRecord x (restricted rec flags)) (sym e) h.loads) h.links h.settled.thin small
+pub inputs_are : (files : List (List ℕ)) (w : World) → IsTaken files w → take (length files) w.recs ≡ records files
+inputs_are files w t = ap (λ (xs : List AsmRec). take (length files) xs) (recs_are files w t) ∙ front_is files _
 
--- `exec` of bytes that have a thin record runs it
-runs_record : (bs : List ℕ) (rec : AsmRec) → HasRecord bs rec → link_fault_of (rec ∷ []) ≡ None → IsTrue (is_thin rec)
-    → ((f : List ℕ) → IsThinFile f → input_fault (f ∷ []) ≡ None)
-    → ((f : List ℕ) → IsThinFile f → (input : List ℕ) (n : ℕ) → run_of_files (f ∷ []) input n ≡ thin_run (record_at f) n)
-    → length bs ≤ most_bytes → RunsAs bs rec
-runs_record bs rec has linked t sound run small =
+-- ---- one thin file alone
+
+no_unread : (i : ℕ) (e : Option TablesError) → unread_as i e ≡ None → e ≡ None
+no_unread i None h = refl
+no_unread i (Some (TablesError.Bad at)) h = search rules
+no_unread i (Some (TablesError.Rows n)) h = search rules
+no_unread i (Some TablesError.NoMemory) h = search rules
+
+meets : (f : List ℕ) → input_fault (f ∷ []) ≡ None → first_fault (record_demands f) ≡ None
+unfolding record_fault
+meets f h =
+    no_unread 0 _ (front_passes _ _ (front_passes (record_fault 0 (f ∷ [])) _ (rest_passes (limit_fault (f ∷ [])) _ h)))
+
+if_some : (b : Bool) (r rec : AsmRec) → (if b then Some r else None) ≡ Some rec → (b ≡ true) × (r ≡ rec)
+if_some true r rec h = (refl, search rules)
+if_some false r rec h = search rules
+
+thin_part : (p thin described : Bool) → (p && (thin && described)) ≡ true → thin ≡ true
+thin_part true true described h = refl
+thin_part true false described h = h
+thin_part false thin described h = search rules
+
+one_thin : (f : List ℕ) (rec : AsmRec) (opts : Opts) → input_fault (f ∷ []) ≡ None → link_fault_of (record_at f ∷ []) ≡ None
+    → thin_alone (record_at f ∷ []) [] opts ≡ Some rec → IsThinOf f rec
+one_thin f rec opts h l e =
+    let b = if_some (is_plain opts && is_thin_alone (record_at f)) (record_at f) rec e in
+    let t : is_thin (record_at f) ≡ true = thin_part (is_plain opts) (is_thin (record_at f)) _ b.0 in
+    subst (λ (r : AsmRec). IsThinOf f r) b.1 (record { has = record { meets = meets f h; is = refl }; thin = t; linked = l })
+
+pub are_thin : (files ds : List (List ℕ)) (w : World) (opts : Opts) (rec : AsmRec) → IsTaken files w → thin_alone (records files) ds opts ≡ Some rec → AreThin files rec
+are_thin [] ds w opts rec t e = search rules
+are_thin (f ∷ []) [] w opts rec t e = one_thin f rec opts t.sound (sound (f ∷ []) w t) e
+are_thin (f ∷ []) (d ∷ ds) w opts rec t e = search rules
+are_thin (f ∷ g ∷ fs) ds w opts rec t e = search rules
+
+-- ---- what a trim is
+
+pub by_thin : (files ds : List (List ℕ)) (opts : Opts) (rec : AsmRec) (answer : Result Trimmed Refusal)
+    → thin_alone (records files) ds opts ≡ Some rec → TrimsRecord rec answer → TrimsFiles files ds opts answer
+by_thin files ds opts rec answer e t = subst (λ (o : Option AsmRec). TrimsBy o files ds opts answer) (sym e) t
+
+pub by_all : (files ds : List (List ℕ)) (w : World) (roots : List Root) (opts : Opts) (answer : Result Trimmed Refusal) → IsTaken files w
+    → thin_alone (records files) ds opts ≡ None → roots ≡ roots_of (records files) ds
+    → TrimsProgram w.recs (entry_row (records files)) roots opts answer → TrimsFiles files ds opts answer
+by_all files ds w roots opts answer taken e r t =
+    let p : TrimsProgram (world_of (records files)).recs (entry_row (records files)) roots opts answer =
+    subst (λ (v : World). TrimsProgram v.recs (entry_row (records files)) roots opts answer) taken.world t in
+    let q : TrimsProgram (world_of (records files)).recs (entry_row (records files)) (roots_of (records files) ds) opts answer =
+    subst (λ (rs : List Root). TrimsProgram (world_of (records files)).recs (entry_row (records files)) rs opts answer) r p in
+    subst (λ (o : Option AsmRec). TrimsBy o files ds opts answer) (sym e) q
+
+pub unless_none : (fault : Option Refusal) (files ds : List (List ℕ)) (opts : Opts) (answer : Result Trimmed Refusal)
+    → fault ≡ None → TrimsFiles files ds opts answer → TrimsUnless fault files ds opts answer
+unless_none fault files ds opts answer e t = subst (λ (o : Option Refusal). TrimsUnless o files ds opts answer) (sym e) t
+
+-- ---- bytes that have a thin record
+
+-- a record without a descriptor has none that can't be read
+bare_fault : (rec : AsmRec) → rec.descriptor ≡ None → descriptor_fault (rec ∷ []) [] ≡ None
+unfolding fault_from
+bare_fault rec bare = rw bare refl
+
+told_record : (bs : List ℕ) (rec : AsmRec) → input_fault (bs ∷ []) ≡ None → record_at bs ≡ rec → is_thin rec ≡ true → rec.descriptor ≡ None → TakenAs bs rec
+unfolding trim_fault long_descriptor
+told_record bs rec taken is thin bare =
+    let l : limit_fault (bs ∷ []) ≡ None = front_passes _ _ taken in
+    let d : descriptor_fault (records (bs ∷ [])) [] ≡ None = ap (λ (r : AsmRec). descriptor_fault (r ∷ []) []) is ∙ bare_fault rec bare in
+    record {
+      taken = rw (l, taken, d) refl;
+      thin = subst (λ (r : AsmRec). thin_alone (r ∷ []) [] plain ≡ Some rec) (sym is) (rw (thin, bare) refl);
+    }
+
+-- bytes that have a record which is thin and links are a thin file
+is_thin_file : (bs : List ℕ) (rec : AsmRec) → HasRecord bs rec → link_fault_of (rec ∷ []) ≡ None → IsTrue (is_thin rec) → length bs ≤ most_bytes → IsThinFile bs
+is_thin_file bs rec has linked t small =
     let h : is_thin rec ≡ true = t in
-    let thin : IsThinFile bs = record {
+    record {
       short = small;
       good = has.meets;
       links = subst (λ (x : AsmRec). link_fault_of (x ∷ []) ≡ None) has.is linked;
       thin = subst (λ (x : AsmRec). is_thin x ≡ true) has.is h;
-    } in
-    record { taken = sound bs thin; run = λ input n. run bs thin input n ∙ ap (λ (x : AsmRec). thin_run x n) (sym has.is) }
+    }
 
--- `exec` of what was written runs what is left
+-- what was written is such a file
+written_thin : (bs : List ℕ) (rec : AsmRec) (flags : List Bool) → bs ≡ laid (restricted rec flags) → Headline rec flags → length bs ≤ most_bytes → IsThinFile bs
+written_thin bs rec flags e h small =
+    is_thin_file bs (restricted rec flags) (subst (λ (x : List ℕ). HasRecord x (restricted rec flags)) (sym e) h.loads) h.links h.settled.thin small
+
+written_record : (bs : List ℕ) (rec : AsmRec) (flags : List Bool) → bs ≡ laid (restricted rec flags) → Headline rec flags → record_at bs ≡ restricted rec flags
+written_record bs rec flags e h = ap record_at e ∙ sym h.loads.is
+
+bare : (rec : AsmRec) (flags : List Bool) → (restricted rec flags).descriptor ≡ None
+unfolding restricted
+bare rec flags = refl
+
+-- a trim of it takes it as what is left
+pub told_again : (bs : List ℕ) (rec : AsmRec) (flags : List Bool) → bs ≡ laid (restricted rec flags) → Headline rec flags
+    → ((f : List ℕ) → IsThinFile f → input_fault (f ∷ []) ≡ None)
+    → length bs ≤ most_bytes → TakenAs bs (restricted rec flags)
+told_again bs rec flags e h sound small =
+    told_record bs (restricted rec flags) (sound bs (written_thin bs rec flags e h small)) (written_record bs rec flags e h) h.settled.thin (bare rec flags)
+
+-- `exec` of it runs what is left
 pub runs_again : (bs : List ℕ) (rec : AsmRec) (flags : List Bool) → bs ≡ laid (restricted rec flags) → Headline rec flags
     → ((f : List ℕ) → IsThinFile f → input_fault (f ∷ []) ≡ None)
     → ((f : List ℕ) → IsThinFile f → (input : List ℕ) (n : ℕ) → run_of_files (f ∷ []) input n ≡ thin_run (record_at f) n)
     → length bs ≤ most_bytes → RunsAs bs (restricted rec flags)
 runs_again bs rec flags e h sound run small =
-    runs_record bs (restricted rec flags) (subst (λ (x : List ℕ). HasRecord x (restricted rec flags)) (sym e) h.loads) h.links h.settled.thin sound run small
+    let thin = written_thin bs rec flags e h small in
+    record {
+      taken = sound bs thin;
+      run = λ input n. run bs thin input n ∙ ap (λ (x : AsmRec). thin_run x n) (written_record bs rec flags e h);
+    }

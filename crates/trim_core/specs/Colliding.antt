@@ -1,8 +1,9 @@
 -- The text of a collision: the places of two types and the name that both have.
-use Rattle.std.specs.Prelude.{ℕ, suc, List, [], ◌++◌, codes, Option, Some, None}
+use Rattle.std.specs.Prelude.{ℕ, suc, List, [], ◌++◌, codes, slice_get, Option, Some, None}
 use Rattle.std.specs.List.{flat_map}
 use Rattle.il_base.specs.declared.ids.TypeId.{TypeId}
 use Rattle.il_base.specs.declared.table.TheConstants.{TYPE_DEF}
+use Rattle.world_model.specs.declared.types.TypeDefRow.{TypeDefRow}
 use Rattle.world_model.specs.declared.record.AsmRec.{AsmRec}
 use Rattle.world_model.specs.Tokens.{token_of}
 use Rattle.link_rules.specs.declared.row_at.RowAt.{RowAt}
@@ -13,6 +14,9 @@ use Rattle.mark_rules.specs.KeepList.{hex_8}
 use Rattle.merge_rules.specs.Names.{assembly_name, old_name}
 use Rattle.inputs.specs.declared.error.InputError.{InputError}
 use Rattle.inputs.specs.Files.{input_fault, records}
+
+abbrev pub row_in : AsmRec → ℕ → Option TypeDefRow
+row_in rec k = slice_get rec.type_def k
 
 -- the assembly and the TypeDef token of a row
 abbrev pub place_text : List AsmRec → RowAt → List ℕ

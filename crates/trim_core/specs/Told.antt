@@ -14,11 +14,9 @@ use Rattle.inputs.specs.Files.{limit_fault, input_fault, records}
 use Rattle.descriptor_roots.specs.declared.error.RootsError.{RootsError}
 use Rattle.descriptor_roots.specs.declared.error.RootsError.TheVariants as roots
 use Rattle.descriptor_roots.specs.Roots.{long_descriptor, descriptor_fault}
-use Rattle.program_trim.specs.declared.answers.TrimFault.{TrimFault}
-use Rattle.program_trim.specs.declared.answers.TrimFault.TheVariants as fault
 use Rattle.trim_core.specs.declared.answers.Opts.{Opts}
 use Rattle.trim_core.specs.declared.answers.Refusal.{Refusal}
-use Rattle.trim_core.specs.declared.answers.Refusal.TheVariants.{BadFile, Outside, Unresolved, Collision, BadDescriptor, Limit, NoEntry, NoMemory}
+use Rattle.trim_core.specs.declared.answers.Refusal.TheVariants.{BadFile, BadDescriptor, Limit, NoEntry, NoMemory}
 
 -- ---- refusals of the parts, as they are answered
 
@@ -35,13 +33,6 @@ abbrev pub roots_refusal : RootsError → Refusal
 roots_refusal (roots.Bad source offset) = BadDescriptor source offset
 roots_refusal (roots.TooLong found) = too_long found
 roots_refusal roots.NoMemory = NoMemory
-
-abbrev pub trim_refusal : TrimFault → Refusal
-trim_refusal (fault.Outside place what) = Outside place what
-trim_refusal (fault.Unresolved place) = Unresolved place
-trim_refusal (fault.Collision first second) = Collision first second
-trim_refusal (fault.Limit which found) = Limit which found
-trim_refusal fault.NoMemory = NoMemory
 
 -- ---- the first refusal
 

@@ -4,7 +4,6 @@ ghost use Rattle.trim_core.specs.declared.answers.Refusal.TheVariants as refusal
 use descriptor_roots::RootsError;
 use il_base::{BadAt, NoMemory, Place, Text, TypeId, limit};
 use inputs::InputError;
-use program_trim::TrimFault;
 
 /// What a trim does beside leaving out what isn't needed.
 #[derive(Clone, Copy, Debug, PartialEq, Eq)]
@@ -75,22 +74,6 @@ impl From<RootsError> for Refusal {
                 found,
             },
             RootsError::NoMemory => Refusal::NoMemory,
-        }
-    }
-}
-
-impl From<TrimFault> for Refusal {
-    ghost use Rattle.trim_core.specs.Told.{trim_refusal};
-
-    ghost from_gives = { λ error e. e ≡ trim_refusal error };
-
-    fn from(error: TrimFault) -> Refusal {
-        match error {
-            TrimFault::Outside { place, what } => Refusal::Outside { place, what },
-            TrimFault::Unresolved { place } => Refusal::Unresolved { place },
-            TrimFault::Collision { first, second } => Refusal::Collision { first, second },
-            TrimFault::Limit { which, found } => Refusal::Limit { which, found },
-            TrimFault::NoMemory => Refusal::NoMemory,
         }
     }
 }

@@ -2,8 +2,12 @@
 //! or the first reason why there is nothing (`specs/Told`). `specs/Trim` defines the answer.
 #![tactic(auto)]
 
+mod alone;
 mod answers;
 mod colliding;
+mod digits;
+mod program;
+mod taking;
 mod trimming;
 
 pub use answers::{Opts, Refusal, Trimmed};

@@ -5,9 +5,8 @@ use Rattle.file_layout.specs.Laid.{laid}
 use Rattle.restriction.specs.Restricted.{restricted}
 use Rattle.assembly_writer.specs.Written.{users_length}
 use Rattle.trim_laws.specs.Headline.{Headline}
-use Rattle.trim_core.specs.Told.{most_bytes, told_alone}
 use Rattle.trim_core.proofs.Taking.{told_again, runs_again}
-use Rattle.trim_core.proofs.trimming.written.Goals as goal
+use Rattle.trim_core.proofs.alone.written.Goals as goal
 
 pub returns : goal.returns
 returns c =
@@ -29,6 +28,7 @@ returns c =
       users = users;
       short = subst (λ (bs : List ℕ). length bs ≤ 268435456) (sym bytes) short;
       headline = headline;
-      told = told_again c.from_vec.result rec flags bytes headline;
+      told = told_again c.from_vec.result rec flags bytes headline c.thin_files_run.ensures.sound;
       runs = runs_again c.from_vec.result rec flags bytes headline c.thin_files_run.ensures.sound c.thin_files_run.ensures.run;
+      list = c.new.ensures;
     }
