@@ -22,6 +22,10 @@ pub fn trim_world(
     requires there { RowsThere world.now.recs }
     ensures { TrimsWorld world.now.recs entry roots.now internal result }
 {
-    let _ = (alloc, world, entry, roots, internal);
+    let _ = alloc;
+    let _ = world;
+    let _ = entry;
+    let _ = roots;
+    let _ = internal;
     Err(TrimFault::NoMemory)
 }

@@ -8,7 +8,7 @@ use inputs::InputError;
 /// What a trim does beside leaving out what isn't needed.
 #[derive(Clone, Copy, Debug, PartialEq, Eq)]
 pub struct Opts {
-    /// Whether what is public in the inputs after the first becomes internal.
+    /// Whether public types of all files but the first become internal.
     pub internalize: bool,
     /// Whether the keep list is wanted.
     pub keep_list: bool,

@@ -13,7 +13,7 @@ use thin_check::is_thin_linked;
 use world_model::{AsmRec, World, index_in};
 
 /// The records of the files, which are the first of their world.
-#[tactic(auto, using(crate::proofs::Taking::inputs_within, crate::proofs::Taking::inputs_are))]
+#[tactic(auto, using(crate::proofs::FileLemmas::inputs_within, crate::proofs::FileLemmas::inputs_are))]
 pub(crate) fn inputs_of<'a>(files: &Seq<Text>, world: &'a World) -> &'a [AsmRec]
     requires { IsTaken files.now world.now }
     ensures { result.now ≡ records files.now }

@@ -5,7 +5,7 @@ use Rattle.file_layout.specs.Laid.{laid}
 use Rattle.restriction.specs.Restricted.{restricted}
 use Rattle.assembly_writer.specs.Written.{users_length}
 use Rattle.trim_laws.specs.Headline.{Headline}
-use Rattle.trim_core.proofs.Taking.{told_again, runs_again}
+use Rattle.trim_core.proofs.FileLemmas.{told_again, runs_again}
 use Rattle.trim_core.proofs.alone.written.Goals as goal
 
 pub returns : goal.returns
