@@ -17,16 +17,18 @@ use Rattle.file_layout.specs.Laid.{laid}
 use Rattle.restriction.specs.Restricted.{restricted}
 use Rattle.trim_laws.specs.Headline.{Headline}
 use Rattle.inputs.specs.declared.error.InputError.{InputError}
-use Rattle.inputs.specs.Files.{or_fault, limit_fault, record_fault, linking_fault, entry_fault, input_fault, records, unread_as, unlinked_as}
+use Rattle.inputs.specs.Files.{or_fault, limit_fault, record_fault, linking_fault, entry_fault, input_fault, records, unread_as, unlinked_as, Passes, Takes}
 use Rattle.run_rules.specs.Runs.{run_of_files, thin_run}
 use Rattle.run_rules.specs.ThinFiles.{IsThinFile}
 use Rattle.descriptor_file.specs.declared.root.Root.{Root}
-use Rattle.descriptor_roots.specs.Roots.{roots_of, descriptor_fault, fault_from, long_descriptor}
+use Rattle.descriptor_roots.specs.declared.error.RootsError.{RootsError}
+use Rattle.descriptor_roots.specs.Roots.{ReadsRoots, roots_of, descriptor_fault, fault_from, long_descriptor}
 use Rattle.trim_core.specs.declared.answers.Opts.{Opts}
 use Rattle.trim_core.specs.declared.answers.Refusal.{Refusal}
+use Rattle.trim_core.specs.declared.answers.Refusal.TheVariants as refusal
 use Rattle.trim_core.specs.declared.answers.Trimmed.{Trimmed}
 use Rattle.trim_core.specs.Taken.{IsTaken, IsThinOf, AreThin}
-use Rattle.trim_core.specs.Told.{trim_fault, or_refusal, input_refusal, roots_refusal, too_long, is_plain, is_thin_alone, thin_alone, entry_row}
+use Rattle.trim_core.specs.Told.{trim_fault, or_refusal, input_refusal, roots_refusal, too_long, is_plain, is_thin_alone, thin_alone, entry_row, RefusedBy}
 use Rattle.trim_core.specs.Trim.{most_bytes, plain, TakenAs, RunsAs, TrimsRecord, TrimsProgram, TrimsBy, TrimsFiles, TrimsUnless}
 
 -- ---- files that were taken
@@ -129,6 +131,77 @@ by_all files ds w roots opts answer taken e r t =
 pub unless_none : (fault : Option Refusal) (files ds : List (List ℕ)) (opts : Opts) (answer : Result Trimmed Refusal)
     → fault ≡ None → TrimsFiles files ds opts answer → TrimsUnless fault files ds opts answer
 unless_none fault files ds opts answer e t = subst (λ (o : Option Refusal). TrimsUnless o files ds opts answer) (sym e) t
+
+-- ---- refusals
+
+by_no_memory : (o : Option AsmRec) (files ds : List (List ℕ)) (opts : Opts) → TrimsBy o files ds opts (Err refusal.NoMemory)
+by_no_memory None files ds opts = tt
+by_no_memory (Some rec) files ds opts = tt
+
+pub no_memory : (o : Option Refusal) (files ds : List (List ℕ)) (opts : Opts) → TrimsUnless o files ds opts (Err refusal.NoMemory)
+no_memory None files ds opts = by_no_memory (thin_alone (records files) ds opts) files ds opts
+no_memory (Some due) files ds opts = tt
+
+itself : (r : Refusal) → RefusedBy r r
+itself (refusal.BadFile file at) = refl
+itself (refusal.Outside place what) = refl
+itself (refusal.Unresolved place) = refl
+itself (refusal.Collision first second) = refl
+itself (refusal.BadDescriptor source offset) = refl
+itself (refusal.Limit which found) = refl
+itself (refusal.NoEntry token) = refl
+itself refusal.NoMemory = tt
+
+-- what is due comes
+pub due : (o : Option Refusal) (r : Refusal) (files ds : List (List ℕ)) (opts : Opts) → o ≡ Some r → TrimsUnless o files ds opts (Err r)
+due o r files ds opts e = subst (λ (p : Option Refusal). TrimsUnless p files ds opts (Err r)) (sym e) (itself r)
+
+first_due : (o later : Option Refusal) (r : Refusal) (files ds : List (List ℕ)) (opts : Opts) → o ≡ Some r → TrimsUnless (or_refusal o later) files ds opts (Err r)
+first_due o later r files ds opts e = due (or_refusal o later) r files ds opts (ap (λ (p : Option Refusal). or_refusal p later) e)
+
+pub limit_due : (fault : Option InputError) (later : Option Refusal) (e : InputError) (files ds : List (List ℕ)) (opts : Opts) → Passes fault (Err e)
+    → TrimsUnless (or_refusal (option_map input_refusal fault) later) files ds opts (Err (input_refusal e))
+limit_due fault later (InputError.Limit which found) files ds opts h = first_due _ later (refusal.Limit which found) files ds opts (ap (option_map input_refusal) h)
+limit_due fault later (InputError.BadFile file at) files ds opts h = first_due _ later (refusal.BadFile file at) files ds opts (ap (option_map input_refusal) h)
+limit_due fault later (InputError.NoEntry token) files ds opts h = first_due _ later (refusal.NoEntry token) files ds opts (ap (option_map input_refusal) h)
+limit_due fault later InputError.NoMemory files ds opts h = no_memory _ files ds opts
+
+pub input_due : (later : Option Refusal) (e : InputError) (files ds : List (List ℕ)) (opts : Opts) → Takes files (Err e)
+    → TrimsUnless (or_refusal (option_map input_refusal (input_fault files)) later) files ds opts (Err (input_refusal e))
+input_due later (InputError.Limit which found) files ds opts h = first_due _ later (refusal.Limit which found) files ds opts (ap (option_map input_refusal) h)
+input_due later (InputError.BadFile file at) files ds opts h = first_due _ later (refusal.BadFile file at) files ds opts (ap (option_map input_refusal) h)
+input_due later (InputError.NoEntry token) files ds opts h = first_due _ later (refusal.NoEntry token) files ds opts (ap (option_map input_refusal) h)
+input_due later InputError.NoMemory files ds opts h = no_memory _ files ds opts
+
+pub roots_due : (recs : List AsmRec) (e : RootsError) (files ds : List (List ℕ)) (opts : Opts) → recs ≡ records files → ReadsRoots recs ds (Err e)
+    → TrimsUnless (option_map roots_refusal (descriptor_fault (records files) ds)) files ds opts (Err (roots_refusal e))
+roots_due recs (RootsError.Bad source offset) files ds opts r h =
+    due _ (refusal.BadDescriptor source offset) files ds opts (ap (λ (xs : List AsmRec). option_map roots_refusal (descriptor_fault xs ds)) (sym r) ∙ ap (option_map roots_refusal) h)
+roots_due recs (RootsError.TooLong found) files ds opts r h =
+    due _ (too_long found) files ds opts (ap (λ (xs : List AsmRec). option_map roots_refusal (descriptor_fault xs ds)) (sym r) ∙ ap (option_map roots_refusal) h)
+roots_due recs RootsError.NoMemory files ds opts r h = no_memory _ files ds opts
+
+-- ---- no refusal so far
+
+pub taken_on : (fault : Option InputError) (later : Option Refusal) (files ds : List (List ℕ)) (opts : Opts) (answer : Result Trimmed Refusal)
+    → fault ≡ None → TrimsUnless later files ds opts answer → TrimsUnless (or_refusal (option_map input_refusal fault) later) files ds opts answer
+taken_on fault later files ds opts answer e t =
+    subst (λ (o : Option InputError). TrimsUnless (or_refusal (option_map input_refusal o) later) files ds opts answer) (sym e) t
+
+pub within_on : (found : Option ℕ) (later : Option Refusal) (files ds : List (List ℕ)) (opts : Opts) (answer : Result Trimmed Refusal)
+    → found ≡ None → TrimsUnless later files ds opts answer → TrimsUnless (or_refusal (option_map too_long found) later) files ds opts answer
+within_on found later files ds opts answer e t =
+    subst (λ (o : Option ℕ). TrimsUnless (or_refusal (option_map too_long o) later) files ds opts answer) (sym e) t
+
+pub length_due : (found : Option ℕ) (n : ℕ) (later : Option Refusal) (files ds : List (List ℕ)) (opts : Opts)
+    → found ≡ Some n → TrimsUnless (or_refusal (option_map too_long found) later) files ds opts (Err (too_long n))
+length_due found n later files ds opts e = first_due _ later (too_long n) files ds opts (ap (option_map too_long) e)
+
+-- the elements of descriptors were read, and the way was found
+pub roots_on : (files ds : List (List ℕ)) (opts : Opts) (answer : Result Trimmed Refusal)
+    → descriptor_fault (records files) ds ≡ None → TrimsFiles files ds opts answer
+    → TrimsUnless (option_map roots_refusal (descriptor_fault (records files) ds)) files ds opts answer
+roots_on files ds opts answer e t = unless_none _ files ds opts answer (ap (option_map roots_refusal) e) t
 
 -- ---- bytes that have a thin record
 

@@ -40,15 +40,18 @@ abbrev pub or_refusal : Option Refusal → Option Refusal → Option Refusal
 or_refusal (Some due) later = Some due
 or_refusal None later = later
 
+-- of files whose number and lengths are within the limits
+abbrev pub short_fault : List (List ℕ) → List (List ℕ) → Option Refusal
+short_fault files descriptors =
+    or_refusal (option_map too_long (long_descriptor descriptors))
+    (or_refusal (option_map input_refusal (input_fault files))
+    (option_map roots_refusal (descriptor_fault (records files) descriptors)))
+
 -- In this order: the limits on files, the limit on the length of a named descriptor, the demands on each file, those of linking, the
 -- entry point, and the descriptors, of which those that files have embedded come first. (`input_fault` looks at limits again, of
 -- which none is passed.)
 unfoldable pub trim_fault : List (List ℕ) → List (List ℕ) → Option Refusal
-trim_fault files descriptors =
-    or_refusal (option_map input_refusal (limit_fault files))
-    (or_refusal (option_map too_long (long_descriptor descriptors))
-    (or_refusal (option_map input_refusal (input_fault files))
-    (option_map roots_refusal (descriptor_fault (records files) descriptors))))
+trim_fault files descriptors = or_refusal (option_map input_refusal (limit_fault files)) (short_fault files descriptors)
 
 -- ---- the way of a trim
 

@@ -1,9 +1,7 @@
 ghost use Rattle.std.specs.Prelude.{◌≡◌};
 ghost use Rattle.trim_core.specs.declared.answers.Refusal.TheVariants as refusal;
 
-use descriptor_roots::RootsError;
-use il_base::{BadAt, NoMemory, Place, Text, TypeId, limit};
-use inputs::InputError;
+use il_base::{BadAt, NoMemory, Place, Text, TypeId};
 
 /// What a trim does beside leaving out what isn't needed.
 #[derive(Clone, Copy, Debug, PartialEq, Eq)]
@@ -43,38 +41,6 @@ impl From<NoMemory> for Refusal {
 
     fn from(_error: NoMemory) -> Refusal {
         Refusal::NoMemory
-    }
-}
-
-impl From<InputError> for Refusal {
-    ghost use Rattle.trim_core.specs.Told.{input_refusal};
-
-    ghost from_gives = { λ error e. e ≡ input_refusal error };
-
-    fn from(error: InputError) -> Refusal {
-        match error {
-            InputError::Limit { which, found } => Refusal::Limit { which, found },
-            InputError::BadFile { file, at } => Refusal::BadFile { file, at },
-            InputError::NoEntry { token } => Refusal::NoEntry { token },
-            InputError::NoMemory => Refusal::NoMemory,
-        }
-    }
-}
-
-impl From<RootsError> for Refusal {
-    ghost use Rattle.trim_core.specs.Told.{roots_refusal};
-
-    ghost from_gives = { λ error e. e ≡ roots_refusal error };
-
-    fn from(error: RootsError) -> Refusal {
-        match error {
-            RootsError::Bad { source, offset } => Refusal::BadDescriptor { source, offset },
-            RootsError::TooLong { found } => Refusal::Limit {
-                which: limit::DESCRIPTOR_LENGTH,
-                found,
-            },
-            RootsError::NoMemory => Refusal::NoMemory,
-        }
     }
 }
 

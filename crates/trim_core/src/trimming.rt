@@ -1,24 +1,80 @@
 //! `trim`: leaves out what programs don't need, and merges their files.
 
-ghost use Rattle.std.specs.Prelude.{◌≡◌, None};
+ghost use Rattle.std.specs.Prelude.{◌≡◌};
 ghost use Rattle.std.specs.Option.{option_map};
-ghost use Rattle.inputs.specs.Files.{records, limit_fault, input_fault};
-ghost use Rattle.descriptor_roots.specs.Roots.{descriptor_fault};
-ghost use Rattle.trim_core.specs.Told.{or_refusal, input_refusal, roots_refusal};
+ghost use Rattle.inputs.specs.Files.{records, input_fault};
+ghost use Rattle.descriptor_roots.specs.Roots.{descriptor_fault, roots_of};
+ghost use Rattle.trim_core.specs.Told.{or_refusal, input_refusal, roots_refusal, too_long, short_fault};
 ghost use Rattle.trim_core.specs.Taken.{IsTaken};
-ghost use Rattle.trim_core.specs.Trim.{Trims, TrimsUnless};
+ghost use Rattle.trim_core.specs.Trim.{Trims, TrimsFiles, TrimsUnless};
 
 use crate::alone::trim_alone;
 use crate::answers::{Opts, Refusal, Trimmed};
 use crate::program::trim_program;
 use crate::taking::{inputs_of, thin_alone};
-use descriptor_roots::{descriptor_roots, within_length};
+use descriptor_file::Root;
+use descriptor_roots::{RootsError, descriptor_roots, within_length};
 use il_base::{Seq, Text, limit};
-use inputs::{take_files, within_limits};
+use inputs::{InputError, take_files, within_limits};
 use std::alloc::Global;
 use world_model::World;
 
+/// Why files are refused, as it is answered.
+fn input_refusal(error: InputError) -> Refusal
+    ensures { result ≡ input_refusal error }
+{
+    match error {
+        InputError::Limit { which, found } => Refusal::Limit { which, found },
+        InputError::BadFile { file, at } => Refusal::BadFile { file, at },
+        InputError::NoEntry { token } => Refusal::NoEntry { token },
+        InputError::NoMemory => Refusal::NoMemory,
+    }
+}
+
+/// That a descriptor has too many bytes, as it is answered.
+fn too_long(found: u64) -> Refusal
+    ensures { result ≡ too_long found }
+{
+    Refusal::Limit {
+        which: limit::DESCRIPTOR_LENGTH,
+        found,
+    }
+}
+
+/// Why a descriptor is refused, as it is answered.
+fn roots_refusal(error: RootsError) -> Refusal
+    ensures { result ≡ roots_refusal error }
+{
+    match error {
+        RootsError::Bad { source, offset } => Refusal::BadDescriptor { source, offset },
+        RootsError::TooLong { found } => too_long(found),
+        RootsError::NoMemory => Refusal::NoMemory,
+    }
+}
+
+/// Trims files that were taken as this world, with these elements of descriptors.
+#[tactic(auto, using(crate::proofs::FileLemmas::by_thin, crate::proofs::FileLemmas::by_all))]
+fn trim_rooted(
+    alloc: Global,
+    files: &Seq<Text>,
+    world: &World,
+    descriptors: &Seq<Text>,
+    roots: &[Root],
+    opts: Opts,
+) -> Result<Trimmed, Refusal>
+    requires taken { IsTaken files.now world.now }
+    requires roots { roots.now ≡ roots_of (records files.now) descriptors.now }
+    ensures { TrimsFiles files.now descriptors.now opts result }
+{
+    let inputs = inputs_of(files, world);
+    match thin_alone(inputs, descriptors.as_slice(), opts) {
+        Some(rec) => trim_alone(alloc, files.as_slice(), rec),
+        None => trim_program(alloc, files, world, roots, opts),
+    }
+}
+
 /// Trims files that were taken as this world.
+#[tactic(auto, using(crate::proofs::FileLemmas::roots_due, crate::proofs::FileLemmas::roots_on))]
 fn trim_taken(
     alloc: Global,
     files: &Seq<Text>,
@@ -29,15 +85,14 @@ fn trim_taken(
     requires { IsTaken files.now world.now }
     ensures { TrimsUnless (option_map roots_refusal (descriptor_fault (records files.now) descriptors.now)) files.now descriptors.now opts result }
 {
-    let inputs = inputs_of(files, world);
-    let roots = descriptor_roots(alloc, inputs, descriptors.as_slice())?;
-    match thin_alone(inputs, descriptors.as_slice(), opts) {
-        Some(rec) => trim_alone(alloc, files.as_slice(), rec),
-        None => trim_program(alloc, files, world, roots.as_slice(), opts),
+    match descriptor_roots(alloc, inputs_of(files, world), descriptors.as_slice()) {
+        Err(error) => Err(roots_refusal(error)),
+        Ok(roots) => trim_rooted(alloc, files, world, descriptors, roots.as_slice(), opts),
     }
 }
 
-/// Trims files whose numbers and lengths are within the limits.
+/// Trims files whose number and lengths are within the limits.
+#[tactic(auto, using(crate::proofs::FileLemmas::input_due, crate::proofs::FileLemmas::taken_on))]
 fn trim_files(
     alloc: Global,
     files: &Seq<Text>,
@@ -46,8 +101,26 @@ fn trim_files(
 ) -> Result<Trimmed, Refusal>
     ensures { TrimsUnless (or_refusal (option_map input_refusal (input_fault files.now)) (option_map roots_refusal (descriptor_fault (records files.now) descriptors.now))) files.now descriptors.now opts result }
 {
-    let world = take_files(alloc, files)?;
-    trim_taken(alloc, files, &world, descriptors, opts)
+    match take_files(alloc, files) {
+        Err(error) => Err(input_refusal(error)),
+        Ok(world) => trim_taken(alloc, files, &world, descriptors, opts),
+    }
+}
+
+/// Trims files whose number and lengths are within the limits, where the descriptors are too.
+#[tactic(auto, using(crate::proofs::FileLemmas::length_due, crate::proofs::FileLemmas::within_on))]
+fn trim_short(
+    alloc: Global,
+    files: &Seq<Text>,
+    descriptors: &Seq<Text>,
+    opts: Opts,
+) -> Result<Trimmed, Refusal>
+    ensures { TrimsUnless (short_fault files.now descriptors.now) files.now descriptors.now opts result }
+{
+    match within_length(descriptors.as_slice()) {
+        Some(found) => Err(too_long(found)),
+        None => trim_files(alloc, files, descriptors, opts),
+    }
 }
 
 /// Trims the program of the files, of which the first has the entry point and gives the name, with what these descriptors and the
@@ -57,7 +130,7 @@ fn trim_files(
 /// (`BadFile`, `Limit` 5), a demand of linking (`BadFile`), `NoEntry`, a descriptor (`BadDescriptor`, `Limit` 4 for an embedded one),
 /// the first flaw of what is needed (`Outside`, `Unresolved`, `Limit` 6), `Collision`, and the limits on the file that is
 /// written (5, 7). `NoMemory` alone is free.
-#[tactic(auto, unfolding(crate::specs::Told::trim_fault))]
+#[tactic(auto, unfolding(crate::specs::Told::trim_fault), using(crate::proofs::FileLemmas::limit_due, crate::proofs::FileLemmas::taken_on))]
 pub fn trim(
     alloc: Global,
     files: &Seq<Text>,
@@ -66,12 +139,8 @@ pub fn trim(
 ) -> Result<Trimmed, Refusal>
     ensures { Trims files.now descriptors.now opts result }
 {
-    within_limits(files.as_slice())?;
-    if let Some(found) = within_length(descriptors.as_slice()) {
-        return Err(Refusal::Limit {
-            which: limit::DESCRIPTOR_LENGTH,
-            found,
-        });
+    match within_limits(files.as_slice()) {
+        Err(error) => Err(input_refusal(error)),
+        Ok(()) => trim_short(alloc, files, descriptors, opts),
     }
-    trim_files(alloc, files, descriptors, opts)
 }
