@@ -1,5 +1,6 @@
 -- A type has a spelling by what its outermost construct holds.
 use Rattle.std.proofs.Common.{◌≡◌, ℕ, zero, suc, Bool, true, List, [], ◌∷◌, length}
+use Rattle.std.specs.List.{AllByRecursion}
 use Rattle.il_base.specs.declared.sig.Sig.{Sig}
 use Rattle.il_base.specs.declared.sig.Sig.TheVariants.{Named, Array, ByRef, Inst, Var, MVar, Mod, Pinned}
 use Rattle.il_base.specs.declared.sig.Sig.TheVariants as sig
@@ -39,9 +40,7 @@ pub fits_instance : (room : ℕ) (value : Bool) (token : ℕ) (ss : List Sig) �
 fits_instance zero value token ss t h = absurd h
 fits_instance (suc room) value token ss t h = instance room value token ss t h.0 h.1
 
--- types one behind another, from the last to the first
-pub fit_front : (room : ℕ) (s : Sig) (ss : List Sig) → FitsType room s → FitTypes room ss → FitTypes room (s ∷ ss)
-fit_front room s ss h k = more room s ss h k
-
-pub fit_none : (room : ℕ) → FitTypes room []
-fit_none room = none room
+-- types one behind another
+pub fit_all : (room : ℕ) (ss : List Sig) → AllByRecursion (FitsType room) ss → FitTypes room ss
+fit_all room [] h = none room
+fit_all room (s ∷ ss) h = more room s ss h.0 (fit_all room ss h.1)

@@ -1,6 +1,6 @@
 //! Exception handling clauses that a section of their form can have (II.25.4.6).
 
-ghost use Rattle.std.specs.Prelude.{◌≤◌, length, IsTrue, if◌then◌else◌};
+ghost use Rattle.std.specs.Prelude.{◌<◌, ◌≤◌, ◌^◌, length, IsTrue, if◌then◌else◌};
 ghost use Rattle.std.specs.List.{AllByRecursion};
 ghost use Rattle.body_grammar.specs.BodySpelling as grammar;
 

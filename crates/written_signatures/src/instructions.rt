@@ -1,6 +1,6 @@
 //! Instructions that have a spelling (III.3, III.4), and how many bytes they take.
 
-ghost use Rattle.std.specs.Prelude.{◌≡◌, ◌+◌, ◌<◌, ◌^◌, List, length, IfSome, IsTrue};
+ghost use Rattle.std.specs.Prelude.{◌≡◌, ◌<◌, ◌^◌, ◌||◌, nat_le, nat_lt, length, IfSome, IsTrue};
 ghost use Rattle.std.specs.List.{AllByRecursion};
 ghost use Rattle.body_grammar.specs.BodySpelling as grammar;
 ghost use Rattle.body_grammar.specs.Opcodes.{kind_of};
