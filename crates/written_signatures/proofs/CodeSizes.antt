@@ -6,9 +6,9 @@ use Rattle.il_base.specs.declared.body.Instr.{Instr}
 use Rattle.il_base.specs.declared.body.Operand.{Operand}
 use Rattle.il_base.specs.declared.body.Operand.TheVariants as operand
 use Rattle.body_grammar.specs.declared.body.Inline.{Inline}
-use Rattle.body_grammar.specs.declared.body.Inline.TheVariants.{ShortInlineVar, InlineVar, ShortInlineI, InlineI, InlineI8, InlineTok, ShortInlineBrTarget, InlineBrTarget, InlineSwitch}
+use Rattle.body_grammar.specs.declared.body.Inline.TheVariants.{InlineNone, FixedSlot, FixedNumber, ShortInlineVar, InlineVar, ShortInlineI, InlineI, InlineI8, InlineTok, ShortInlineBrTarget, InlineBrTarget, InlineSwitch}
 use Rattle.body_grammar.specs.Opcodes.{kind_of}
-use Rattle.body_grammar.specs.BodySpelling.{distance, distances, operand_bytes, inline_in, opcode_size, opcode_bytes, instr_bytes}
+use Rattle.body_grammar.specs.BodySpelling.{distance, distances, operand_bytes, inline_in, opcode_size, opcode_bytes, instr_bytes, IsOperand, targets_fit}
 use Rattle.written_signatures.specs.Code.{operand_size}
 
 length_distances : (end : ℕ) (ts : List ℕ) → length (distances end ts) ≡ 4 * length ts
@@ -47,3 +47,24 @@ instr_length i =
     length-append (opcode_bytes i.opcode) (operand_bytes (inline_in (kind_of i.opcode)) (i.at + opcode_size i.opcode) i.operand)
     ∙ ap (λ (n : ℕ). n + length (operand_bytes (inline_in (kind_of i.opcode)) (i.at + opcode_size i.opcode) i.operand)) (opcode_length i.opcode)
     ∙ ap (λ (n : ℕ). opcode_size i.opcode + n) (operand_length (inline_in (kind_of i.opcode)) (i.at + opcode_size i.opcode) i.operand)
+
+-- what an opcode can have fits
+pub operand_fits : (inline : Inline) (op next : ℕ) (o : Operand) → IsOperand inline op next o → targets_fit o
+unfolding IsOperand
+operand_fits InlineSwitch op next (operand.Targets ts) h = h.0
+operand_fits InlineNone op next (operand.Targets ts) h = absurd cc
+operand_fits (FixedSlot first) op next (operand.Targets ts) h = absurd cc
+operand_fits (FixedNumber first) op next (operand.Targets ts) h = absurd cc
+operand_fits ShortInlineVar op next (operand.Targets ts) h = absurd h
+operand_fits InlineVar op next (operand.Targets ts) h = absurd h
+operand_fits ShortInlineI op next (operand.Targets ts) h = absurd h
+operand_fits InlineI op next (operand.Targets ts) h = absurd h
+operand_fits InlineI8 op next (operand.Targets ts) h = absurd h
+operand_fits InlineTok op next (operand.Targets ts) h = absurd h
+operand_fits ShortInlineBrTarget op next (operand.Targets ts) h = absurd h
+operand_fits InlineBrTarget op next (operand.Targets ts) h = absurd h
+operand_fits inline op next operand.None h = tt
+operand_fits inline op next (operand.Number z) h = tt
+operand_fits inline op next (operand.Slot n) h = tt
+operand_fits inline op next (operand.Token t) h = tt
+operand_fits inline op next (operand.Target t) h = tt

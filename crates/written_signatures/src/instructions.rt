@@ -32,6 +32,7 @@ fn is_short(distance: u32) -> bool
 }
 
 /// Whether a switch can have these targets. They are 32 bits each.
+#[tactic(auto, using(crate::proofs::Taken::each_taken))]
 fn are_targets(targets: &[u32]) -> bool
     ensures { IsTrue result → (length targets.now < 2 ^ 32) × AllByRecursion (λ t. t < 2 ^ 32) targets.now }
 {
@@ -72,7 +73,9 @@ fn is_operand(inline: Inline, opcode: u16, next: u64, operand: &Operand) -> bool
 
 /// How many bytes an operand takes behind its opcode.
 fn operand_size(inline: Inline, operand: &Operand) -> u64
-    ensures { result ≡ operand_size inline operand.now }
+    requires { grammar.targets_fit operand.now }
+    ensures is { result ≡ operand_size inline operand.now }
+    ensures small { result < 2 ^ 35 }
 {
     match (inline, operand) {
         (Inline::ShortInlineVar, Operand::Slot(_)) => 1,
@@ -89,7 +92,7 @@ fn operand_size(inline: Inline, operand: &Operand) -> u64
 }
 
 /// How many bytes an instruction of the table takes; None where it has no spelling.
-#[tactic(auto, using(crate::proofs::CodeSizes::instr_length))]
+#[tactic(auto, using(crate::proofs::CodeSizes::instr_length, crate::proofs::CodeSizes::operand_fits))]
 pub fn spelled_size(i: &Instr) -> Option<u64>
     ensures is { IfSome result (λ n. grammar.IsInstr i.now) }
     ensures size { IfSome result (λ n. n ≡ length (grammar.instr_bytes i.now)) }
@@ -105,6 +108,7 @@ pub fn spelled_size(i: &Instr) -> Option<u64>
 }
 
 /// How many bytes a code takes whose instructions stand one after another from IL offset 0; None where it has no spelling.
+#[tactic(auto, using(crate::proofs::CodeRuns::code_begun, crate::proofs::CodeRuns::code_more, crate::proofs::CodeRuns::code_ended, crate::proofs::CodeRuns::code_long))]
 pub fn code_size(code: &[Instr]) -> Option<u32>
     ensures is { IfSome result (λ n. grammar.IsCode 0 code.now) }
     ensures size { IfSome result (λ n. n ≡ length (grammar.code_bytes code.now)) }
