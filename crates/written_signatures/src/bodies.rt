@@ -29,8 +29,9 @@ fn is_fat(b: &Body, size: u32) -> bool
     requires { size ≡ length (grammar.code_bytes b.now.code) }
     ensures { IsTrue result → grammar.IsFat b.now }
 {
-    let _room = (b.max_stack, b.locals);
-    are_clauses(b.fat_handlers, b.handlers.as_slice())
+    b.max_stack <= u16::MAX
+        && b.locals <= u32::MAX
+        && are_clauses(b.fat_handlers, b.handlers.as_slice())
 }
 
 /// Whether the header and the section of a body can be written.

@@ -21,7 +21,6 @@ fn is_clause(fat: bool, h: Handler) -> bool
 }
 
 /// Whether a section can have these clauses.
-#[tactic(auto, using(crate::proofs::Taken::each_taken))]
 pub fn are_clauses(fat: bool, all: &[Handler]) -> bool
     ensures count { IsTrue result → length all.now ≤ (if fat then 699050 else 20) }
     ensures each { IsTrue result → AllByRecursion (grammar.IsClause fat) all.now }

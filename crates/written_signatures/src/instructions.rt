@@ -32,7 +32,6 @@ fn is_short(distance: u32) -> bool
 }
 
 /// Whether a switch can have these targets. They are 32 bits each.
-#[tactic(auto, using(crate::proofs::Taken::each_taken))]
 fn are_targets(targets: &[u32]) -> bool
     ensures { IsTrue result → (length targets.now < 2 ^ 32) × AllByRecursion (λ t. t < 2 ^ 32) targets.now }
 {
@@ -62,10 +61,10 @@ fn is_operand(inline: Inline, opcode: u16, next: u64, operand: &Operand) -> bool
         (Inline::InlineVar, Operand::Slot(n)) => *n < 0x1_0000,
         (Inline::ShortInlineI, Operand::Number(z)) => -0x80 <= *z && *z <= 0x7f,
         (Inline::InlineI, Operand::Number(z)) => -0x8000_0000 <= *z && *z <= 0x7fff_ffff,
-        (Inline::InlineI8, Operand::Number(_)) => true,
-        (Inline::InlineTok, Operand::Token(_)) => true,
+        (Inline::InlineI8, Operand::Number(z)) => i64::MIN <= *z && *z <= i64::MAX,
+        (Inline::InlineTok, Operand::Token(t)) => *t <= u32::MAX,
         (Inline::ShortInlineBrTarget, Operand::Target(t)) => is_short(distance(next + 1, *t)),
-        (Inline::InlineBrTarget, Operand::Target(_)) => true,
+        (Inline::InlineBrTarget, Operand::Target(t)) => *t <= u32::MAX,
         (Inline::InlineSwitch, Operand::Targets(ts)) => are_targets(ts.as_slice()),
         _ => false,
     }
@@ -96,6 +95,7 @@ fn operand_size(inline: Inline, operand: &Operand) -> u64
 pub fn spelled_size(i: &Instr) -> Option<u64>
     ensures is { IfSome result (λ n. grammar.IsInstr i.now) }
     ensures size { IfSome result (λ n. n ≡ length (grammar.instr_bytes i.now)) }
+    ensures small { IfSome result (λ n. n < 2 ^ 36) }
 {
     let Some((form, inline)) = kind(i.opcode) else {
         return None;

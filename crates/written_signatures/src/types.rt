@@ -79,7 +79,6 @@ fn are_below(room: u32, args: &[Sig]) -> bool
 
 /// Whether each of some types has a spelling.
 #[cycle(fitting)]
-#[tactic(auto, using(crate::proofs::Taken::fit_taken))]
 fn fit_types(room: u32, types: &[Sig]) -> bool
     ensures { IsTrue result → FitTypes room types.now }
 {
