@@ -1,7 +1,6 @@
 //! A flag for each item of a kind, counted over all assemblies.
 
-ghost use Rattle.std.specs.Prelude.{◌≡◌, ◌+◌, map, IfOk};
-ghost use Rattle.std.specs.List.{range_with_len};
+ghost use Rattle.std.specs.Prelude.{◌≡◌, length, IfOk};
 ghost use Rattle.il_base.specs.declared.ids.Item.TheVariants as item;
 ghost use Rattle.mark_rules.specs.Facts.Fact.{marked, shown};
 ghost use Rattle.mark_facts.specs.Kinds.{count_in, item_numbered};

@@ -14,10 +14,11 @@ fn is_small(h: Handler) -> bool
 }
 
 /// Whether a section can have a clause.
-fn is_clause(fat: bool, h: Handler) -> bool
-    ensures { IsTrue result → grammar.IsClause fat h }
+fn is_clause(fat: bool, h: &Handler) -> bool
+    ensures { IsTrue result → grammar.IsClause fat h.now }
 {
-    (h.kind == 0 || h.kind == 2 || h.kind == 4) && (fat || is_small(h))
+    let clause = *h;
+    (clause.kind == 0 || clause.kind == 2 || clause.kind == 4) && (fat || is_small(clause))
 }
 
 /// Whether a section can have these clauses.
@@ -26,7 +27,7 @@ pub fn are_clauses(fat: bool, all: &[Handler]) -> bool
     ensures each { IsTrue result → AllByRecursion (grammar.IsClause fat) all.now }
 {
     for h in all {
-        if !is_clause(fat, *h) {
+        if !is_clause(fat, h) {
             return false;
         }
     }
