@@ -1,7 +1,6 @@
 //! A flag for each item of a kind, counted over all assemblies.
 
-ghost use Rattle.std.specs.Prelude.{◌≡◌, ◌+◌, map, IfOk};
-ghost use Rattle.std.specs.List.{range_with_len};
+ghost use Rattle.std.specs.Prelude.{◌≡◌, length, IfOk};
 ghost use Rattle.il_base.specs.declared.ids.Item.TheVariants as item;
 ghost use Rattle.mark_rules.specs.Facts.Fact.{marked, shown};
 ghost use Rattle.mark_facts.specs.Kinds.{count_in, item_numbered};
@@ -25,13 +24,13 @@ fn count_of(all: &[AsmRec], kind: Kind) -> Result<u32, NoMemory>
 }
 
 /// Which assemblies are marked.
-pub fn assembly_flags(alloc: Global, all: &[AsmRec], marked: &Marked) -> Result<Bits, NoMemory>
-    ensures { IfOk result (HasFlags (length all.now) (λ n. holds marked.now (marked (item.Asm (record { 0 = n }))))) }
+pub fn assembly_flags(alloc: Global, all: &[AsmRec], set: &Marked) -> Result<Bits, NoMemory>
+    ensures { IfOk result (HasFlags (length all.now) (λ n. holds set.now (marked (item.Asm (record { 0 = n }))))) }
 {
     let count = row_of(all.len())?;
     let mut flags = Seq::new(alloc);
     for id in 0..count {
-        flags.push(marked.has(Item::Asm(AsmId(id))))?;
+        flags.push(set.has(Item::Asm(AsmId(id))))?;
     }
     Ok(Bits { flags })
 }
@@ -41,26 +40,26 @@ pub fn item_flags(
     alloc: Global,
     all: &[AsmRec],
     kind: Kind,
-    marked: &Marked,
+    set: &Marked,
 ) -> Result<Bits, NoMemory>
-    ensures { IfOk result (HasFlags (rows_of (count_in kind) all.now) (λ n. holds marked.now (marked (item_numbered kind n)))) }
+    ensures { IfOk result (HasFlags (rows_of (count_in kind) all.now) (λ n. holds set.now (marked (item_numbered kind n)))) }
 {
     let count = count_of(all, kind)?;
     let mut flags = Seq::new(alloc);
     for id in 0..count {
-        flags.push(marked.has(item_numbered(kind, id)))?;
+        flags.push(set.has(item_numbered(kind, id)))?;
     }
     Ok(Bits { flags })
 }
 
 /// Which types are shown.
-pub fn shown_flags(alloc: Global, all: &[AsmRec], marked: &Marked) -> Result<Bits, NoMemory>
-    ensures { IfOk result (HasFlags (rows_of (count_in Kind.Type) all.now) (λ n. holds marked.now (shown (record { 0 = n })))) }
+pub fn shown_flags(alloc: Global, all: &[AsmRec], set: &Marked) -> Result<Bits, NoMemory>
+    ensures { IfOk result (HasFlags (rows_of (count_in Kind.Type) all.now) (λ n. holds set.now (shown (record { 0 = n })))) }
 {
     let count = count_of(all, Kind::Type)?;
     let mut flags = Seq::new(alloc);
     for id in 0..count {
-        flags.push(marked.shown(TypeId(id)))?;
+        flags.push(set.shown(TypeId(id)))?;
     }
     Ok(Bits { flags })
 }

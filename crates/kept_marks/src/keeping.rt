@@ -10,6 +10,7 @@ use std::alloc::Global;
 use world_model::World;
 
 /// The items of a world that are marked, the core library's among them.
+#[tactic(auto, using(crate::proofs::Told::kept_told))]
 pub fn kept_items(alloc: Global, world: &World, marked: &Marked) -> Result<KeptItems, NoMemory>
     ensures { IfOk result (KeepsMarked world.now.recs marked.now) }
 {
@@ -33,6 +34,7 @@ pub fn kept_items(alloc: Global, world: &World, marked: &Marked) -> Result<KeptI
 }
 
 /// The types of a world whose name or identity can be seen when the program runs.
+#[tactic(auto, using(crate::proofs::Told::shown_told))]
 pub fn shown_types(alloc: Global, world: &World, marked: &Marked) -> Result<Bits, NoMemory>
     ensures { IfOk result (ShowsMarked world.now.recs marked.now) }
 {
