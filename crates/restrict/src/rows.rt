@@ -9,7 +9,8 @@ ghost use Rattle.moved_parts.specs.Moves.{new_token};
 ghost use Rattle.merge_plan.specs.Kept.{kept_by};
 ghost use Rattle.merged_tables.specs.Parts.{output_by};
 ghost use Rattle.restrict.specs.Plans.{HasNewNames};
-ghost use Rattle.restrict.specs.Rows.{AreSources, output_from, AreAttributesOf, AreOutputRows};
+ghost use Rattle.restrict.specs.Referring.{AreAttributesOf};
+ghost use Rattle.restrict.specs.Rows.{AreSources, output_from, AreOutputRows};
 
 use crate::referring::referring;
 use il_base::{NoMemory, Seq};

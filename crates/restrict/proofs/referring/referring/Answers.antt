@@ -1,5 +1,6 @@
 use Rattle.std.proofs.Common.{◌≡◌, ◌++◌, List, map, sym, ap, subst, ◌∙◌}
 use Rattle.world_model.specs.declared.record.AsmRec.{AsmRec}
+use Rattle.mark_tables.specs.Assemblies.{all_of}
 use Rattle.merge_rules.specs.Order.{Met, met_by_types}
 use Rattle.merge_rules.specs.Attributes as rules
 use Rattle.merge_plan.specs.Kept.{kept_by}
@@ -34,5 +35,5 @@ returns c =
     record {
       attributes = made ∙ are.attributes;
       references = subst (λ (rs : List AsmRec). AreReferencesOf rs o.mets references) c.requires.same
-          (subst (λ (ms : List Met). AreReferencesOf _ ms references) met c.in_ok-references.ensures);
+          (subst (λ (ms : List Met). AreReferencesOf (all_of c.args.world.now.marker.now) ms references) met c.in_ok-references.ensures);
     }
