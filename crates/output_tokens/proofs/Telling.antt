@@ -13,7 +13,7 @@ use Rattle.merged_texts.specs.Texts.{text_by}
 use Rattle.merged_texts.specs.Laws.{TextsTell}
 use Rattle.merged_members.specs.Laws.{HasTokens, HaveTokens}
 use Rattle.token_keys.specs.declared.keys.Keys.{Keys}
-use Rattle.token_keys.specs.Keys.{place_of, rec_of}
+use Rattle.token_keys.specs.Keys.{rec_of}
 use Rattle.world_keys.specs.Keys.{AreKeysAt}
 use Rattle.assembly_tokens.specs.declared.moving.Moving.{Moving}
 use Rattle.assembly_tokens.specs.Tokens.{AreMovedTokens}

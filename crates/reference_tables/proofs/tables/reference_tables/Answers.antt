@@ -1,7 +1,4 @@
-use Rattle.std.proofs.Common.{◌≡◌, List, ap, ◌∙◌}
-use Rattle.il_base.specs.declared.ids.TypeId.{TypeId}
-use Rattle.il_base.specs.declared.sig.Sig.{Sig}
-use Rattle.world_model.specs.declared.assemblies.AssemblyRefRow.{AssemblyRefRow}
+use Rattle.std.proofs.Common.{◌≡◌, ap, ◌∙◌}
 use Rattle.merge_rules.specs.Refs.{assembly_refs}
 use Rattle.signature_rows.specs.Rows.{type_specs_by, locals_by}
 use Rattle.reference_assemblies.specs.Assemblies.{assemblies_by}

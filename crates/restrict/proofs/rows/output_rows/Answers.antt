@@ -1,4 +1,4 @@
-use Rattle.std.proofs.Common.{◌≡◌, List, sym, subst, map, ◌∙◌}
+use Rattle.std.proofs.Common.{◌≡◌, List, sym, subst, ◌∙◌}
 use Rattle.merge_plan.specs.Kept.{kept_by}
 use Rattle.merged_attributes.specs.declared.attributes.Attribute.{Attribute}
 use Rattle.merged_tables.specs.Parts.{output_by}

@@ -1,4 +1,4 @@
-use Rattle.std.proofs.Common.{◌≡◌, ℕ, List, refl, sym, ap, subst, map, ◌∙◌}
+use Rattle.std.proofs.Common.{◌≡◌, List, refl, sym, ap, subst, map, ◌∙◌}
 use Rattle.std.specs.Prelude.{slice_get}
 use Rattle.std.specs.List.{flat_map}
 use Rattle.link_rules.specs.declared.row_at.RowAt.{RowAt}
