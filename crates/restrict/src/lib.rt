@@ -2,6 +2,9 @@
 //! the one assembly that is left. `merge_rules/specs/Restricted` defines it.
 #![tactic(auto)]
 
+mod record;
+mod referring;
 mod restricting;
+mod rows;
 
 pub use restricting::restrict;
