@@ -20,6 +20,7 @@ pub use error::{BodyError, ReadBody};
 pub use header::read_header;
 pub use opcodes::kind;
 pub use reading::read_body;
+pub use rules::offender;
 pub use sizes::instr_size;
 pub use writing::write_body;
 
