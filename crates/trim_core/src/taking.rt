@@ -57,7 +57,8 @@ pub(crate) fn thin_alone<'a>(
             }
             [_, ..] => None,
         },
-        _ => None,
+        [] => None,
+        [_, _, ..] => None,
     }
 }
 
