@@ -13,6 +13,7 @@ use Rattle.core_table.specs.Record.{core_record}
 use Rattle.link_rules.specs.declared.link_error.LinkError.{LinkError}
 use Rattle.link_rules.specs.CoreNames.{missing_names, core_with}
 use Rattle.link_rules.specs.Linked.{IsWorld, assemblies, world_in, world_of, link_fault_of}
+use Rattle.flaw_laws.specs.There.{RowsThere}
 use Rattle.file_layout.specs.Laid.{laid}
 use Rattle.restriction.specs.Restricted.{restricted}
 use Rattle.trim_laws.specs.Headline.{Headline}
@@ -56,6 +57,11 @@ sound files w t = no_fault files (link_fault_of (records files)) (links files t.
 
 pub is_world : (files : List (List ℕ)) (w : World) → IsTaken files w → IsWorld w
 is_world files w t = record { inputs = records files; sound = sound files w t; linked = t.world }
+
+-- what holds of the world of all files that are refused by nothing
+pub rows_there : (files : List (List ℕ)) (w : World) → IsTaken files w
+    → ((fs : List (List ℕ)) → input_fault fs ≡ None → RowsThere (world_of (records fs)).recs) → RowsThere w.recs
+rows_there files w t law = subst (λ (v : World). RowsThere v.recs) (sym t.world) (law files t.sound)
 
 -- the records of the world: those of the files, and the core library's
 recs_are : (files : List (List ℕ)) (w : World) → IsTaken files w

@@ -19,7 +19,6 @@ use std::alloc::Global;
 use world_model::World;
 
 /// What is needed of files that were taken as a world: it is linked, and its rows of MethodImpl name rows of it.
-#[tactic(auto, using(crate::proofs::FileLemmas::is_world))]
 fn world_told(files: &Seq<Text>, world: &World)
     requires { IsTaken files.now world.now }
     ensures linked { IsWorld world.now }
