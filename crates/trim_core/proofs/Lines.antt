@@ -10,10 +10,6 @@ use Rattle.trim_core.specs.Colliding.{collision_in, type_place, type_name}
 pub none_more : {A : Type 0} (out : List A) → out ++ [] ≡ out
 none_more out = append-nil out
 
--- a full stop is 46
-pub three_put : (out namespace name : List ℕ) → ((out ++ namespace) ++ 46 ∷ []) ++ name ≡ out ++ (namespace ++ codes "." ++ name)
-three_put out namespace name = simp append_assoc
-
 -- `:` is 58
 pub place_put : (out name token : List ℕ) → ((out ++ name) ++ 58 ∷ []) ++ token ≡ out ++ (name ++ codes ":" ++ token)
 place_put out name token = simp append_assoc

@@ -42,19 +42,16 @@ fn row_in<'a>(rec: &'a AsmRec, row: u32) -> Option<&'a TypeDefRow>
     rec.type_def.get(row as usize)
 }
 
-/// Puts a type's namespace, a full stop and its name at the end; the name alone where it has no namespace.
-#[tactic(auto, using(crate::proofs::Lines::three_put))]
+/// Puts a type's namespace, if it has one, a full stop and its name at the end.
 fn put_full_name(t: &TypeDefRow, out: &mut Text) -> Result<(), NoMemory>
     ensures { OnOk result (out.new ≡ out.old ++ full_name t.now) }
 {
-    match t.namespace.as_slice() {
-        [] => out.extend_from_slice(t.name.as_slice()),
-        [_, ..] => {
-            out.extend_from_slice(t.namespace.as_slice())?;
-            out.push(b'.')?;
-            out.extend_from_slice(t.name.as_slice())
-        }
+    if !t.namespace.is_empty() {
+        out.extend_from_slice(t.namespace.as_slice())?;
+        out.push(b'.')?;
     }
+    out.extend_from_slice(t.name.as_slice())?;
+    Ok(())
 }
 
 /// Puts the name of the assembly of a row at the end.
