@@ -58,6 +58,9 @@ sound files w t = no_fault files (link_fault_of (records files)) (links files t.
 pub is_world : (files : List (List ℕ)) (w : World) → IsTaken files w → IsWorld w
 is_world files w t = record { inputs = records files; sound = sound files w t; linked = t.world }
 
+pub links_alone : (files : List (List ℕ)) (w : World) (inputs : List AsmRec) → IsTaken files w → inputs ≡ records files → link_fault_of inputs ≡ None
+links_alone files w inputs t e = subst (λ (rs : List AsmRec). link_fault_of rs ≡ None) (sym e) (sound files w t)
+
 -- what holds of the world of all files that are refused by nothing
 pub rows_there : (files : List (List ℕ)) (w : World) → IsTaken files w
     → ((fs : List (List ℕ)) → input_fault fs ≡ None → RowsThere (world_of (records fs)).recs) → RowsThere w.recs

@@ -37,8 +37,8 @@ fn is_thin_alone(rec: &AsmRec) -> bool
     is_thin_linked(rec) && rec.descriptor.is_none()
 }
 
-/// The record of one file, where no descriptor and no option is given, if it is thin.
-pub(crate) fn thin_alone<'a>(
+/// The first of these inputs, where it is the only one, no descriptor and no option is given, and it is thin.
+fn thin_alone<'a>(
     inputs: &'a [AsmRec],
     descriptors: &[Text],
     opts: Opts,
@@ -60,6 +60,21 @@ pub(crate) fn thin_alone<'a>(
         [] => None,
         [_, _, ..] => None,
     }
+}
+
+/// The record of one file, where no descriptor and no option is given, if it is thin.
+#[tactic(auto, using(crate::proofs::FileLemmas::links_alone))]
+pub(crate) fn thin_of<'a>(
+    files: &Seq<Text>,
+    world: &'a World,
+    descriptors: &[Text],
+    opts: Opts,
+) -> Option<&'a AsmRec>
+    requires { IsTaken files.now world.now }
+    ensures { option_copied result ≡ thin_alone (records files.now) descriptors.now opts }
+{
+    let inputs = inputs_of(files, world);
+    thin_alone(inputs, descriptors, opts)
 }
 
 /// The entry method of the first of these inputs.

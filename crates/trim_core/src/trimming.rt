@@ -11,7 +11,7 @@ ghost use Rattle.trim_core.specs.Trim.{Trims, TrimsFiles, TrimsUnless};
 use crate::alone::trim_alone;
 use crate::answers::{Opts, Refusal, Trimmed};
 use crate::program::trim_program;
-use crate::taking::{inputs_of, thin_alone};
+use crate::taking::{inputs_of, thin_of};
 use descriptor_file::Root;
 use descriptor_roots::{RootsError, descriptor_roots, within_length};
 use il_base::{Seq, Text, limit};
@@ -53,7 +53,7 @@ fn roots_refusal(error: RootsError) -> Refusal
 }
 
 /// Trims files that were taken as this world, with these elements of descriptors.
-#[tactic(auto, using(crate::proofs::FileLemmas::by_thin, crate::proofs::FileLemmas::by_all))]
+#[tactic(auto, using(crate::proofs::FileLemmas::are_thin, crate::proofs::FileLemmas::by_thin, crate::proofs::FileLemmas::by_all))]
 fn trim_rooted(
     alloc: Global,
     files: &Seq<Text>,
@@ -66,8 +66,7 @@ fn trim_rooted(
     requires roots { roots.now ≡ roots_of (records files.now) descriptors.now }
     ensures { TrimsFiles files.now descriptors.now opts result }
 {
-    let inputs = inputs_of(files, world);
-    match thin_alone(inputs, descriptors.as_slice(), opts) {
+    match thin_of(files, world, descriptors.as_slice(), opts) {
         Some(rec) => trim_alone(alloc, files.as_slice(), rec),
         None => trim_program(alloc, files, world, roots, opts),
     }
