@@ -1,6 +1,6 @@
 -- What is marked, kept and planned, as the answer of a trim has it.
-use Rattle.std.proofs.Common.{◌≡◌, ℕ, Bool, List, Option, Some, None, refl, sym, subst}
-use Rattle.std.specs.Prelude.{IsTrue, ◌↔◌, inl, inr}
+use Rattle.std.proofs.Common.{◌≡◌, ℕ, Bool, List, Option, Some, None, sym, subst, inl, inr}
+use Rattle.std.specs.Prelude.{IsTrue, ◌↔◌}
 use Rattle.il_base.specs.declared.bits.Bits.{Bits}
 use Rattle.il_base.specs.declared.ids.Item.{Item}
 use Rattle.il_base.specs.declared.ids.TypeId.{TypeId}
