@@ -9,17 +9,15 @@ use Rattle.world_model.specs.declared.known.BadKind.TheVariants.{Unresolved, Out
 use Rattle.world_model.specs.declared.record.AsmRec.{AsmRec}
 use Rattle.link_rules.specs.declared.row_at.RowAt.{RowAt}
 use Rattle.descriptor_file.specs.declared.root.Root.{Root}
-use Rattle.mark_rules.specs.Facts.Fact as fact
+use Rattle.mark_rules.specs.Facts.Fact.{marked, shown}
 use Rattle.mark_rules.specs.Marking.{Marks}
 use Rattle.mark_rules.specs.BadItems.{Flaw, IsFirstFlaw}
 use Rattle.mark_rules.specs.KeepList.{keep_list}
 use Rattle.mark_numbers.specs.Numbers.{is_there}
+use Rattle.merge_rules.specs.Names.{Collision, collision}
 use Rattle.merge_rules.specs.Numbers.{Kept, kept_types}
 use Rattle.merge_rules.specs.Restricted.{restricted}
-use Rattle.merge_plan.specs.declared.outcome.Plan.{Plan}
-use Rattle.merge_plan.specs.declared.outcome.Planned.{Planned}
-use Rattle.merge_plan.specs.declared.outcome.Planned.TheVariants as planned
-use Rattle.merge_plan.specs.Plans.{planned_by}
+use Rattle.merge_plan.specs.Plans.{id_of}
 use Rattle.record_layout.specs.Laid.{laid}
 use Rattle.record_layout.specs.Limits.{limit_of}
 use Rattle.program_trim.specs.declared.answers.ProgramTrim.{ProgramTrim}
@@ -30,20 +28,20 @@ use Rattle.program_trim.specs.declared.answers.TrimFault.TheVariants as refusal
 
 -- of each item that is there the set says whether the program needs it, and it has no others
 pub record IsKeptSet (recs : List AsmRec) (entry : Option RowAt) (roots : List Root) (kept : Kept) : Type 0 where
-  pub exact : (i : Item) → IsTrue (is_there recs (fact.marked i)) → IsTrue (kept i) ↔ Marks recs entry roots (fact.marked i)
-  pub absent : (i : Item) → is_there recs (fact.marked i) ≡ false → kept i ≡ false
+  pub exact : (i : Item) → IsTrue (is_there recs (marked i)) → IsTrue (kept i) ↔ Marks recs entry roots (marked i)
+  pub absent : (i : Item) → is_there recs (marked i) ≡ false → kept i ≡ false
 
 -- of each type that is there the test says whether its name or identity can be seen when the program runs
 abbrev pub IsShownSet : List AsmRec → Option RowAt → List Root → (TypeId → Bool) → Type 0
-IsShownSet recs entry roots shown = (t : TypeId) → IsTrue (is_there recs (fact.shown t)) → IsTrue (shown t) ↔ Marks recs entry roots (fact.shown t)
+IsShownSet recs entry roots seen = (t : TypeId) → IsTrue (is_there recs (shown t)) → IsTrue (seen t) ↔ Marks recs entry roots (shown t)
 
--- ---- what a merge does with names
+-- ---- names
 
--- the plan of a merge of the kept types, or the first collision of two of them
-pub record IsPlanned (recs : List AsmRec) (entry : Option RowAt) (roots : List Root) (internal : Bool) (kept : Kept) (answer : Planned) : Type 0 where
-  pub shown : TypeId → Bool
-  pub exact : IsShownSet recs entry roots shown
-  pub planned : planned_by internal recs shown (kept_types recs kept) ≡ answer
+-- the first collision of two kept types that want one name, None where there is none
+pub record IsCollision (recs : List AsmRec) (entry : Option RowAt) (roots : List Root) (kept : Kept) (answer : Option Collision) : Type 0 where
+  pub seen : TypeId → Bool
+  pub exact : IsShownSet recs entry roots seen
+  pub first : collision recs seen (kept_types recs kept) ≡ answer
 
 -- ---- what is wrong with what is needed
 
@@ -65,28 +63,29 @@ pub record TrimmedWorld (recs : List AsmRec) (entry : Option RowAt) (roots : Lis
   pub kept : Kept
   pub exact : IsKeptSet recs entry roots kept
   pub good : HasNoFlaw recs entry roots
-  pub plan : Plan
-  pub unique : IsPlanned recs entry roots internal kept (planned.Plan plan)
+  pub unique : IsCollision recs entry roots kept None
   pub left : AsmRec
   pub restricted : restricted internal recs kept ≡ Some left
   pub bytes : t.bytes ≡ laid left
   pub within : limit_of left ≡ None
   pub list : t.kept ≡ keep_list recs kept
 
--- two types want one name
-pub record Collides (recs : List AsmRec) (entry : Option RowAt) (roots : List Root) (internal : Bool) (first second : TypeId) : Type 0 where
+-- these two types want one name
+pub record Collides (recs : List AsmRec) (entry : Option RowAt) (roots : List Root) (first second : TypeId) : Type 0 where
   pub kept : Kept
   pub exact : IsKeptSet recs entry roots kept
   pub good : HasNoFlaw recs entry roots
-  pub collision : IsPlanned recs entry roots internal kept (planned.Collision first second)
+  pub both : Collision
+  pub collides : IsCollision recs entry roots kept (Some both)
+  pub first_is : first ≡ id_of recs both.first
+  pub second_is : second ≡ id_of recs both.second
 
 -- the file of what is left passes a limit
 pub record IsTooLong (recs : List AsmRec) (entry : Option RowAt) (roots : List Root) (internal : Bool) (which found : ℕ) : Type 0 where
   pub kept : Kept
   pub exact : IsKeptSet recs entry roots kept
   pub good : HasNoFlaw recs entry roots
-  pub plan : Plan
-  pub unique : IsPlanned recs entry roots internal kept (planned.Plan plan)
+  pub unique : IsCollision recs entry roots kept None
   pub left : AsmRec
   pub restricted : restricted internal recs kept ≡ Some left
   pub passed : limit_of left ≡ Some (which, found)
@@ -100,7 +99,7 @@ pub record HasLongBody (recs : List AsmRec) (entry : Option RowAt) (roots : List
 abbrev pub RefusesWorld : List AsmRec → Option RowAt → List Root → Bool → TrimFault → Type 0
 RefusesWorld recs entry roots internal (refusal.Outside place what) = IsFlawedAt recs entry roots place (Outside what)
 RefusesWorld recs entry roots internal (refusal.Unresolved place) = IsFlawedAt recs entry roots place Unresolved
-RefusesWorld recs entry roots internal (refusal.Collision first second) = Collides recs entry roots internal first second
+RefusesWorld recs entry roots internal (refusal.Collision first second) = Collides recs entry roots first second
 RefusesWorld recs entry roots internal (refusal.Limit which found) =
     HasLongBody recs entry roots which found ⊎ IsTooLong recs entry roots internal which found
 RefusesWorld recs entry roots internal refusal.NoMemory = Unit {0}

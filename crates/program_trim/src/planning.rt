@@ -1,31 +1,36 @@
 //! The plan of a merge of what is kept.
 
-ghost use Rattle.std.specs.Prelude.{◌≡◌, MatchResult};
-ghost use Rattle.merge_rules.specs.Numbers.{kept_types};
+ghost use Rattle.std.specs.Prelude.{IfOk, IfErr};
 ghost use Rattle.merge_plan.specs.Kept.{kept_by};
 ghost use Rattle.merge_plan.specs.Contests.{shown_by};
-ghost use Rattle.merge_plan.specs.Plans.{planned_by, IsRefusal};
+ghost use Rattle.program_trim.specs.Programs.{IsPlan, IsInTheWay};
 
 use il_base::Bits;
 use merge_plan::outcome::{Plan, PlanError};
 use merge_plan::{KeptItems, plan};
 use std::alloc::Global;
 use type_links::TypeIndex;
-use world_model::World;
+use world_model::AsmRec;
 
-/// The plan of a merge of the kept types of a world, or the first collision of two of them.
+/// The plan of a merge of the kept types of these assemblies, or the first collision of two of them. `shown` has a flag for each
+/// type whose name or identity can be seen when the program runs.
 pub(crate) fn plan_of(
     alloc: Global,
-    world: &World,
+    recs: &[AsmRec],
     kept: &KeptItems,
     shown: &Bits,
     internal: bool,
 ) -> Result<Plan, PlanError>
-    ensures { let wanted = planned_by internal world.now.recs (shown_by shown.now) (kept_types world.now.recs (kept_by kept.now)) in
-        MatchResult result (λ p. wanted ≡ Planned.Plan p) (IsRefusal wanted) }
+    ensures planned { IfOk result (IsPlan recs.now (shown_by shown.now) internal (kept_by kept.now)) }
+    ensures collides { IfErr result (IsInTheWay recs.now (shown_by shown.now) (kept_by kept.now)) }
 {
-    let Ok(index) = TypeIndex::of(alloc, world.recs.as_slice()) else {
-        return Err(PlanError::NoMemory);
+    let index = match TypeIndex::of(alloc, recs) {
+        Err(_) => return Err(PlanError::NoMemory),
+        Ok(index) => index,
     };
-    plan(alloc, &index, kept, shown, internal)
+    match plan(alloc, &index, kept, shown, internal) {
+        Err(PlanError::NoMemory) => Err(PlanError::NoMemory),
+        Err(PlanError::Collision { first, second }) => Err(PlanError::Collision { first, second }),
+        Ok(plan) => Ok(plan),
+    }
 }

@@ -1,11 +1,10 @@
 //! The trim of a linked world.
 
-ghost use Rattle.std.specs.Prelude.{◌≡◌};
+ghost use Rattle.std.specs.Prelude.{◌≡◌, None};
 ghost use Rattle.link_rules.specs.Linked.{IsWorld};
 ghost use Rattle.flaw_laws.specs.There.{RowsThere};
-ghost use Rattle.merge_plan.specs.declared.outcome.Planned.TheVariants as planned;
 ghost use Rattle.merge_plan.specs.Kept.{kept_by};
-ghost use Rattle.program_trim.specs.Programs.{IsLinked, IsGood, HasMarks, Keeps, Plans, Leaves, Trims, place_of, refusal_by};
+ghost use Rattle.program_trim.specs.Programs.{IsLinked, IsGood, HasMarks, Keeps, Collides, Names, Leaves, Trims, place_of, refusal_by};
 ghost use Rattle.program_trim.specs.Trim.{TrimsWorld};
 
 use crate::answers::{ProgramTrim, TrimFault};
@@ -47,13 +46,12 @@ fn write_left(
     alloc: Global,
     program: &Program<'_>,
     kept: &KeptItems,
-    plan: &Plan,
     left: &AsmRec,
 ) -> Result<ProgramTrim, TrimFault>
     requires linked { IsLinked program.now }
     requires good { IsGood program.now }
     requires kept { Keeps program.now (kept_by kept.now) }
-    requires plan { Plans program.now (kept_by kept.now) (planned.Plan plan.now) }
+    requires unique { Collides program.now (kept_by kept.now) None }
     requires left { Leaves program.now (kept_by kept.now) left.now }
     ensures { Trims program.now result }
 {
@@ -76,12 +74,13 @@ fn trim_kept(
     requires linked { IsLinked program.now }
     requires good { IsGood program.now }
     requires kept { Keeps program.now (kept_by kept.now) }
-    requires plan { Plans program.now (kept_by kept.now) (planned.Plan plan.now) }
+    requires unique { Collides program.now (kept_by kept.now) None }
+    requires names { Names program.now (kept_by kept.now) plan.now }
     ensures { Trims program.now result }
 {
     match restrict(alloc, program.world, kept, plan) {
         Err(_) => Err(TrimFault::NoMemory),
-        Ok(left) => write_left(alloc, program, kept, plan, &left),
+        Ok(left) => write_left(alloc, program, kept, &left),
     }
 }
 
@@ -98,7 +97,8 @@ fn trim_marked(
 {
     let kept = kept_items(alloc, program.world, marked)?;
     let shown = shown_types(alloc, program.world, marked)?;
-    match plan_of(alloc, program.world, &kept, &shown, program.internal) {
+    let recs = program.world.recs.as_slice();
+    match plan_of(alloc, recs, &kept, &shown, program.internal) {
         Err(PlanError::NoMemory) => Err(TrimFault::NoMemory),
         Err(PlanError::Collision { first, second }) => Err(TrimFault::Collision { first, second }),
         Ok(plan) => trim_kept(alloc, program, &kept, &plan),
