@@ -1,5 +1,5 @@
 -- What files were taken as, and what a trim of them is.
-use Rattle.std.proofs.Common.{◌≡◌, ℕ, ◌≤◌, Bool, List, [], ◌∷◌, ◌++◌, length, take, map, Option, Some, None, Result, Ok, Err, true, false, nat_le, refl, sym, ap, subst, ◌∙◌, arith, rules}
+use Rattle.std.proofs.Common.{◌≡◌, ℕ, suc, ◌≤◌, Bool, List, [], ◌∷◌, ◌++◌, length, take, map, Option, Some, None, Result, Ok, Err, true, false, nat_le, refl, sym, ap, subst, ◌∙◌, arith, rules}
 use Rattle.std.specs.Prelude.{IsTrue, is_some, not, ◌&&◌, if◌then◌else◌}
 use Rattle.std.specs.Option.{option_map}
 use Rattle.std.proofs.lemmas.Bool.Decides.{nat_tests}
@@ -85,6 +85,16 @@ inputs_within files w t = subst (λ (xs : List AsmRec). length files ≤ length 
 
 pub inputs_are : (files : List (List ℕ)) (w : World) → IsTaken files w → take (length files) w.recs ≡ records files
 inputs_are files w t = ap (λ (xs : List AsmRec). take (length files) xs) (recs_are files w t) ∙ front_is files _
+
+length_records : (files : List (List ℕ)) → length (records files) ≡ length files
+length_records [] = refl
+length_records (f ∷ fs) = ap (λ (n : ℕ). suc n) (length_records fs)
+
+-- as many records stand at the front as there are files
+pub count_is : (files : List (List ℕ)) (w : World) (n : ℕ) (xs : List AsmRec) → IsTaken files w → n ≡ length files → xs ≡ w.recs → n ≡ length (take n xs)
+count_is files w n xs t a b =
+    a ∙ sym (length_records files) ∙ ap (λ (ys : List AsmRec). length ys) (sym (inputs_are files w t))
+    ∙ ap (λ (ys : List AsmRec). length (take (length files) ys)) (sym b) ∙ ap (λ (m : ℕ). length (take m xs)) (sym a)
 
 -- ---- one thin file alone
 
