@@ -8,4 +8,5 @@ mod records;
 mod take;
 
 pub use error::InputError;
+pub use limits::within_limits;
 pub use take::take_files;

@@ -49,8 +49,8 @@ fn bytes_of(files: &[Text]) -> Result<u64, NoMemory>
     }
 }
 
-/// The first limit that is passed.
-pub(crate) fn within_limits(files: &[Text]) -> Result<(), InputError>
+/// The first limit that files pass: the number of files, then the length of each, then the sum of the lengths.
+pub fn within_limits(files: &[Text]) -> Result<(), InputError>
     ensures { Passes (limit_fault files.now) result }
 {
     if files.len() > MOST_FILES {

@@ -1,0 +1,4 @@
+pub mod Made
+pub mod Plans
+pub mod Referring
+pub mod Rows

@@ -1,0 +1,11 @@
+-- The plan that a merge goes by.
+use Rattle.std.specs.Prelude.{◌≡◌, List, map}
+use Rattle.world_model.specs.declared.record.AsmRec.{AsmRec}
+use Rattle.merge_rules.specs.Numbers.{Kept, kept_types}
+use Rattle.merge_rules.specs.Names.{new_names}
+use Rattle.merge_plan.specs.declared.outcome.Plan.{Plan}
+use Rattle.merge_plan.specs.Plans.{named}
+
+-- it has the new names of the kept types; so has each that `merge_plan::plan` answers for them
+abbrev pub HasNewNames : List AsmRec → Kept → Plan → Type 0
+HasNewNames recs kept plan = plan.names ≡ map (named recs) (new_names recs (kept_types recs kept))

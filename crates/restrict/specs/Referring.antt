@@ -1,0 +1,16 @@
+-- What an output refers to, over what code holds.
+use Rattle.std.specs.Prelude.{◌≡◌, List, map}
+use Rattle.merge_rules.specs.Refs.{Output}
+use Rattle.merge_rules.specs.Attributes.{kept_attributes}
+use Rattle.merged_attributes.specs.declared.attributes.Attribute.{Attribute}
+use Rattle.merged_attributes.specs.Attributes.{told}
+use Rattle.output_references.specs.References.{AreReferencesOf}
+use Rattle.restrict.specs.declared.referring.Referring.{Referring}
+
+-- the attributes that are written
+abbrev pub AreAttributesOf : Output → List Attribute → Type 0
+AreAttributesOf o attributes = map told attributes ≡ kept_attributes o.recs o.kept
+
+pub record AreReferring (o : Output) (r : Referring) : Type 0 where
+  pub attributes : AreAttributesOf o r.attributes.items
+  pub references : AreReferencesOf o.recs o.mets r.references

@@ -1,0 +1,40 @@
+-- What the rows of an output are made of, and these rows.
+use Rattle.std.specs.Prelude.{◌≡◌, Bool, map}
+use Rattle.world_model.specs.declared.record.AsmRec.{AsmRec}
+use Rattle.type_links.specs.Index.{IsIndex}
+use Rattle.mark_tables.specs.Assemblies.{all_of}
+use Rattle.merge_rules.specs.Refs.{Output}
+use Rattle.merge_rules.specs.Attributes.{kept_attributes}
+use Rattle.merge_rules.specs.Moved.{moved_callee, kept_texts}
+use Rattle.merge_rules.specs.Restricted.{attribute_row, new_text}
+use Rattle.merge_plan.specs.Kept.{kept_by}
+use Rattle.kept_tables.specs.Kept.{AreKept}
+use Rattle.world_keys.specs.Keys.{IsWorldKeys}
+use Rattle.key_tokens.specs.Keys.{AreKeyTokens}
+use Rattle.key_tokens.specs.Laws.{AreKeysOf}
+use Rattle.reference_tables.specs.Tables.{AreTablesOf}
+use Rattle.merged_types.specs.Laws.{IsPlanOf}
+use Rattle.merged_tables.specs.Parts.{output_by}
+use Rattle.merged_tables.specs.Rows.{AreMergedTables}
+use Rattle.restrict.specs.declared.rows.Sources.{Sources}
+use Rattle.restrict.specs.declared.rows.OutputRows.{OutputRows}
+
+-- the output of these assemblies and kept items
+abbrev pub output_from : Sources → Output
+output_from s = output_by s.index.now.all.now (kept_by s.kept.now)
+
+pub record AreSources (s : Sources) : Type 0 where
+  pub world : IsWorldKeys s.world
+  pub index : IsIndex s.index.now
+  pub same : all_of s.world.marker.now ≡ s.index.now.all.now
+  pub keys : AreKeyTokens s.keys
+  pub told : AreKeysOf (output_from s) s.keys
+  pub plan : IsPlanOf (output_from s) s.plan.now
+  pub tables : AreKept s.index.now.all.now (kept_by s.kept.now) s.tables.now
+
+pub record AreOutputRows (internal : Bool) (o : Output) (first : AsmRec) (r : OutputRows) : Type 0 where
+  pub entry : r.entry ≡ moved_callee o 0 first first.entry
+  pub tables : AreMergedTables internal o r.tables
+  pub references : AreTablesOf o r.references
+  pub attributes : r.attributes ≡ map (attribute_row o) (kept_attributes o.recs o.kept)
+  pub user : r.user ≡ map (new_text o) (kept_texts o)

@@ -1,0 +1,41 @@
+//! The record that is left.
+
+ghost use Rattle.std.specs.Prelude.{◌≡◌, Some, IfOk};
+ghost use Rattle.link_rules.specs.Linked.{IsWorld};
+ghost use Rattle.merge_rules.specs.Restricted.{restricted};
+ghost use Rattle.merge_plan.specs.Kept.{kept_by};
+ghost use Rattle.restrict.specs.Plans.{HasNewNames};
+
+use crate::record::{first_rows, made};
+use crate::rows::output_rows;
+use il_base::NoMemory;
+use mark_tables::marker::Marker;
+use member_search::linked::assembly_at;
+use merge_plan::KeptItems;
+use merge_plan::outcome::Plan;
+use std::alloc::Global;
+use type_links::TypeIndex;
+use world_model::{AsmRec, World};
+
+/// The record that is left of a world's assemblies, of which the last is the core library. `plan` has the new names of the kept
+/// types.
+pub fn restrict(
+    alloc: Global,
+    world: &World,
+    kept: &KeptItems,
+    plan: &Plan,
+) -> Result<AsmRec, NoMemory>
+    requires world { IsWorld world.now }
+    requires plan { HasNewNames world.now.recs (kept_by kept.now) plan.now }
+    ensures { IfOk result (λ left. restricted plan.now.internal world.now.recs (kept_by kept.now) ≡ Some left) }
+{
+    let marker = Marker::of(alloc, world)?;
+    let recs = world.recs.as_slice();
+    let index = TypeIndex::of(alloc, recs)?;
+    let Some(first) = assembly_at(index.all, 0) else {
+        return Err(NoMemory);
+    };
+    let rows = output_rows(alloc, &marker, &index, kept, plan, first)?;
+    let own = first_rows(alloc, first)?;
+    Ok(made(alloc, first, own, rows))
+}

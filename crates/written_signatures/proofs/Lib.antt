@@ -1,0 +1,4 @@
+pub mod TypeForms
+pub mod CodeSizes
+pub mod Taken
+pub mod CodeRuns
