@@ -1,6 +1,5 @@
 -- The world of files that nothing refuses.
 use Rattle.std.proofs.Common.{◌≡◌, ℕ, List, Option, Some, None, refl, sym, subst, rules}
-use Rattle.world_model.specs.declared.record.AsmRec.{AsmRec}
 use Rattle.world_model.specs.declared.world.World.{World}
 use Rattle.link_rules.specs.declared.link_error.LinkError.{LinkError}
 use Rattle.link_rules.specs.Linked.{IsWorld, world_of, link_fault_of}

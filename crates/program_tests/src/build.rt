@@ -138,12 +138,7 @@ fn define(
 }
 
 /// A public class whose methods, so many, are to be pushed next.
-pub fn class(
-    rec: &mut AsmRec,
-    alloc: Global,
-    name: &[u8],
-    methods: u32,
-) -> Result<(), NoMemory> {
+pub fn class(rec: &mut AsmRec, alloc: Global, name: &[u8], methods: u32) -> Result<(), NoMemory> {
     define(rec, alloc, 0x0010_0001, name, OBJECT, methods)
 }
 
@@ -217,12 +212,7 @@ fn body(alloc: Global, calls: &[u32]) -> Result<Body, NoMemory> {
 }
 
 /// A public static method without parameters, which returns nothing and calls each of these methods.
-pub fn method(
-    rec: &mut AsmRec,
-    alloc: Global,
-    name: &[u8],
-    calls: &[u32],
-) -> Result<(), NoMemory> {
+pub fn method(rec: &mut AsmRec, alloc: Global, name: &[u8], calls: &[u32]) -> Result<(), NoMemory> {
     let body = body(alloc, calls)?;
     rec.method_def.push(MethodDefRow {
         rva: 0x2050,

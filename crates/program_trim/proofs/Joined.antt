@@ -2,7 +2,6 @@
 use Rattle.std.proofs.Common.{◌≡◌, ℕ, Bool, List, Option, Some, None, sym, subst, inl, inr}
 use Rattle.std.specs.Prelude.{IsTrue, ◌↔◌}
 use Rattle.il_base.specs.declared.bits.Bits.{Bits}
-use Rattle.il_base.specs.declared.ids.Item.{Item}
 use Rattle.il_base.specs.declared.ids.TypeId.{TypeId}
 use Rattle.il_base.specs.declared.ids.Place.{Place}
 use Rattle.world_model.specs.declared.known.BadKind.{BadKind}
