@@ -1,7 +1,6 @@
 -- Flags of each kind are those of the marked set.
-use Rattle.std.proofs.Common.{◌≡◌, ◌<◌, ◌≤◌, ℕ, ◌+◌, List, length, map, Bool, true, false, nat_lt, refl, sym, ap, ◌∙◌, arith}
+use Rattle.std.proofs.Common.{◌≡◌, ℕ, List, length, Bool, true, false, nat_lt, refl, sym, ap, ◌∙◌, arith}
 use Rattle.std.specs.Prelude.{slice_get, unwrap_or, IsTrue}
-use Rattle.std.specs.List.{range_with_len}
 use Rattle.std.specs.Option.{is_some}
 use Rattle.std.proofs.lemmas.Bool.{ltb-true, ltb-false}
 use Rattle.il_base.specs.declared.bits.Bits.{Bits}
@@ -39,36 +38,36 @@ module _ (test : ℕ → Bool) (count : ℕ) (bits : Bits) (flags : HasFlags cou
   told_others n b e f = unset n (sym e ∙ f)
 
 module _ (recs : List AsmRec) (m : Marked) (k : KeptItems)
-  (asms : HasFlags (length recs) (λ n. holds m (marked (item.Asm (record { 0 = n })))) k.assemblies)
-  (types : HasFlags (rows_of types_in recs) (λ n. holds m (marked (item.Typ (record { 0 = n })))) k.types)
-  (methods : HasFlags (rows_of methods_in recs) (λ n. holds m (marked (item.Method (record { 0 = n })))) k.methods)
-  (fields : HasFlags (rows_of fields_in recs) (λ n. holds m (marked (item.Field (record { 0 = n })))) k.fields)
-  (props : HasFlags (rows_of props_in recs) (λ n. holds m (marked (item.Prop (record { 0 = n })))) k.properties)
-  (events : HasFlags (rows_of events_in recs) (λ n. holds m (marked (item.Event (record { 0 = n })))) k.events)
-  (impls : HasFlags (rows_of impls_in recs) (λ n. holds m (marked (item.Impl (record { 0 = n })))) k.interfaces)
+    (asms : HasFlags (length recs) (λ n. holds m (marked (item.Asm (record { 0 = n })))) k.assemblies)
+    (types : HasFlags (rows_of types_in recs) (λ n. holds m (marked (item.Typ (record { 0 = n })))) k.types)
+    (methods : HasFlags (rows_of methods_in recs) (λ n. holds m (marked (item.Method (record { 0 = n })))) k.methods)
+    (fields : HasFlags (rows_of fields_in recs) (λ n. holds m (marked (item.Field (record { 0 = n })))) k.fields)
+    (props : HasFlags (rows_of props_in recs) (λ n. holds m (marked (item.Prop (record { 0 = n })))) k.properties)
+    (events : HasFlags (rows_of events_in recs) (λ n. holds m (marked (item.Event (record { 0 = n })))) k.events)
+    (impls : HasFlags (rows_of impls_in recs) (λ n. holds m (marked (item.Impl (record { 0 = n })))) k.interfaces)
   where
-  kept_there : (i : Item) → IsTrue (is_there recs (marked i)) → kept_by k i ≡ holds m (marked i)
-  unfolding is_there row_of
-  kept_there (item.Asm a) t = told_there (λ n. holds m (marked (item.Asm (record { 0 = n })))) (length recs) k.assemblies asms a.0 (is_some (row_of recs (item.Asm a))) (there_asm recs a.0) t
-  kept_there (item.Typ x) t = told_there (λ n. holds m (marked (item.Typ (record { 0 = n })))) (rows_of types_in recs) k.types types x.0 (is_some (row_of recs (item.Typ x))) (there_from types_in recs 0 x.0) t
-  kept_there (item.Method x) t = told_there (λ n. holds m (marked (item.Method (record { 0 = n })))) (rows_of methods_in recs) k.methods methods x.0 (is_some (row_of recs (item.Method x))) (there_from methods_in recs 0 x.0) t
-  kept_there (item.Field x) t = told_there (λ n. holds m (marked (item.Field (record { 0 = n })))) (rows_of fields_in recs) k.fields fields x.0 (is_some (row_of recs (item.Field x))) (there_from fields_in recs 0 x.0) t
-  kept_there (item.Prop x) t = told_there (λ n. holds m (marked (item.Prop (record { 0 = n })))) (rows_of props_in recs) k.properties props x.0 (is_some (row_of recs (item.Prop x))) (there_from props_in recs 0 x.0) t
-  kept_there (item.Event x) t = told_there (λ n. holds m (marked (item.Event (record { 0 = n })))) (rows_of events_in recs) k.events events x.0 (is_some (row_of recs (item.Event x))) (there_from events_in recs 0 x.0) t
-  kept_there (item.Impl x) t = told_there (λ n. holds m (marked (item.Impl (record { 0 = n })))) (rows_of impls_in recs) k.interfaces impls x.0 (is_some (row_of recs (item.Impl x))) (there_from impls_in recs 0 x.0) t
+    kept_there : (i : Item) → IsTrue (is_there recs (marked i)) → kept_by k i ≡ holds m (marked i)
+    unfolding is_there row_of
+    kept_there (item.Asm a) t = told_there (λ n. holds m (marked (item.Asm (record { 0 = n })))) (length recs) k.assemblies asms a.0 (is_some (row_of recs (item.Asm a))) (there_asm recs a.0) t
+    kept_there (item.Typ x) t = told_there (λ n. holds m (marked (item.Typ (record { 0 = n })))) (rows_of types_in recs) k.types types x.0 (is_some (row_of recs (item.Typ x))) (there_from types_in recs 0 x.0) t
+    kept_there (item.Method x) t = told_there (λ n. holds m (marked (item.Method (record { 0 = n })))) (rows_of methods_in recs) k.methods methods x.0 (is_some (row_of recs (item.Method x))) (there_from methods_in recs 0 x.0) t
+    kept_there (item.Field x) t = told_there (λ n. holds m (marked (item.Field (record { 0 = n })))) (rows_of fields_in recs) k.fields fields x.0 (is_some (row_of recs (item.Field x))) (there_from fields_in recs 0 x.0) t
+    kept_there (item.Prop x) t = told_there (λ n. holds m (marked (item.Prop (record { 0 = n })))) (rows_of props_in recs) k.properties props x.0 (is_some (row_of recs (item.Prop x))) (there_from props_in recs 0 x.0) t
+    kept_there (item.Event x) t = told_there (λ n. holds m (marked (item.Event (record { 0 = n })))) (rows_of events_in recs) k.events events x.0 (is_some (row_of recs (item.Event x))) (there_from events_in recs 0 x.0) t
+    kept_there (item.Impl x) t = told_there (λ n. holds m (marked (item.Impl (record { 0 = n })))) (rows_of impls_in recs) k.interfaces impls x.0 (is_some (row_of recs (item.Impl x))) (there_from impls_in recs 0 x.0) t
 
-  others_not : (i : Item) → is_there recs (marked i) ≡ false → kept_by k i ≡ false
-  unfolding is_there row_of
-  others_not (item.Asm a) f = told_others (λ n. holds m (marked (item.Asm (record { 0 = n })))) (length recs) k.assemblies asms a.0 (is_some (row_of recs (item.Asm a))) (there_asm recs a.0) f
-  others_not (item.Typ x) f = told_others (λ n. holds m (marked (item.Typ (record { 0 = n })))) (rows_of types_in recs) k.types types x.0 (is_some (row_of recs (item.Typ x))) (there_from types_in recs 0 x.0) f
-  others_not (item.Method x) f = told_others (λ n. holds m (marked (item.Method (record { 0 = n })))) (rows_of methods_in recs) k.methods methods x.0 (is_some (row_of recs (item.Method x))) (there_from methods_in recs 0 x.0) f
-  others_not (item.Field x) f = told_others (λ n. holds m (marked (item.Field (record { 0 = n })))) (rows_of fields_in recs) k.fields fields x.0 (is_some (row_of recs (item.Field x))) (there_from fields_in recs 0 x.0) f
-  others_not (item.Prop x) f = told_others (λ n. holds m (marked (item.Prop (record { 0 = n })))) (rows_of props_in recs) k.properties props x.0 (is_some (row_of recs (item.Prop x))) (there_from props_in recs 0 x.0) f
-  others_not (item.Event x) f = told_others (λ n. holds m (marked (item.Event (record { 0 = n })))) (rows_of events_in recs) k.events events x.0 (is_some (row_of recs (item.Event x))) (there_from events_in recs 0 x.0) f
-  others_not (item.Impl x) f = told_others (λ n. holds m (marked (item.Impl (record { 0 = n })))) (rows_of impls_in recs) k.interfaces impls x.0 (is_some (row_of recs (item.Impl x))) (there_from impls_in recs 0 x.0) f
+    others_not : (i : Item) → is_there recs (marked i) ≡ false → kept_by k i ≡ false
+    unfolding is_there row_of
+    others_not (item.Asm a) f = told_others (λ n. holds m (marked (item.Asm (record { 0 = n })))) (length recs) k.assemblies asms a.0 (is_some (row_of recs (item.Asm a))) (there_asm recs a.0) f
+    others_not (item.Typ x) f = told_others (λ n. holds m (marked (item.Typ (record { 0 = n })))) (rows_of types_in recs) k.types types x.0 (is_some (row_of recs (item.Typ x))) (there_from types_in recs 0 x.0) f
+    others_not (item.Method x) f = told_others (λ n. holds m (marked (item.Method (record { 0 = n })))) (rows_of methods_in recs) k.methods methods x.0 (is_some (row_of recs (item.Method x))) (there_from methods_in recs 0 x.0) f
+    others_not (item.Field x) f = told_others (λ n. holds m (marked (item.Field (record { 0 = n })))) (rows_of fields_in recs) k.fields fields x.0 (is_some (row_of recs (item.Field x))) (there_from fields_in recs 0 x.0) f
+    others_not (item.Prop x) f = told_others (λ n. holds m (marked (item.Prop (record { 0 = n })))) (rows_of props_in recs) k.properties props x.0 (is_some (row_of recs (item.Prop x))) (there_from props_in recs 0 x.0) f
+    others_not (item.Event x) f = told_others (λ n. holds m (marked (item.Event (record { 0 = n })))) (rows_of events_in recs) k.events events x.0 (is_some (row_of recs (item.Event x))) (there_from events_in recs 0 x.0) f
+    others_not (item.Impl x) f = told_others (λ n. holds m (marked (item.Impl (record { 0 = n })))) (rows_of impls_in recs) k.interfaces impls x.0 (is_some (row_of recs (item.Impl x))) (there_from impls_in recs 0 x.0) f
 
-  pub kept_told : KeepsMarked recs m k
-  kept_told = record { there = kept_there; others = others_not }
+    pub kept_told : KeepsMarked recs m k
+    kept_told = record { there = kept_there; others = others_not }
 
 module _ (recs : List AsmRec) (m : Marked) (bits : Bits) (types : HasFlags (rows_of types_in recs) (λ n. holds m (shown (record { 0 = n }))) bits) where
   shown_there : (t : TypeId) → IsTrue (is_there recs (shown t)) → has_flag bits t.0 ≡ holds m (shown t)

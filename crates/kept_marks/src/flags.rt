@@ -36,12 +36,7 @@ pub fn assembly_flags(alloc: Global, all: &[AsmRec], set: &Marked) -> Result<Bit
 }
 
 /// Which items of a kind are marked.
-pub fn item_flags(
-    alloc: Global,
-    all: &[AsmRec],
-    kind: Kind,
-    set: &Marked,
-) -> Result<Bits, NoMemory>
+pub fn item_flags(alloc: Global, all: &[AsmRec], kind: Kind, set: &Marked) -> Result<Bits, NoMemory>
     ensures { IfOk result (HasFlags (rows_of (count_in kind) all.now) (λ n. holds set.now (marked (item_numbered kind n)))) }
 {
     let count = count_of(all, kind)?;

@@ -10,7 +10,6 @@ use std::alloc::Global;
 use world_model::World;
 
 /// The items of a world that are marked, the core library's among them.
-#[tactic(auto, using(crate::proofs::Told::kept_told))]
 pub fn kept_items(alloc: Global, world: &World, marked: &Marked) -> Result<KeptItems, NoMemory>
     ensures { IfOk result (KeepsMarked world.now.recs marked.now) }
 {

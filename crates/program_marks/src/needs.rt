@@ -60,7 +60,8 @@ fn marked_of(
         types: &types,
     };
     let named = NamedWorld::of(alloc, lookup, attributes, &nested, roots)?;
-    mark(alloc, marker, &slots, &named, entry)
+    let marked = mark(alloc, marker, &slots, &named, entry)?;
+    Ok(marked)
 }
 
 /// What a program needs of the world that a link gave, from an entry method by its row and the elements of descriptors.

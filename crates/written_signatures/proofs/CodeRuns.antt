@@ -1,5 +1,5 @@
 -- Instructions that stand one after another, by a loop.
-use Rattle.std.proofs.Common.{◌≡◌, ◌<◌, ◌≤◌, ℕ, ◌+◌, List, [], ◌∷◌, ◌++◌, length, drop, get_or, refl, sym, ap, subst, ◌∙◌, arith, length-append}
+use Rattle.std.proofs.Common.{◌≡◌, ◌<◌, ◌≤◌, ℕ, ◌+◌, List, ◌∷◌, length, drop, get_or, sym, ap, subst, ◌∙◌, arith, length-append}
 use Rattle.std.proofs.lemmas.List.{drop_more, drop_all}
 use Rattle.std.proofs.lemmas.List.Concat.{flat_map-cons}
 use Rattle.il_base.specs.declared.body.Instr.{Instr}
@@ -15,8 +15,7 @@ one_more : (code front rest : List Instr) (i : Instr) (at end total : ℕ) → f
     → (IsCode end rest → IsCode 0 code) × (end + length (code_bytes rest) ≡ total)
 one_more code front rest i at end total is here instr next so_far size =
     let long : length (code_bytes front) ≡ length (instr_bytes i) + length (code_bytes rest) =
-    ap (λ (x : List Instr). length (code_bytes x)) is ∙ ap (λ (x : List ℕ). length x) (flat_map-cons instr_bytes i rest) ∙ length-append (instr_bytes i) (code_bytes rest) in
-    (
+    ap (λ (x : List Instr). length (code_bytes x)) is ∙ ap (λ (x : List ℕ). length x) (flat_map-cons instr_bytes i rest) ∙ length-append (instr_bytes i) (code_bytes rest) in (
       λ h. so_far (subst (IsCode at) (sym is) (here, instr, subst (λ (n : ℕ). IsCode n rest) next h)),
       omega (arith, long, next, size),
     )

@@ -22,3 +22,7 @@ each_taken P xs i le h = recursion_from_All P xs (taken_all P xs i le h)
 
 pub fit_taken : (room : ℕ) (ss : List Sig) (i : ℕ) → length ss ≤ i → All (FitsType room) (take i ss) → FitTypes room ss
 fit_taken room ss i le h = fit_all room ss (each_taken (FitsType room) ss i le h)
+
+-- of one element more, by its place
+pub taken_at : {X : Type 0} (P : X → Type 0) (xs : List X) (i : ℕ) (d : X) → i < length xs → P (get_or xs i d) → All P (take i xs) → All P (take (i + 1) xs)
+taken_at P xs i d lt p h = subst (All P) (sym (take_more xs i d lt)) (All-push P (take i xs) (get_or xs i d) h p)

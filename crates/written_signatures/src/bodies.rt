@@ -40,7 +40,11 @@ fn has_header(b: &Body, size: u32) -> bool
     ensures tiny { IsTrue result → b.now.tiny ≡ true → grammar.IsTiny b.now }
     ensures fat { IsTrue result → b.now.tiny ≡ false → grammar.IsFat b.now }
 {
-    if b.tiny { is_tiny(b, size) } else { is_fat(b, size) }
+    if b.tiny {
+        is_tiny(b, size)
+    } else {
+        is_fat(b, size)
+    }
 }
 
 /// Whether a body has a spelling.

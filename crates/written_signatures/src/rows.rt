@@ -6,9 +6,7 @@ ghost use Rattle.row_writer.specs.CanWrite.{HasSpelling, HasMemberSpelling, CanW
 ghost use Rattle.record_writer.specs.CanWrite.{HasBody, CanWrite};
 
 use crate::bodies::body_fits;
-use crate::types::{
-    field_fits, instance_fits, locals_fit, method_fits, property_fits, type_fits,
-};
+use crate::types::{field_fits, instance_fits, locals_fit, method_fits, property_fits, type_fits};
 use il_base::{MethodSig, NoMemory, Seq, Sig};
 use std::alloc::Global;
 use world_model::{

@@ -1,5 +1,4 @@
-use Rattle.std.proofs.Common.{List, subst}
-use Rattle.world_model.specs.declared.record.AsmRec.{AsmRec}
+use Rattle.std.proofs.Common.{subst}
 use Rattle.inputs.specs.Files.{records}
 use Rattle.flaw_laws.specs.There.{RowsThere}
 use Rattle.input_laws.proofs.Taken.{are_records, linked, world_recs}

@@ -17,4 +17,4 @@ pub returns : goal.returns
 returns c =
     let test : ℕ → Bool = λ n. holds c.args.set.now (marked (item.Asm (record { 0 = n }))) in
     sym (range_end test c.loop-id.flags c.loop-id.id c.in_ok-count.count c.loop-id-test.false) ∙ c.loop-id.invariant
-    ∙ ap (λ (n : ℕ). map test (range_with_len 0 n)) (c.in_ok-count.ensures ∙ c.len.ensures)
+    ∙ ap (λ (n : ℕ). map test (range_with_len 0 n)) c.in_ok-count.ensures

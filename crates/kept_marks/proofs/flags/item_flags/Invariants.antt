@@ -1,6 +1,5 @@
 use Rattle.std.proofs.Common.{◌≡◌, ℕ, ◌-◌, ◌++◌, map}
 use Rattle.std.specs.List.{range_with_len}
-use Rattle.il_base.specs.declared.ids.Item.{Item}
 use Rattle.mark_rules.specs.Facts.Fact.{marked}
 use Rattle.mark_facts.specs.Kinds.{item_numbered}
 use Rattle.marking.specs.Holding.{holds}
