@@ -8,7 +8,7 @@ use Rattle.merged_attributes.specs.declared.attributes.Attribute.{Attribute}
 use Rattle.merged_attributes.specs.Attributes.{told, attributes_by, met_by}
 use Rattle.output_references.specs.References.{AreReferencesOf}
 use Rattle.merged_tables.specs.Parts.{output_by}
-use Rattle.restrict.proofs.referring.referring.Goals as goal
+use Rattle.restrict.proofs.referring.referring_with.Goals as goal
 
 pub kept_attributes-requires-clause-same : goal.kept_attributes-requires-clause-same
 kept_attributes-requires-clause-same c = sym c.requires.same
