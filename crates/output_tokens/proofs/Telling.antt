@@ -40,7 +40,7 @@ module _ (tokens_tell : AssemblyTokensTell) (texts_tell : TextsTell) (p : RowPar
   told t loaded moved same each = λ o parts met.
       subst (λ (a : ℕ). AreNewTokens o a (rec_of k) t) at.place
       (tokens_tell o (moving_with p k) t (record { recs = at.recs ∙ parts.recs; tokens = parts.keys; numbers = parts.numbers }) moved
-          (λ q. ap (λ (m : TokenMap). new_token m q) same ∙ each q ∙ (texts_tell o texts met).tokens (rec_of k) q))
+      (λ q. ap (λ (m : TokenMap). new_token m q) same ∙ each q ∙ (texts_tell o texts met).tokens (rec_of k) q))
 
   pub told_here : (t : NewTokens) (loaded : TokenMap) → AreMovedTokens (moving_with p k) t → t.texts ≡ loaded → ((q : ℕ) → new_token loaded q ≡ text_by texts (rec_of k) q)
       → Some (rec_of k) ≡ slice_get (recs_of p) place → (rec : AsmRec) → slice_get (recs_of p) place ≡ Some rec → TellTokens p texts place rec t

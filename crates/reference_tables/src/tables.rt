@@ -32,10 +32,7 @@ pub struct ReferenceTables {
 }
 
 /// The tables of references of the output whose references and tokens these are.
-pub fn reference_tables(
-    alloc: Global,
-    parts: &RowParts<'_>,
-) -> Result<ReferenceTables, NoMemory>
+pub fn reference_tables(alloc: Global, parts: &RowParts<'_>) -> Result<ReferenceTables, NoMemory>
     requires { AreRowParts parts.now }
     ensures { IfOk result (λ t. (o : Output) → ArePartsOf o parts.now → AreTablesOf o t) }
 {

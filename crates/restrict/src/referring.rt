@@ -29,7 +29,7 @@ pub(crate) struct Referring {
 }
 
 /// Those of the output with these kept items.
-pub(crate) fn referring(
+pub(crate) fn referring_with(
     alloc: Global,
     world: &WorldKeys<'_>,
     index: &TypeIndex<'_>,

@@ -12,7 +12,7 @@ ghost use Rattle.restrict.specs.Plans.{HasNewNames};
 ghost use Rattle.restrict.specs.Referring.{AreAttributesOf};
 ghost use Rattle.restrict.specs.Rows.{AreSources, output_from, AreOutputRows};
 
-use crate::referring::referring;
+use crate::referring::referring_with;
 use il_base::{NoMemory, Seq};
 use kept_tables::tables::KeptTables;
 use key_tokens::KeyTokens;
@@ -148,7 +148,7 @@ pub(crate) fn output_rows(
         marker,
         numbers: numbers.as_slice(),
     };
-    let met = referring(alloc, &world, index, &scopes, kept, &tables)?;
+    let met = referring_with(alloc, &world, index, &scopes, kept, &tables)?;
     let keys = KeyTokens {
         types: TypeTokens {
             scopes: &scopes,

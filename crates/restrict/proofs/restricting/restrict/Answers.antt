@@ -15,5 +15,5 @@ output_rows-requires-clause-plan c =
 
 pub returns : goal.returns
 returns c =
-    left_is c.args.plan.now.internal c.in_ok-index.index.all.now c.args.world.now.recs (kept_by c.args.kept.now) c.in_default.first.now c.in_ok-own.own c.in_ok-rows.rows c.made.result
-    (c.in_ok-index.ensures.all ∙ c.as_slice-recs.ensures) (sym c.in_default.ensures) c.in_ok-own.ensures c.in_ok-rows.ensures c.made.ensures
+    left_is c.args.plan.now.internal c.in_ok-index.index.all.now c.args.world.now.recs (kept_by c.args.kept.now) c.in-Some.first.now c.in_ok-own.own c.in_ok-rows.rows c.made.result
+    (c.in_ok-index.ensures.all ∙ c.as_slice-recs.ensures) (sym c.in-Some.ensures) c.in_ok-own.ensures c.in_ok-rows.ensures c.made.ensures

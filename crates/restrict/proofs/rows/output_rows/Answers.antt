@@ -14,10 +14,10 @@ all_numbers-requires-clause-references c = c.in_ok-scopes.ensures.is.references
 pub all_numbers-requires-clause-same : goal.all_numbers-requires-clause-same
 all_numbers-requires-clause-same c = c.in_ok-scopes.ensures.all ∙ sym c.requires.same
 
-pub referring-requires-clause-world : goal.referring-requires-clause-world
-referring-requires-clause-world c = record {
+pub referring_with-requires-clause-world : goal.referring_with-requires-clause-world
+referring_with-requires-clause-world c = record {
   marker = c.requires.marker;
-  numbers = subst (λ (ts : List NewTokens). AreAllNumbers (all_of c.args.marker.now) ts) (sym c.as_slice-world.ensures) c.in_ok-numbers.ensures;
+  numbers = subst (λ (ts : List NewTokens). AreAllNumbers (all_of c.args.marker.now) ts) (sym c.as_slice-world.ensures.value) c.in_ok-numbers.ensures;
 }
 
 pub rows_of-requires-clause-sources : goal.rows_of-requires-clause-sources
@@ -27,7 +27,7 @@ rows_of-requires-clause-sources c =
     record {
       world = record {
         marker = c.requires.marker;
-        numbers = subst (λ (ts : List NewTokens). AreAllNumbers (all_of c.args.marker.now) ts) (sym c.as_slice-world.ensures) c.in_ok-numbers.ensures;
+        numbers = subst (λ (ts : List NewTokens). AreAllNumbers (all_of c.args.marker.now) ts) (sym c.as_slice-world.ensures.value) c.in_ok-numbers.ensures;
       };
       index = c.requires.index;
       same = c.requires.same;
@@ -47,4 +47,4 @@ rows_of-requires-clause-sources c =
 
 pub rows_of-requires-clause-attributes : goal.rows_of-requires-clause-attributes
 rows_of-requires-clause-attributes c =
-    subst (λ (xs : List Attribute). AreAttributesOf (output_by c.args.index.now.all.now (kept_by c.args.kept.now)) xs) (sym c.as_slice-each.ensures) c.in_ok-met.ensures.attributes
+    subst (λ (xs : List Attribute). AreAttributesOf (output_by c.args.index.now.all.now (kept_by c.args.kept.now)) xs) (sym c.as_slice-each.ensures.value) c.in_ok-met.ensures.attributes

@@ -36,7 +36,7 @@ merged_tables-requires c =
       all = refl;
       plan = are.plan;
       tables = are.tables;
-      tokens = subst (λ (ts : List NewTokens). HaveTokens o ts) (sym c.as_slice-each.ensures) have;
+      tokens = subst (λ (ts : List NewTokens). HaveTokens o ts) (sym c.as_slice-each.ensures.value) have;
     }
 
 pub returns : goal.returns
@@ -50,7 +50,7 @@ returns c =
     let have : HaveTokens o c.in_ok-tokens.tokens.items = c.in_ok-tokens.ensures o (record { recs = are.same; keys = are.told; numbers = numbers }) met in
     let has = have 0 c.args.first.now c.requires.first in
     record {
-      entry = c.in_ok-entry.ensures has.new (ap (λ (ts : List NewTokens). slice_get ts 0) c.as_slice-each.ensures ∙ has.there) ∙ has.are.callees c.args.first.now.entry;
+      entry = c.in_ok-entry.ensures has.new (ap (λ (ts : List NewTokens). slice_get ts 0) c.as_slice-each.ensures.value ∙ has.there) ∙ has.are.callees c.args.first.now.entry;
       tables = c.in_ok-merged.ensures;
       references = c.in_ok-references.ensures o (record { recs = are.same; keys = are.told; numbers = numbers });
       attributes = c.in_ok-attributes.ensures ∙ ap (map (row_by s.keys)) c.requires.attributes ∙ c.attributes_tell.ensures.rows o s.keys are.told (rules.kept_attributes o.recs o.kept);

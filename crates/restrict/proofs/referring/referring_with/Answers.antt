@@ -8,7 +8,7 @@ use Rattle.merged_attributes.specs.declared.attributes.Attribute.{Attribute}
 use Rattle.merged_attributes.specs.Attributes.{told, attributes_by, met_by}
 use Rattle.output_references.specs.References.{AreReferencesOf}
 use Rattle.merged_tables.specs.Parts.{output_by}
-use Rattle.restrict.proofs.referring.referring.Goals as goal
+use Rattle.restrict.proofs.referring.referring_with.Goals as goal
 
 pub kept_attributes-requires-clause-same : goal.kept_attributes-requires-clause-same
 kept_attributes-requires-clause-same c = sym c.requires.same
@@ -27,7 +27,7 @@ returns c =
     let made : map told all ≡ attributes_by tables recs = c.in_ok-attributes.ensures ∙ ap (attributes_by tables) c.requires.same in
     let met : c.in_ok-mets.mets ≡ o.mets =
     c.in_ok-mets.ensures ∙ ap (λ (rs : List AsmRec). met_by_types rs kept ++ map met_by (map told c.as_slice-each.result.now)) c.requires.same
-    ∙ ap (λ (xs : List Attribute). met_by_types recs kept ++ map met_by (map told xs)) c.as_slice-each.ensures
+    ∙ ap (λ (xs : List Attribute). met_by_types recs kept ++ map met_by (map told xs)) c.as_slice-each.ensures.value
     ∙ ap (λ (xs : List rules.Attribute). met_by_types recs kept ++ map met_by xs) made
     ∙ ap (λ (ms : List Met). met_by_types recs kept ++ ms) are.mets in
     let references = c.in_ok-references.references in
