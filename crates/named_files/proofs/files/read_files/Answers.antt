@@ -1,7 +1,7 @@
 use Rattle.std.proofs.Common.{map, take, drop, suc}
 use Rattle.std.specs.String.{string_bytes}
-use Rattle.exec_command.proofs.NamesRead.{next_names, split_names, one_more, read_failed}
-use Rattle.exec_command.proofs.files.read_files.Goals as goal
+use Rattle.named_files.proofs.NamesRead.{next_names, split_names, one_more, read_failed}
+use Rattle.named_files.proofs.files.read_files.Goals as goal
 
 pub returns-in-Err-clause-read : goal.returns-in-Err-clause-read
 returns-in-Err-clause-read g c =

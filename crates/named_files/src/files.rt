@@ -3,14 +3,15 @@
 ghost use Rattle.std.specs.Prelude.{◌≡◌, map};
 ghost use Rattle.std.specs.String.{string_bytes};
 ghost use Rattle.il_outside.specs.Folder.{KeepsFiles};
-ghost use Rattle.exec_command.specs.Files.{ReadsFiles};
+ghost use Rattle.named_files.specs.Files.{ReadsFiles};
 
 use il_base::{Seq, Text};
 use il_outside::{Folder, FolderError};
 use std::alloc::Global;
 
-/// Reads the files under all names, in their order. The first read that fails is the last one.
-pub(crate) fn read_files<F: Folder>(
+/// Reads the files under all names, in their order. The first read that fails is the last one, and the folder stays as it was.
+/// Failed where one of the names has no file, or the outside fails.
+pub fn read_files<F: Folder>(
     alloc: Global,
     names: &[String],
     folder: &mut F,

@@ -1,5 +1,5 @@
 -- What reading the files under some names does to a folder. No file is read after a read that failed.
-use Rattle.std.specs.Prelude.{◌≡◌, ℕ, List, [], ◌∷◌, ◌++◌, Option, Some, Result, Ok, Err}
+use Rattle.std.specs.Prelude.{◌≡◌, ℕ, List, [], ◌∷◌, ◌++◌, Option, Some, None, Result, Ok, Err}
 use Rattle.il_outside.specs.Faults.{Rose}
 use Rattle.il_outside.specs.declared.folder.FolderError.{FolderError}
 use Rattle.il_outside.specs.declared.folder.FolderError.TheVariants.{Failed, NoMemory}
@@ -28,3 +28,14 @@ abbrev pub ReadsFiles : List (List ℕ) → FolderState → FolderState → Resu
 ReadsFiles names was now (Ok files) = TellsAll was.files names files × NoFault was now
 ReadsFiles names was now (Err Failed) = FailsAt names was now
 ReadsFiles names was now (Err NoMemory) = NoFault was now
+
+-- ---- what a folder that tells all that it holds has under names
+
+abbrev pub with_file : Option (List ℕ) → Option (List (List ℕ)) → Option (List (List ℕ))
+with_file (Some file) (Some files) = Some (file ∷ files)
+with_file file files = None
+
+-- the files under names, None where one of them isn't there
+abbrev pub files_under : Files → List (List ℕ) → Option (List (List ℕ))
+files_under f [] = Some []
+files_under f (name ∷ names) = with_file (f name) (files_under f names)

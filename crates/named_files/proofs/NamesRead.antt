@@ -1,30 +1,13 @@
 -- The files that were read so far, and one more name.
-use Rattle.std.proofs.Common.{◌≡◌, ℕ, suc, ◌<◌, ◌+◌, List, [], ◌∷◌, ◌++◌, length, map, take, drop, get_or, Option, Some, None, Ok, Err, refl, sym, ap, subst, ◌∙◌}
+use Rattle.std.proofs.Common.{◌≡◌, ℕ, suc, ◌<◌, ◌+◌, List, [], ◌∷◌, ◌++◌, length, map, take, drop, get_or, Option, Ok, Err, refl, sym, ap, subst, ◌∙◌}
 use Rattle.std.proofs.Math.Seq.{drop-cons}
 use Rattle.std.proofs.lemmas.List.{take_more, take-append-drop, map-append}
 use Rattle.il_outside.specs.Faults.{Rose}
 use Rattle.il_outside.specs.declared.folder.FolderError.{FolderError}
 use Rattle.il_outside.specs.declared.folder.FolderError.TheVariants.{Failed, NoMemory}
 use Rattle.il_outside.specs.Folder.{Files, FolderState, Tells, KeepsFiles, NoFault, ReadFaults}
-use Rattle.exec_command.specs.Files.{TellsAll, ReadsFiles}
-
-pub keeps_itself : (files : Option Files) → KeepsFiles files files
-keeps_itself None = tt
-keeps_itself (Some f) = λ name. refl
-
-pub keeps_twice : (a b c : Option Files) → KeepsFiles a b → KeepsFiles b c → KeepsFiles a c
-keeps_twice None b c p q = tt
-keeps_twice (Some f) None c p q = absurd p
-keeps_twice (Some f) (Some g) None p q = q
-keeps_twice (Some f) (Some g) (Some h) p q = λ name. q name ∙ p name
-
-quiet_twice : (a b c : FolderState) → NoFault a b → NoFault b c → NoFault a c
-quiet_twice a b c p q = (q.0 ∙ p.0, q.1 ∙ p.1, q.2 ∙ p.2)
-
-told_before : (a b : Option Files) (name file : List ℕ) → KeepsFiles a b → Tells b name file → Tells a name file
-told_before None b name file p told = tt
-told_before (Some f) None name file p told = absurd p
-told_before (Some f) (Some g) name file p told = sym (p name) ∙ told
+use Rattle.named_files.specs.Files.{TellsAll, ReadsFiles}
+use Rattle.named_files.proofs.Folders.{keeps_itself, keeps_twice, quiet_twice, told_before}
 
 told_more : (known : Option Files) (names files : List (List ℕ)) (name file : List ℕ) → TellsAll known names files → Tells known name file → TellsAll known (names ++ (name ∷ [])) (files ++ (file ∷ []))
 told_more known [] [] name file all one = (one, tt)
