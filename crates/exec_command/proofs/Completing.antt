@@ -37,10 +37,7 @@ instead : (s due status : Status) → due ≡ s → (status ≡ due) ⊎ (status
 instead s due status e (inl x) = inl (x ∙ e)
 instead s due status e (inr x) = inr x
 
--- ---- the files and the input that were read are those that are told
-
-same_files : (a b : List (List ℕ)) → Some a ≡ Some b → a ≡ b
-same_files a b e = cc
+-- ---- the input that was read is the one that is told
 
 -- a source that is at its end gave all that it had
 all_given : (left now : Option (List ℕ)) (bytes input : List ℕ) → left ≡ Some input → Consumes left now bytes → IsAtEnd now → bytes ≡ input
