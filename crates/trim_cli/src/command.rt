@@ -4,7 +4,10 @@ use il_base::Seq;
 #[derive(Drop)]
 pub enum Command {
     /// `exec IN.. [--steps N]`
-    Exec { inputs: Seq<usize>, steps: u64 },
+    Exec {
+        inputs: Seq<usize>,
+        steps: u64,
+    },
     /// `trim OUT IN.. [--descriptor FILE].. [--internalize] [--keep-list FILE]`
     Trim {
         output: usize,

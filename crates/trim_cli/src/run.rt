@@ -140,13 +140,15 @@ fn do_command<F: Folder, I: Source, O: Sink, E: Sink>(
             out,
             err,
         ),
-        Ok(Command::Trim {
-            output,
-            inputs,
-            descriptors,
-            list,
-            internalize,
-        }) => trim_words(
+        Ok(
+            Command::Trim {
+                output,
+                inputs,
+                descriptors,
+                list,
+                internalize,
+            },
+        ) => trim_words(
             alloc,
             words,
             output,

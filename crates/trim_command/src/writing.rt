@@ -8,11 +8,7 @@ use il_outside::{Folder, FolderError};
 use trim_core::Trimmed;
 
 /// Writes the keep list under its name, where one is wanted.
-fn put_list<F: Folder>(
-    list: Option<&str>,
-    kept: &[u8],
-    folder: &mut F,
-) -> Result<(), FolderError>
+fn put_list<F: Folder>(list: Option<&str>, kept: &[u8], folder: &mut F) -> Result<(), FolderError>
     ensures { ListWrites (option_map (λ name. name.now) list) kept.now (F.state folder.old) (F.state folder.new) result }
 {
     match list {
