@@ -1,7 +1,7 @@
 //! The program over a folder, a source and two sinks.
 
 ghost use Rattle.std.specs.Prelude.{◌≡◌, Ok, IfOk, Some, map};
-ghost use Rattle.std.specs.Option.{option_map};
+ghost use Rattle.std.specs.Option.{option_map, option_copied};
 ghost use Rattle.std.specs.String.{string_bytes};
 ghost use Rattle.il_outside.specs.Folder.{Files, KeepsFiles};
 ghost use Rattle.exec_command.specs.Input.{TakesSome};
@@ -68,7 +68,7 @@ fn exec_words<F: Folder, I: Source, O: Sink, E: Sink>(
 
 /// The word at a place, if one is given.
 fn list_name(words: &[String], list: Option<usize>) -> Option<&str>
-    ensures { option_map (λ name. name.now) result ≡ option_map (word_at (map string_bytes words.now)) list }
+    ensures { option_copied result ≡ option_map (word_at (map string_bytes words.now)) list }
 {
     match list {
         None => None,

@@ -99,8 +99,8 @@ leaves_after left output list was mid now (Err folder_error.NoMemory) kept quiet
 
 due_after : (trimmed : Result Trimmed Refusal) (output : List ℕ) (list : Option (List ℕ)) (was mid now : FolderState) (due : Status) → KeepsFiles was.files mid.files → NoFault was mid
     → IsDue trimmed output list mid now due → IsDue trimmed output list was now due
-due_after (Ok left) output list was mid now due kept quiet h = (h.0, leaves_after left output list was mid now h.0 kept quiet h.1.0, h.1.1)
-due_after (Err why) output list was mid now due kept quiet h = (h.0, keeps_twice was.files mid.files now.files kept h.1.0, quiet_twice was mid now quiet h.1.1)
+due_after (Ok left) output list was mid now due kept quiet h = (h.0, leaves_after left output list was mid now h.0 kept quiet h.1, h.2)
+due_after (Err why) output list was mid now due kept quiet h = (h.0, keeps_twice was.files mid.files now.files kept h.1, quiet_twice was mid now quiet h.2)
 
 given_after : (inputs descriptors files texts : List (List ℕ)) (output : List ℕ) (list : Option (List ℕ)) (opts : Opts) (was mid now : FolderState) (err0 err1 : SinkState) (answer : Status)
     → KeepsFiles was.files mid.files → NoFault was mid → GivenTrimmed inputs descriptors files texts output list opts mid now err0 err1 answer
@@ -136,9 +136,9 @@ trimmed_names inputs descriptors output list internalize given was mid now out e
   files = given.files;
   texts = given.descriptors;
   told = read.0;
-  described = read.1.0;
+  described = read.1;
   printed = untouched out;
-  given = given_after inputs descriptors given.files given.descriptors output list (opts_of internalize list) was mid now err0 err1 answer kept read.1.1 h;
+  given = given_after inputs descriptors given.files given.descriptors output list (opts_of internalize list) was mid now err0 err1 answer kept read.2 h;
 })
 
 pub unread_names : (inputs descriptors : List (List ℕ)) (output : List ℕ) (list : Option (List ℕ)) (internalize : Bool) (was now : FolderState) (out err0 err1 : SinkState) (e : FolderError) (answer : Status)

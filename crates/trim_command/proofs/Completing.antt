@@ -52,7 +52,7 @@ refusal_answered why due status (inr e) s = inr (only_memory status (instead NoM
 
 due_answered : (trimmed : Result Trimmed Refusal) (output : List ℕ) (list : Option (List ℕ)) (was now : FolderState) (out0 out1 err0 err1 : SinkState) (due status : Status) → IsQuiet was now out0 out1 err0 err1
     → IsDue trimmed output list was now due → (status ≡ due) ⊎ (status ≡ NoMemory) → (status ≡ trim_status trimmed) ⊎ (status ≡ NoMemory)
-due_answered (Ok left) output list was now out0 out1 err0 err1 due status quiet h s = left_answered left output list was now out0 out1 err0 err1 h.0 due status quiet h.1.0 h.1.1 s
+due_answered (Ok left) output list was now out0 out1 err0 err1 due status quiet h s = left_answered left output list was now out0 out1 err0 err1 h.0 due status quiet h.1 h.2 s
 due_answered (Err why) output list was now out0 out1 err0 err1 due status quiet h s = refusal_answered why due status h.0 s
 
 wants : (files texts : List (List ℕ)) (opts : Opts) (trimmed : Result Trimmed Refusal) (status : Status) → Trims files texts opts trimmed → (status ≡ trim_status trimmed) ⊎ (status ≡ NoMemory)

@@ -7,7 +7,6 @@ use Rattle.il_outside.specs.declared.folder.FolderError.TheVariants.{Failed, NoM
 use Rattle.il_outside.specs.Folder.{Files, FolderState, KeepsFiles, NoFault}
 use Rattle.named_files.specs.Files.{TellsAll, ReadsFiles}
 use Rattle.named_files.proofs.Folders.{quiet_twice, told_before}
-use Rattle.trim_command.specs.declared.reading.Given.{Given}
 use Rattle.trim_command.specs.Reading.{ReadsGiven}
 
 all_told_before : (a b : Option Files) (names files : List (List ℕ)) → KeepsFiles a b → TellsAll b names files → TellsAll a names files
@@ -55,8 +54,7 @@ descriptors_unread inputs descriptors files was mid now Failed first kept h = re
 descriptors_unread inputs descriptors files was mid now NoMemory first kept h = quiet_twice was mid now first.1 h
 
 -- all were read
-pub given_read : (inputs descriptors files texts : List (List ℕ)) (given : Given) (was mid now : FolderState) → given ≡ record { files = files; descriptors = texts } → ReadsFiles inputs was mid (Ok files)
-    → KeepsFiles was.files mid.files → ReadsFiles descriptors mid now (Ok texts) → ReadsGiven inputs descriptors was now (Ok given)
-given_read inputs descriptors files texts given was mid now is first kept h =
-    subst (λ (g : Given). ReadsGiven inputs descriptors was now (Ok g)) (sym is)
+pub given_read : (inputs descriptors files texts : List (List ℕ)) (was mid now : FolderState) → ReadsFiles inputs was mid (Ok files) → KeepsFiles was.files mid.files → ReadsFiles descriptors mid now (Ok texts)
+    → TellsAll was.files inputs files × TellsAll was.files descriptors texts × NoFault was now
+given_read inputs descriptors files texts was mid now first kept h =
     (first.0, all_told_before was.files mid.files descriptors texts kept h.0, quiet_twice was mid now first.1 h.1)

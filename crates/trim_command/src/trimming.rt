@@ -1,7 +1,7 @@
 //! `trim` over a folder and two sinks.
 
 ghost use Rattle.std.specs.Prelude.{◌≡◌, Some, map, is_some};
-ghost use Rattle.std.specs.Option.{option_map};
+ghost use Rattle.std.specs.Option.{option_copied};
 ghost use Rattle.std.specs.String.{string_bytes};
 ghost use Rattle.il_outside.specs.Folder.{Files};
 ghost use Rattle.trim_command.specs.Writing.{IsApart, KeepsOthers, written_names};
@@ -19,7 +19,7 @@ use trim_core::{Opts, Refusal, Trimmed, trim};
 
 /// Whether a keep list is wanted.
 fn is_wanted(list: Option<&str>) -> bool
-    ensures { result ≡ is_some (option_map (λ name. name.now) list) }
+    ensures { result ≡ is_some (option_copied list.entry) }
 {
     match list {
         None => false,
@@ -39,9 +39,9 @@ fn finish<F: Folder, E: Sink>(
     folder: &mut F,
     err: &mut E,
 ) -> Status
-    requires { IsApart output.now (option_map (λ name. name.now) list) }
-    ensures finished { Finished trimmed (map string_bytes inputs.now) (map string_bytes descriptors.now) files.now output.now (option_map (λ name. name.now) list) (F.state folder.old) (F.state folder.new) (E.state err.old) (E.state err.new) result }
-    ensures others { KeepsOthers (written_names output.now (option_map (λ name. name.now) list)) (F.state folder.old).files (F.state folder.new).files }
+    requires { IsApart output.now (option_copied list) }
+    ensures finished { Finished trimmed (map string_bytes inputs.now) (map string_bytes descriptors.now) files.now output.now (option_copied list.entry) (F.state folder.old) (F.state folder.new) (E.state err.old) (E.state err.new) result }
+    ensures others { KeepsOthers (written_names output.now (option_copied list.entry)) (F.state folder.old).files (F.state folder.new).files }
 {
     match trimmed {
         Err(why) => report_status(alloc, err, inputs, descriptors, files, refused(why)),
@@ -64,9 +64,9 @@ fn trim_given<F: Folder, E: Sink>(
     folder: &mut F,
     err: &mut E,
 ) -> Status
-    requires { IsApart output.now (option_map (λ name. name.now) list) }
-    ensures caused { GivenTrimmed (map string_bytes inputs.now) (map string_bytes descriptors.now) given.now.files given.now.descriptors output.now (option_map (λ name. name.now) list) (opts_of internalize (option_map (λ name. name.now) list)) (F.state folder.old) (F.state folder.new) (E.state err.old) (E.state err.new) result }
-    ensures others { KeepsOthers (written_names output.now (option_map (λ name. name.now) list)) (F.state folder.old).files (F.state folder.new).files }
+    requires { IsApart output.now (option_copied list) }
+    ensures caused { GivenTrimmed (map string_bytes inputs.now) (map string_bytes descriptors.now) given.now.files given.now.descriptors output.now (option_copied list.entry) (opts_of internalize (option_copied list.entry)) (F.state folder.old) (F.state folder.new) (E.state err.old) (E.state err.new) result }
+    ensures others { KeepsOthers (written_names output.now (option_copied list.entry)) (F.state folder.old).files (F.state folder.new).files }
 {
     let opts = Opts {
         internalize,
@@ -106,16 +106,16 @@ pub fn trim_files<F: Folder, O: Sink, E: Sink>(
     out: &mut O,
     err: &mut E,
 ) -> Status
-    requires { IsApart output.now (option_map (λ name. name.now) list) }
-    ensures caused { TrimCaused (map string_bytes inputs.now) (map string_bytes descriptors.now) output.now (option_map (λ name. name.now) list) internalize (F.state folder.old) (F.state folder.new) (O.state out.old) (O.state out.new) (E.state err.old) (E.state err.new) result }
+    requires { IsApart output.now (option_copied list) }
+    ensures caused { TrimCaused (map string_bytes inputs.now) (map string_bytes descriptors.now) output.now (option_copied list.entry) internalize (F.state folder.old) (F.state folder.new) (O.state out.old) (O.state out.new) (E.state err.old) (E.state err.new) result }
 
     // The other way round: where no count of faults rose, what told files ask for is the answer, or `NoMemory`.
     ensures complete { (files : Files) → (F.state folder.old).files ≡ Some files
         → IsQuiet (F.state folder.old) (F.state folder.new) (O.state out.old) (O.state out.new) (E.state err.old) (E.state err.new)
-        → IsAnswered (map string_bytes inputs.now) (map string_bytes descriptors.now) (option_map (λ name. name.now) list) internalize files result }
+        → IsAnswered (map string_bytes inputs.now) (map string_bytes descriptors.now) (option_copied list.entry) internalize files result }
 
     // What the folder holds under other names stays.
-    ensures others { KeepsOthers (written_names output.now (option_map (λ name. name.now) list)) (F.state folder.old).files (F.state folder.new).files }
+    ensures others { KeepsOthers (written_names output.now (option_copied list.entry)) (F.state folder.old).files (F.state folder.new).files }
 {
     answer(
         alloc,
@@ -141,9 +141,9 @@ fn answer<F: Folder, O: Sink, E: Sink>(
     out: &mut O,
     err: &mut E,
 ) -> Status
-    requires { IsApart output.now (option_map (λ name. name.now) list) }
-    ensures caused { TrimCaused (map string_bytes inputs.now) (map string_bytes descriptors.now) output.now (option_map (λ name. name.now) list) internalize (F.state folder.old) (F.state folder.new) (O.state out.old) (O.state out.new) (E.state err.old) (E.state err.new) result }
-    ensures others { KeepsOthers (written_names output.now (option_map (λ name. name.now) list)) (F.state folder.old).files (F.state folder.new).files }
+    requires { IsApart output.now (option_copied list) }
+    ensures caused { TrimCaused (map string_bytes inputs.now) (map string_bytes descriptors.now) output.now (option_copied list.entry) internalize (F.state folder.old) (F.state folder.new) (O.state out.old) (O.state out.new) (E.state err.old) (E.state err.new) result }
+    ensures others { KeepsOthers (written_names output.now (option_copied list.entry)) (F.state folder.old).files (F.state folder.new).files }
 {
     let _ = out;
     match read_given(alloc, inputs, descriptors, folder) {
