@@ -29,7 +29,7 @@ plain_line inputs descriptors files (Ok x) = refl
 plain_line inputs descriptors files (Err folder_error.Failed) = refl
 plain_line inputs descriptors files (Err folder_error.NoMemory) = refl
 
-pub left_finished : (left : Trimmed) (inputs descriptors files : List (List ℕ)) (output : List ℕ) (list : Option (List ℕ)) (was now : FolderState) (err0 err1 : SinkState) (r : Result Unit FolderError) (answer : Status)
+left_finished : (left : Trimmed) (inputs descriptors files : List (List ℕ)) (output : List ℕ) (list : Option (List ℕ)) (was now : FolderState) (err0 err1 : SinkState) (r : Result Unit FolderError) (answer : Status)
     → Leaves left output list was now r → Reports (line_of [] [] (write_status r)) (write_status r) err0 err1 answer → Finished (Ok left) inputs descriptors files output list was now err0 err1 answer
 left_finished left inputs descriptors files output list was now err0 err1 r answer leaves report = record {
   due = write_status r;
@@ -37,12 +37,27 @@ left_finished left inputs descriptors files output list was now err0 err1 r answ
   reported = subst (λ (line : List ℕ). Reports line (write_status r) err0 err1 answer) (plain_line inputs descriptors files r) report;
 }
 
-pub refusal_finished : (why : Refusal) (inputs descriptors files : List (List ℕ)) (output : List ℕ) (list : Option (List ℕ)) (was : FolderState) (err0 err1 : SinkState) (answer : Status)
+refusal_finished : (why : Refusal) (inputs descriptors files : List (List ℕ)) (output : List ℕ) (list : Option (List ℕ)) (was : FolderState) (err0 err1 : SinkState) (answer : Status)
     → StatusReported inputs descriptors files (refused why) err0 err1 answer → Finished (Err why) inputs descriptors files output list was was err0 err1 answer
 refusal_finished why inputs descriptors files output list was err0 err1 answer (inl report) =
     record { due = refused why; cause = (inl refl, keeps_itself was.files, quiet_itself was); reported = report }
 refusal_finished why inputs descriptors files output list was err0 err1 answer (inr report) =
     record { due = NoMemory; cause = (inr refl, keeps_itself was.files, quiet_itself was); reported = report }
+
+pub finished_refused : (trimmed : Result Trimmed Refusal) (why : Refusal) (inputs descriptors files : List (List ℕ)) (output : List ℕ) (list : Option (List ℕ)) (was : FolderState) (err0 err1 : SinkState) (due answer : Status)
+    → trimmed ≡ Err why → due ≡ refused why → StatusReported inputs descriptors files due err0 err1 answer → Finished trimmed inputs descriptors files output list was was err0 err1 answer
+finished_refused trimmed why inputs descriptors files output list was err0 err1 due answer is told report =
+    let due_report = subst (λ (s : Status). StatusReported inputs descriptors files s err0 err1 answer) told report in
+    subst (λ (r : Result Trimmed Refusal). Finished r inputs descriptors files output list was was err0 err1 answer) (sym is)
+    (refusal_finished why inputs descriptors files output list was err0 err1 answer due_report)
+
+pub finished_left : (trimmed : Result Trimmed Refusal) (left : Trimmed) (inputs descriptors files : List (List ℕ)) (output : List ℕ) (list : Option (List ℕ)) (was now : FolderState) (err0 err1 : SinkState)
+    (r : Result Unit FolderError) (due answer : Status) → trimmed ≡ Ok left → due ≡ write_status r → Leaves left output list was now r → Reports (line_of [] [] due) due err0 err1 answer
+    → Finished trimmed inputs descriptors files output list was now err0 err1 answer
+finished_left trimmed left inputs descriptors files output list was now err0 err1 r due answer is told leaves report =
+    let due_report = subst (λ (s : Status). Reports (line_of [] [] s) s err0 err1 answer) told report in
+    subst (λ (q : Result Trimmed Refusal). Finished q inputs descriptors files output list was now err0 err1 answer) (sym is)
+    (left_finished left inputs descriptors files output list was now err0 err1 r answer leaves due_report)
 
 -- ---- the reads come before
 
