@@ -1,24 +1,22 @@
 -- What a trim answered, what the writes left and the status line make the answer for the files and for the names.
-use Rattle.std.proofs.Common.{◌≡◌, ◌⊎◌, ℕ, Bool, List, [], Option, Some, None, Result, Ok, Err, refl, sym, subst, ◌∙◌, inl, inr}
+use Rattle.std.proofs.Common.{◌≡◌, ℕ, Bool, List, [], Option, Some, None, Result, Ok, Err, refl, sym, subst, ◌∙◌, inl, inr}
 use Rattle.std.proofs.KnownBytes.{Appends-nil}
 use Rattle.il_outside.specs.Faults.{Rose}
 use Rattle.il_outside.specs.declared.folder.FolderError.{FolderError}
 use Rattle.il_outside.specs.declared.folder.FolderError.TheVariants as folder_error
-use Rattle.il_outside.specs.Folder.{Files, FolderState, SameFiles, SameOthers, LeavesPrefix, KeepsFiles, Writes, WritesFile, NoFault}
+use Rattle.il_outside.specs.Folder.{Files, FolderState, SameFiles, LeavesPrefix, KeepsFiles, WritesFile, NoFault}
 use Rattle.il_outside.specs.Streams.{SinkState}
 use Rattle.status_lines.specs.declared.status.Status.{Status}
 use Rattle.status_lines.specs.declared.status.Status.TheVariants.{ReadFault, NoMemory}
 use Rattle.status_lines.specs.Lines.{line_of}
 use Rattle.status_lines.specs.Reports.{Prints, Reports}
-use Rattle.named_files.specs.Files.{TellsAll}
 use Rattle.named_files.proofs.Folders.{keeps_itself, keeps_twice, quiet_itself, quiet_twice}
 use Rattle.trim_core.specs.declared.answers.Opts.{Opts}
 use Rattle.trim_core.specs.declared.answers.Refusal.{Refusal}
 use Rattle.trim_core.specs.declared.answers.Trimmed.{Trimmed}
-use Rattle.trim_core.specs.Trim.{Trims}
 use Rattle.trim_command.specs.declared.reading.Given.{Given}
 use Rattle.trim_command.specs.Reading.{ReadsGiven}
-use Rattle.trim_command.specs.Writing.{WhereTold, written_names, Differs, SameBut, KeepsOthers, BothStand, OutputStands, ListIsPrefix, Leaves}
+use Rattle.trim_command.specs.Writing.{WhereTold, SameBut, KeepsOthers, BothStand, OutputStands, ListIsPrefix, Leaves}
 use Rattle.trim_command.specs.Answer.{refused, write_status, line_for, opts_of, StatusReported, IsDue, Finished, GivenTrimmed, TrimCaused}
 
 -- ---- the status line

@@ -1,5 +1,5 @@
 -- Each status but the wanted one, and want of memory, has a cause that doesn't hold.
-use Rattle.std.proofs.Common.{◌≡◌, ◌⊎◌, ℕ, Bool, List, [], Option, Some, None, Result, Ok, Err, refl, sym, ap, subst, ◌∙◌, inl, inr}
+use Rattle.std.proofs.Common.{◌≡◌, ◌⊎◌, ℕ, Bool, List, [], Option, Some, Result, Ok, Err, refl, sym, subst, ◌∙◌, inl, inr}
 use Rattle.il_outside.specs.declared.folder.FolderError.{FolderError}
 use Rattle.il_outside.specs.declared.folder.FolderError.TheVariants as folder_error
 use Rattle.il_outside.specs.Folder.{Files, FolderState}

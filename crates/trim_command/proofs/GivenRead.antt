@@ -1,5 +1,5 @@
 -- The reads of the files and those of the descriptors behind them.
-use Rattle.std.proofs.Common.{◌≡◌, ℕ, List, [], ◌∷◌, ◌++◌, Option, Some, None, Ok, Err, sym, ap, subst, ◌∙◌}
+use Rattle.std.proofs.Common.{ℕ, List, [], ◌∷◌, ◌++◌, Option, Ok, Err, sym, ap, subst, ◌∙◌}
 use Rattle.std.proofs.lemmas.List.{append_assoc}
 use Rattle.il_outside.specs.Faults.{Rose}
 use Rattle.il_outside.specs.declared.folder.FolderError.{FolderError}

@@ -1,12 +1,12 @@
 -- The write of OUT, and that of the keep list behind it.
-use Rattle.std.proofs.Common.{◌≡◌, ◌⊎◌, ◌≢◌, ℕ, List, [], ◌∷◌, Option, Some, None, Result, Ok, Err, refl, sym, subst, ◌∙◌, inl, inr}
+use Rattle.std.proofs.Common.{◌≡◌, ◌≢◌, ℕ, List, Option, Some, None, Result, Ok, Err, refl, sym, subst, ◌∙◌, inl, inr}
 use Rattle.il_outside.specs.Faults.{Rose}
 use Rattle.il_outside.specs.declared.folder.FolderError.{FolderError}
 use Rattle.il_outside.specs.declared.folder.FolderError.TheVariants.{Failed, NoMemory}
-use Rattle.il_outside.specs.Folder.{Files, FolderState, SameFiles, SameOthers, LeavesPrefix, KeepsFiles, Writes, WritesFile, NoFault, WriteFaults}
+use Rattle.il_outside.specs.Folder.{Files, FolderState, SameOthers, LeavesPrefix, KeepsFiles, Writes, WritesFile, NoFault, WriteFaults}
 use Rattle.trim_core.specs.declared.answers.Trimmed.{Trimmed}
 use Rattle.named_files.proofs.Folders.{quiet_twice}
-use Rattle.trim_command.specs.Writing.{WhereTold, IsApart, written_names, Differs, SameBut, KeepsOthers, BothStand, OutputStands, ListIsPrefix, Leaves, ListWrites}
+use Rattle.trim_command.specs.Writing.{WhereTold, IsApart, written_names, Differs, KeepsOthers, BothStand, OutputStands, ListIsPrefix, Leaves, ListWrites}
 
 -- ---- what is told
 

@@ -1,6 +1,6 @@
 -- When each answer of `trim` comes, and what it leaves. A call of the folder that fails is never hidden: the first one that fails is the
 -- last of its kind, a read failed only where ReadFault was due, and a write only where WriteFault was.
-use Rattle.std.specs.Prelude.{◌≡◌, ◌⊎◌, ◌-◌, ℕ, Bool, List, [], ◌++◌, length, Option, Some, None, Result, Ok, Err, slice_get, unwrap_or, is_some, nat_lt, if◌then◌else◌}
+use Rattle.std.specs.Prelude.{◌≡◌, ◌⊎◌, ◌-◌, ℕ, Bool, List, [], ◌++◌, length, Option, Result, Ok, Err, slice_get, unwrap_or, is_some, nat_lt, if◌then◌else◌}
 use Rattle.il_outside.specs.declared.folder.FolderError.{FolderError}
 use Rattle.il_outside.specs.declared.folder.FolderError.TheVariants as folder
 use Rattle.il_outside.specs.Folder.{FolderState, KeepsFiles, NoFault}

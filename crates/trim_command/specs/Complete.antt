@@ -1,5 +1,5 @@
 -- The other way round: what the told files ask for is answered, unless the outside fails or memory runs out.
-use Rattle.std.specs.Prelude.{◌≡◌, ◌⊎◌, ℕ, Bool, List, Option, Some, None, Result, Ok, Err}
+use Rattle.std.specs.Prelude.{◌≡◌, ◌⊎◌, ℕ, Bool, List, Option, Some, Result, Ok, Err}
 use Rattle.il_outside.specs.Faults.{Rose}
 use Rattle.il_outside.specs.Folder.{Files, FolderState}
 use Rattle.il_outside.specs.Streams.{SinkState}
