@@ -164,6 +164,7 @@ fn do_command<F: Folder, I: Source, O: Sink, E: Sink>(
 }
 
 /// Reads the words, and does what they ask for.
+#[tactic(auto, using(crate::proofs::ApartLemmas::apart))]
 fn answer<F: Folder, I: Source, O: Sink, E: Sink>(
     alloc: Global,
     words: &[String],
