@@ -1,5 +1,5 @@
 -- Where words read as those of `trim`, the keep list has another name than OUT.
-use Rattle.std.proofs.Common.{◌≡◌, ℕ, suc, ◌+◌, ◌<◌, List, [], ◌∷◌, length, drop, get_or, Bool, true, false, Option, Some, None, Result, Ok, Err, refl, sym, ap, ◌∙◌, arith}
+use Rattle.std.proofs.Common.{◌≡◌, ℕ, zero, suc, ◌+◌, ◌<◌, List, [], ◌∷◌, length, drop, get_or, Bool, true, false, Option, Some, None, Result, Ok, Err, refl, sym, ap, ◌∙◌, arith}
 use Rattle.std.specs.Prelude.{codes, is_none, not, ◌&&◌, if◌then◌else◌}
 use Rattle.std.specs.Option.{option_map}
 use Rattle.std.specs.Cmp.Lexicographic.{bytes_decides}
@@ -34,7 +34,7 @@ GoodRest words (Ok p) = Good words p
 -- ---- a word that isn't another
 
 not_same : (a b : List ℕ) → is_word a b ≡ false → a ≡ b → ⊥
-not_same a b differs same = absurd (sym differs ∙ (bytes_decides a b).1 same)
+not_same a b differs same = let no : false ≡ true = sym differs ∙ (bytes_decides a b).1 same in cc
 
 -- ---- tests
 
@@ -99,9 +99,9 @@ before_end : (words : List (List ℕ)) (at : ℕ) (w : List ℕ) (ws : List (Lis
 before_end [] at w ws e = absurd (none at e)
   where
     none : (n : ℕ) → drop n [] ≡ w ∷ ws → ⊥
-    none 0 d = cc
+    none zero d = cc
     none (suc n) d = cc
-before_end (x ∷ xs) 0 w ws e = omega arith
+before_end (x ∷ xs) zero w ws e = omega arith
 before_end (x ∷ xs) (suc at) w ws e = let h = before_end xs at w ws e in omega (arith, h)
 
 parts : (words : List (List ℕ)) (at : ℕ) (w : List ℕ) (ws : List (List ℕ)) → drop at words ≡ w ∷ ws → get_or words at [] ∷ drop (suc at) words ≡ w ∷ ws
