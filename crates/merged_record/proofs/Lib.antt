@@ -1,0 +1,10 @@
+pub mod Lists
+pub mod Sorting
+pub mod Tokens
+pub mod Runs
+pub mod Rows
+pub mod Sizes
+pub mod Named
+pub mod Order
+pub mod Owned
+pub mod Whole

@@ -1,0 +1,4 @@
+//! A law: what a merge leaves of records is a record. Nothing goes in or comes out.
+#![tactic(auto)]
+
+pub mod laws;
