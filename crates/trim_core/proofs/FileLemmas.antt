@@ -229,14 +229,27 @@ bare_fault : (rec : AsmRec) → rec.descriptor ≡ None → descriptor_fault (re
 unfolding fault_from
 bare_fault rec bare = rw bare refl
 
+-- nothing refuses files and no descriptor
+no_fault : (a b : Option InputError) (n : Option ℕ) (r : Option RootsError) → a ≡ None → n ≡ None → b ≡ None → r ≡ None
+    → or_refusal (option_map input_refusal a) (or_refusal (option_map too_long n) (or_refusal (option_map input_refusal b) (option_map roots_refusal r))) ≡ None
+no_fault a b n r p q s t =
+    ap (λ (x : Option InputError). or_refusal (option_map input_refusal x) (or_refusal (option_map too_long n) (or_refusal (option_map input_refusal b) (option_map roots_refusal r)))) p
+    ∙ ap (λ (x : Option ℕ). or_refusal (option_map too_long x) (or_refusal (option_map input_refusal b) (option_map roots_refusal r))) q
+    ∙ ap (λ (x : Option InputError). or_refusal (option_map input_refusal x) (option_map roots_refusal r)) s
+    ∙ ap (λ (x : Option RootsError). option_map roots_refusal x) t
+
+thin_if : (b : Bool) (d : Option (List ℕ)) (rec : AsmRec) → b ≡ true → d ≡ None → (if b && not (is_some d) then Some rec else None) ≡ Some rec
+thin_if b d rec p q =
+    ap (λ (x : Bool). if x && not (is_some d) then Some rec else None) p ∙ ap (λ (x : Option (List ℕ)). if not (is_some x) then Some rec else None) q
+
 told_record : (bs : List ℕ) (rec : AsmRec) → input_fault (bs ∷ []) ≡ None → record_at bs ≡ rec → is_thin rec ≡ true → rec.descriptor ≡ None → TakenAs bs rec
 unfolding trim_fault long_descriptor
 told_record bs rec taken is thin bare =
     let l : limit_fault (bs ∷ []) ≡ None = front_passes _ _ taken in
     let d : descriptor_fault (records (bs ∷ [])) [] ≡ None = ap (λ (r : AsmRec). descriptor_fault (r ∷ []) []) is ∙ bare_fault rec bare in
     record {
-      taken = rw (l, taken, d) refl;
-      thin = subst (λ (r : AsmRec). thin_alone (r ∷ []) [] plain ≡ Some rec) (sym is) (rw (thin, bare) refl);
+      taken = no_fault (limit_fault (bs ∷ [])) (input_fault (bs ∷ [])) (long_descriptor []) (descriptor_fault (records (bs ∷ [])) []) l refl taken d;
+      thin = subst (λ (r : AsmRec). thin_alone (r ∷ []) [] plain ≡ Some rec) (sym is) (thin_if (is_thin rec) rec.descriptor rec thin bare);
     }
 
 -- bytes that have a record which is thin and links are a thin file

@@ -114,12 +114,7 @@ fn put_name(recs: &[AsmRec], t: TypeId, out: &mut Text) -> Result<(), NoMemory>
 
 /// The text of a collision of two types of a world.
 #[tactic(auto, using(crate::proofs::Lines::collision_put))]
-fn text_in(
-    alloc: Global,
-    recs: &[AsmRec],
-    first: TypeId,
-    second: TypeId,
-) -> Result<Text, NoMemory>
+fn text_in(alloc: Global, recs: &[AsmRec], first: TypeId, second: TypeId) -> Result<Text, NoMemory>
     ensures { IfOk result (λ text. text ≡ collision_in recs.now first second) }
 {
     let mut out = Seq::new(alloc);

@@ -38,11 +38,7 @@ fn is_thin_alone(rec: &AsmRec) -> bool
 }
 
 /// The first of these inputs, where it is the only one, no descriptor and no option is given, and it is thin.
-fn thin_alone<'a>(
-    inputs: &'a [AsmRec],
-    descriptors: &[Text],
-    opts: Opts,
-) -> Option<&'a AsmRec>
+fn thin_alone<'a>(inputs: &'a [AsmRec], descriptors: &[Text], opts: Opts) -> Option<&'a AsmRec>
     requires { link_fault_of inputs.now ≡ None }
     ensures { option_copied result ≡ thin_alone inputs.now descriptors.now opts }
 {
