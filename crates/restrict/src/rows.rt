@@ -7,19 +7,22 @@ ghost use Rattle.mark_tables.specs.Assemblies.{all_of, IsMarker};
 ghost use Rattle.merge_rules.specs.Refs.{Output};
 ghost use Rattle.merge_rules.specs.Moved.{moved_callee, kept_texts};
 ghost use Rattle.merge_rules.specs.Restricted.{new_text};
+ghost use Rattle.reference_scopes.specs.Scopes.{recs_of, IsScopes};
 ghost use Rattle.moved_parts.specs.declared.tokens.NewTokens.{NewTokens};
 ghost use Rattle.moved_parts.specs.Moves.{new_token};
 ghost use Rattle.merge_plan.specs.Kept.{kept_by};
+ghost use Rattle.kept_tables.specs.Kept.{AreKept};
+ghost use Rattle.world_keys.specs.Keys.{IsWorldKeys};
 ghost use Rattle.merged_texts.specs.Texts.{ArePlaces, texts_in};
 ghost use Rattle.merged_members.specs.Laws.{HaveTokens};
 ghost use Rattle.output_tokens.specs.Tokens.{AreTextsMet};
 ghost use Rattle.merged_tables.specs.Parts.{output_by};
 ghost use Rattle.merged_tables.specs.Rows.{AreMergedTables};
 ghost use Rattle.restrict.specs.Plans.{HasNewNames};
-ghost use Rattle.restrict.specs.Referring.{AreAttributesOf};
+ghost use Rattle.restrict.specs.Referring.{AreAttributesOf, AreReferring};
 ghost use Rattle.restrict.specs.Rows.{AreSources, output_from, AreRowsOfAttributes, IsNaming, AreOutputRows};
 
-use crate::referring::referring_with;
+use crate::referring::{Referring, referring_with};
 use il_base::{NoMemory, Seq};
 use kept_tables::tables::KeptTables;
 use key_tokens::KeyTokens;
@@ -211,6 +214,56 @@ fn rows_of(
     })
 }
 
+/// The rows of the output that refers to what `met` has. `first` is the first assembly.
+fn rows_with(
+    alloc: Global,
+    world: &WorldKeys<'_>,
+    index: &TypeIndex<'_>,
+    scopes: &Scopes<'_>,
+    kept: &KeptItems,
+    plan: &Plan,
+    tables: &KeptTables,
+    met: &Referring,
+    first: &AsmRec,
+) -> Result<OutputRows, NoMemory>
+    requires world { IsWorldKeys world.now }
+    requires index { IsIndex index.now }
+    requires same { all_of world.now.marker.now ≡ index.now.all.now }
+    requires scopes { IsScopes scopes.now }
+    requires scoped { recs_of scopes.now ≡ index.now.all.now }
+    requires plan { HasNewNames index.now.all.now (kept_by kept.now) plan.now }
+    requires tables { AreKept index.now.all.now (kept_by kept.now) tables.now }
+    requires met { AreReferring (output_by index.now.all.now (kept_by kept.now)) met.now }
+    requires first { slice_get index.now.all.now 0 ≡ Some first.now }
+    ensures { IfOk result (AreOutputRows plan.now.internal (output_by index.now.all.now (kept_by kept.now)) first.now) }
+{
+    let items = &tables.items;
+    let references = &met.references;
+    let types = TypeTokens {
+        scopes,
+        refs: &references.types,
+        kept: &items.types,
+    };
+    let keys = KeyTokens {
+        types,
+        methods: &items.methods,
+        fields: &items.fields,
+        specs: &references.specs,
+        members: &references.members,
+        instances: &references.instances,
+        locals: &references.locals,
+    };
+    let sources = Sources {
+        world: *world,
+        keys,
+        index,
+        kept,
+        plan,
+        tables,
+    };
+    rows_of(alloc, &sources, met.attributes.as_slice(), first)
+}
+
 /// The rows of the output of a world with these kept items, whose types have these new names. `first` is the first assembly.
 pub(crate) fn output_rows(
     alloc: Global,
@@ -235,28 +288,7 @@ pub(crate) fn output_rows(
         numbers: numbers.as_slice(),
     };
     let met = referring_with(alloc, &world, index, &scopes, kept, &tables)?;
-    let keys = KeyTokens {
-        types: TypeTokens {
-            scopes: &scopes,
-            refs: &met.references.types,
-            kept: &tables.items.types,
-        },
-        methods: &tables.items.methods,
-        fields: &tables.items.fields,
-        specs: &met.references.specs,
-        members: &met.references.members,
-        instances: &met.references.instances,
-        locals: &met.references.locals,
-    };
-    let sources = Sources {
-        world,
-        keys,
-        index,
-        kept,
-        plan,
-        tables: &tables,
-    };
-    let each = met.attributes.as_slice();
-    let rows = rows_of(alloc, &sources, each, first)?;
-    Ok(rows)
+    rows_with(
+        alloc, &world, index, &scopes, kept, plan, &tables, &met, first,
+    )
 }
