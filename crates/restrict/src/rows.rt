@@ -139,11 +139,7 @@ fn rows_of_texts(alloc: Global, texts: &Places<'_>) -> Result<Seq<UserText>, NoM
 }
 
 /// The rows of references, and the new tokens of each assembly. `texts` are those of kept methods.
-fn naming_of(
-    alloc: Global,
-    sources: &Sources<'_>,
-    texts: &Places<'_>,
-) -> Result<Naming, NoMemory>
+fn naming_of(alloc: Global, sources: &Sources<'_>, texts: &Places<'_>) -> Result<Naming, NoMemory>
     requires sources { AreSources sources.now }
     requires texts { ArePlaces texts.now }
     requires met { AreTextsMet (output_from sources.now) (texts_in texts.now) }
