@@ -1,4 +1,4 @@
-use Rattle.std.proofs.Common.{◌≡◌, sym, ap, ◌∙◌, Some, List}
+use Rattle.std.proofs.Common.{List, sym, ap, ◌∙◌}
 use Rattle.std.specs.Prelude.{slice_get}
 use Rattle.world_model.specs.declared.record.AsmRec.{AsmRec}
 use Rattle.merge_plan.specs.Kept.{kept_by}
