@@ -260,6 +260,33 @@ fn rows_with(
     rows_of(alloc, &sources, met.attributes.as_slice(), first)
 }
 
+/// The rows of the output with these tables. `first` is the first assembly.
+fn rows_by(
+    alloc: Global,
+    world: &WorldKeys<'_>,
+    index: &TypeIndex<'_>,
+    scopes: &Scopes<'_>,
+    kept: &KeptItems,
+    plan: &Plan,
+    tables: &KeptTables,
+    first: &AsmRec,
+) -> Result<OutputRows, NoMemory>
+    requires world { IsWorldKeys world.now }
+    requires index { IsIndex index.now }
+    requires same { all_of world.now.marker.now ≡ index.now.all.now }
+    requires scopes { IsScopes scopes.now }
+    requires scoped { recs_of scopes.now ≡ index.now.all.now }
+    requires plan { HasNewNames index.now.all.now (kept_by kept.now) plan.now }
+    requires tables { AreKept index.now.all.now (kept_by kept.now) tables.now }
+    requires first { slice_get index.now.all.now 0 ≡ Some first.now }
+    ensures { IfOk result (AreOutputRows plan.now.internal (output_by index.now.all.now (kept_by kept.now)) first.now) }
+{
+    let met = referring_with(alloc, world, index, scopes, kept, tables)?;
+    rows_with(
+        alloc, world, index, scopes, kept, plan, tables, &met, first,
+    )
+}
+
 /// The rows of the output of a world with these kept items, whose types have these new names. `first` is the first assembly.
 pub(crate) fn output_rows(
     alloc: Global,
@@ -283,8 +310,5 @@ pub(crate) fn output_rows(
         marker,
         numbers: numbers.as_slice(),
     };
-    let met = referring_with(alloc, &world, index, &scopes, kept, &tables)?;
-    rows_with(
-        alloc, &world, index, &scopes, kept, plan, &tables, &met, first,
-    )
+    rows_by(alloc, &world, index, &scopes, kept, plan, &tables, first)
 }

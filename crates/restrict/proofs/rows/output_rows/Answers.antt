@@ -10,14 +10,8 @@ all_numbers-requires-clause-references c = c.in_ok-scopes.ensures.is.references
 pub all_numbers-requires-clause-same : goal.all_numbers-requires-clause-same
 all_numbers-requires-clause-same c = c.in_ok-scopes.ensures.all ∙ sym c.requires.same
 
-pub referring_with-requires-clause-world : goal.referring_with-requires-clause-world
-referring_with-requires-clause-world c = record {
-  marker = c.requires.marker;
-  numbers = subst (λ (ts : List NewTokens). AreAllNumbers (all_of c.args.marker.now) ts) (sym c.as_slice-world.ensures.value) c.in_ok-numbers.ensures;
-}
-
-pub rows_with-requires-clause-world : goal.rows_with-requires-clause-world
-rows_with-requires-clause-world c = record {
+pub rows_by-requires-clause-world : goal.rows_by-requires-clause-world
+rows_by-requires-clause-world c = record {
   marker = c.requires.marker;
   numbers = subst (λ (ts : List NewTokens). AreAllNumbers (all_of c.args.marker.now) ts) (sym c.as_slice-world.ensures.value) c.in_ok-numbers.ensures;
 }
