@@ -1,5 +1,5 @@
 -- The record of the rows that are left is the one that the definition says.
-use Rattle.std.proofs.Common.{◌≡◌, Bool, List, [], Some, None, sym, ap, subst, ◌∙◌}
+use Rattle.std.proofs.Common.{◌≡◌, Bool, List, [], Some, None, sym, ap, ◌∙◌}
 use Rattle.std.specs.Prelude.{slice_get}
 use Rattle.std.specs.Option.{option_map}
 use Rattle.world_model.specs.declared.record.AsmRec.{AsmRec}
@@ -68,8 +68,7 @@ unfolding restricted output_of
 restricted_is internal recs kept first left here is =
     ap (option_map (restricted_by internal (output_by recs kept) (placed_methods (moved_methods (output_by recs kept))))) here ∙ ap (λ (r : AsmRec). Some r) (sym is)
 
-pub left_is : (internal : Bool) (all recs : List AsmRec) (kept : Kept) (first : AsmRec) (own : FirstRows) (rows : OutputRows) (left : AsmRec) → all ≡ recs → slice_get all 0 ≡ Some first
-    → AreFirstRows first own → AreOutputRows internal (output_by all kept) first rows → left ≡ made first own rows → restricted internal recs kept ≡ Some left
-left_is internal all recs kept first own rows left same here f r is =
-    subst (λ (rs : List AsmRec). restricted internal rs kept ≡ Some left) same
-    (restricted_is internal all kept first left here (is ∙ made_is internal (output_by all kept) first own rows f r))
+pub left_is : (internal : Bool) (recs : List AsmRec) (kept : Kept) (first : AsmRec) (own : FirstRows) (rows : OutputRows) (left : AsmRec) → slice_get recs 0 ≡ Some first
+    → AreFirstRows first own → AreOutputRows internal (output_by recs kept) first rows → left ≡ made first own rows → restricted internal recs kept ≡ Some left
+left_is internal recs kept first own rows left here f r is =
+    restricted_is internal recs kept first left here (is ∙ made_is internal (output_by recs kept) first own rows f r)

@@ -1,5 +1,6 @@
 -- What the rows of an output are made of, and these rows.
-use Rattle.std.specs.Prelude.{◌≡◌, Bool, map}
+use Rattle.std.specs.Prelude.{◌≡◌, Bool, List, map}
+use Rattle.world_model.specs.declared.extras.CustomAttributeRow.{CustomAttributeRow}
 use Rattle.world_model.specs.declared.record.AsmRec.{AsmRec}
 use Rattle.type_links.specs.Index.{IsIndex}
 use Rattle.mark_tables.specs.Assemblies.{all_of}
@@ -12,11 +13,13 @@ use Rattle.kept_tables.specs.Kept.{AreKept}
 use Rattle.world_keys.specs.Keys.{IsWorldKeys}
 use Rattle.key_tokens.specs.Keys.{AreKeyTokens}
 use Rattle.key_tokens.specs.Laws.{AreKeysOf}
+use Rattle.merged_members.specs.Laws.{HaveTokens}
 use Rattle.reference_tables.specs.Tables.{AreTablesOf}
 use Rattle.merged_types.specs.Laws.{IsPlanOf}
 use Rattle.merged_tables.specs.Parts.{output_by}
 use Rattle.merged_tables.specs.Rows.{AreMergedTables}
 use Rattle.restrict.specs.declared.rows.Sources.{Sources}
+use Rattle.restrict.specs.declared.rows.Naming.{Naming}
 use Rattle.restrict.specs.declared.rows.OutputRows.{OutputRows}
 
 -- the output of these assemblies and kept items
@@ -31,6 +34,13 @@ pub record AreSources (s : Sources) : Type 0 where
   pub told : AreKeysOf (output_from s) s.keys
   pub plan : IsPlanOf (output_from s) s.plan.now
   pub tables : AreKept s.index.now.all.now (kept_by s.kept.now) s.tables.now
+
+abbrev pub AreRowsOfAttributes : Output → List CustomAttributeRow → Type 0
+AreRowsOfAttributes o rows = rows ≡ map (attribute_row o) (kept_attributes o.recs o.kept)
+
+pub record IsNaming (o : Output) (n : Naming) : Type 0 where
+  pub references : AreTablesOf o n.references
+  pub tokens : HaveTokens o n.tokens.items
 
 pub record AreOutputRows (internal : Bool) (o : Output) (first : AsmRec) (r : OutputRows) : Type 0 where
   pub entry : r.entry ≡ moved_callee o 0 first first.entry

@@ -1,13 +1,15 @@
 //! The record that is left.
 
-ghost use Rattle.std.specs.Prelude.{◌≡◌, Some, IfOk};
+ghost use Rattle.std.specs.Prelude.{◌≡◌, Some, slice_get, IfOk};
 ghost use Rattle.link_rules.specs.Linked.{IsWorld};
 ghost use Rattle.merge_rules.specs.Restricted.{restricted};
 ghost use Rattle.merge_plan.specs.Kept.{kept_by};
+ghost use Rattle.merged_tables.specs.Parts.{output_by};
 ghost use Rattle.restrict.specs.Plans.{HasNewNames};
+ghost use Rattle.restrict.specs.Rows.{AreOutputRows};
 
 use crate::record::{first_rows, made};
-use crate::rows::output_rows;
+use crate::rows::{OutputRows, output_rows};
 use il_base::NoMemory;
 use mark_tables::marker::Marker;
 use member_search::linked::assembly_at;
@@ -16,6 +18,25 @@ use merge_plan::outcome::Plan;
 use std::alloc::Global;
 use type_links::TypeIndex;
 use world_model::{AsmRec, World};
+
+/// The rows of the output of a world with these kept items but those of `first`, the first assembly.
+fn rows_left(
+    alloc: Global,
+    world: &World,
+    kept: &KeptItems,
+    plan: &Plan,
+    first: &AsmRec,
+) -> Result<OutputRows, NoMemory>
+    requires world { IsWorld world.now }
+    requires plan { HasNewNames world.now.recs (kept_by kept.now) plan.now }
+    requires first { slice_get world.now.recs 0 ≡ Some first.now }
+    ensures { IfOk result (AreOutputRows plan.now.internal (output_by world.now.recs (kept_by kept.now)) first.now) }
+{
+    let marker = Marker::of(alloc, world)?;
+    let recs = world.recs.as_slice();
+    let index = TypeIndex::of(alloc, recs)?;
+    output_rows(alloc, &marker, &index, kept, plan, first)
+}
 
 /// The record that is left of a world's assemblies, of which the last is the core library. `plan` has the new names of the kept
 /// types.
@@ -29,13 +50,11 @@ pub fn restrict(
     requires plan { HasNewNames world.now.recs (kept_by kept.now) plan.now }
     ensures { IfOk result (λ left. restricted plan.now.internal world.now.recs (kept_by kept.now) ≡ Some left) }
 {
-    let marker = Marker::of(alloc, world)?;
     let recs = world.recs.as_slice();
-    let index = TypeIndex::of(alloc, recs)?;
-    let Some(first) = assembly_at(index.all, 0) else {
+    let Some(first) = assembly_at(recs, 0) else {
         return Err(NoMemory);
     };
-    let rows = output_rows(alloc, &marker, &index, kept, plan, first)?;
     let own = first_rows(alloc, first)?;
+    let rows = rows_left(alloc, world, kept, plan, first)?;
     Ok(made(alloc, first, own, rows))
 }
