@@ -1,5 +1,5 @@
 -- The words' reading makes the answer for the words.
-use Rattle.std.proofs.Common.{◌≡◌, ℕ, List, [], Bool, map, Option, Some, None, Result, Ok, Err, refl, inr}
+use Rattle.std.proofs.Common.{ℕ, List, [], Bool, map, Option, Result, Ok, Err, refl, inr}
 use Rattle.std.proofs.KnownBytes.{Appends-nil, Consumes-nil}
 use Rattle.std.specs.Option.{option_map}
 use Rattle.il_outside.specs.Folder.{Files, FolderState}

@@ -7,12 +7,11 @@ use Rattle.std.proofs.Math.Seq.{drop-cons}
 use Rattle.std.proofs.lemmas.Option.{unwrap_or-slice_get}
 use Rattle.trim_command.specs.Writing.{IsApart}
 use Rattle.trim_cli.specs.declared.command.Command.{Command}
-use Rattle.trim_cli.specs.declared.command.Command.TheVariants.{Exec, Trim}
 use Rattle.trim_cli.specs.declared.command.Awaited.{Awaited}
 use Rattle.trim_cli.specs.declared.command.Awaited.TheVariants as awaited
 use Rattle.trim_cli.specs.declared.command.Progress.{Progress}
 use Rattle.trim_cli.specs.declared.command.TrimProgress.{TrimProgress}
-use Rattle.trim_cli.specs.Words.{is_word, is_empty, begins_with_dash, word_at, after_word, steps_of, with_inputs, finish, finished, rest_of, begin, is_at, take_trim_option, take_trim_name, take_descriptor, take_list, trim_step_by, trim_step, trim_rest, trim_finish, trim_finished, trim_begin, read_words}
+use Rattle.trim_cli.specs.Words.{is_word, is_empty, begins_with_dash, word_at, after_word, with_inputs, finish, finished, rest_of, begin, is_at, take_trim_option, take_trim_name, take_descriptor, take_list, trim_step_by, trim_step, trim_rest, trim_finish, trim_finished, trim_begin, read_words}
 use Rattle.trim_cli.specs.Answer.{AreApart}
 
 -- OUT and the keep list, as far as they were read, have two names

@@ -1,5 +1,5 @@
 -- Each status but the wanted one, and want of memory, has a cause that doesn't hold.
-use Rattle.std.proofs.Common.{◌≡◌, ◌⊎◌, ℕ, List, [], map, Option, Some, Result, Ok, Err, refl, ◌∙◌, inl, inr}
+use Rattle.std.proofs.Common.{◌≡◌, ◌⊎◌, ℕ, List, [], map, Some, Result, Ok, Err, refl, ◌∙◌, inl, inr}
 use Rattle.std.specs.Option.{option_map}
 use Rattle.il_outside.specs.Folder.{Files, FolderState}
 use Rattle.il_outside.specs.Streams.{SourceState, SinkState}
