@@ -282,9 +282,7 @@ fn rows_by(
     ensures { IfOk result (AreOutputRows plan.now.internal (output_by index.now.all.now (kept_by kept.now)) first.now) }
 {
     let met = referring_with(alloc, world, index, scopes, kept, tables)?;
-    rows_with(
-        alloc, world, index, scopes, kept, plan, tables, &met, first,
-    )
+    rows_with(alloc, world, index, scopes, kept, plan, tables, &met, first)
 }
 
 /// The rows of the output of a world with these kept items, whose types have these new names. `first` is the first assembly.

@@ -13,5 +13,5 @@ all_numbers-requires-clause-same c = c.in_ok-scopes.ensures.all ∙ sym c.requir
 pub rows_by-requires-clause-world : goal.rows_by-requires-clause-world
 rows_by-requires-clause-world c = record {
   marker = c.requires.marker;
-  numbers = subst (λ (ts : List NewTokens). AreAllNumbers (all_of c.args.marker.now) ts) (sym c.as_slice-world.ensures.value) c.in_ok-numbers.ensures;
+  numbers = subst (λ (ts : List NewTokens). AreAllNumbers (all_of c.args.marker.now) ts) (sym c.as_slice.ensures.value) c.in_ok-numbers.ensures;
 }
