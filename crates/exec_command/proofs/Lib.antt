@@ -1,3 +1,4 @@
+pub mod NamesRead
 pub mod InputRead
 pub mod Causes
 pub mod Completing

@@ -1,3 +1,4 @@
+pub mod Files
 pub mod Input
 pub mod Turn
 pub mod Answer

@@ -3,6 +3,7 @@
 #![tactic(auto)]
 
 mod execute;
+mod files;
 mod input;
 mod reporting;
 

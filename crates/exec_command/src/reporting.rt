@@ -60,17 +60,15 @@ fn assembly_in(alloc: Global, files: &Seq<Text>, status: &Status) -> Result<Text
         | Status::Ended { .. }
         | Status::BadWords { .. }
         | Status::BadFile { .. }
-        | Status::Outside { .. }
         | Status::Unresolved { .. }
-        | Status::Collision { .. }
-        | Status::BadDescriptor { .. }
         | Status::Limit { .. }
         | Status::NoEntry { .. }
         | Status::ReadFault
         | Status::WriteFault
         | Status::NoMemory
         | Status::Threw { .. }
-        | Status::Spent { .. } => Ok(Seq::new(alloc)),
+        | Status::Spent { .. }
+        | Status::NotYet { .. } => Ok(Seq::new(alloc)),
     }
 }
 
@@ -86,10 +84,7 @@ fn file_in<'a>(names: &'a [String], status: &Status) -> &'a [u8]
         Status::Done
         | Status::Ended { .. }
         | Status::BadWords { .. }
-        | Status::Outside { .. }
         | Status::Unresolved { .. }
-        | Status::Collision { .. }
-        | Status::BadDescriptor { .. }
         | Status::Limit { .. }
         | Status::NoEntry { .. }
         | Status::ReadFault
@@ -98,7 +93,8 @@ fn file_in<'a>(names: &'a [String], status: &Status) -> &'a [u8]
         | Status::Threw { .. }
         | Status::Spent { .. }
         | Status::Stopped { .. }
-        | Status::Stuck { .. } => b"",
+        | Status::Stuck { .. }
+        | Status::NotYet { .. } => b"",
     }
 }
 

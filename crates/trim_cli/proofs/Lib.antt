@@ -1,4 +1,4 @@
-pub mod AnswerLemmas
-pub mod CompleteLemmas
 pub mod DigitLemmas
-pub mod ApartLemmas
+pub mod AnswerLemmas
+pub mod TrimLemmas
+pub mod CompleteLemmas

@@ -4,18 +4,9 @@ use il_base::Seq;
 #[derive(Drop)]
 pub enum Command {
     /// `exec IN.. [--steps N]`
-    Exec {
-        inputs: Seq<usize>,
-        steps: u64,
-    },
-    /// `trim OUT IN.. [--descriptor FILE].. [--internalize] [--keep-list FILE]`
-    Trim {
-        output: usize,
-        inputs: Seq<usize>,
-        descriptors: Seq<usize>,
-        list: Option<usize>,
-        internalize: bool,
-    },
+    Exec { inputs: Seq<usize>, steps: u64 },
+    /// `trim OUT IN`
+    Trim { output: usize, input: usize },
 }
 
 /// What was read of the words behind `exec`.
@@ -29,26 +20,11 @@ pub(crate) struct Progress {
     pub(crate) inputs: Seq<usize>,
 }
 
-/// What the next word behind `trim` is.
-#[derive(Clone, Copy, Debug, PartialEq, Eq)]
-pub(crate) enum Awaited {
-    /// An option or a name.
-    Word,
-    /// The value of `--descriptor`.
-    Descriptor,
-    /// The value of `--keep-list`.
-    KeepList,
-}
-
 /// What was read of the words behind `trim`.
-#[derive(Drop)]
+#[derive(Clone, Copy, Debug, PartialEq, Eq)]
 pub(crate) struct TrimProgress {
     /// Whether the word `--` was read: every later word is a name.
     pub(crate) names_only: bool,
-    pub(crate) awaits: Awaited,
     pub(crate) output: Option<usize>,
-    pub(crate) inputs: Seq<usize>,
-    pub(crate) descriptors: Seq<usize>,
-    pub(crate) list: Option<usize>,
-    pub(crate) internalize: bool,
+    pub(crate) input: Option<usize>,
 }

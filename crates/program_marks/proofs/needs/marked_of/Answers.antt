@@ -1,8 +1,0 @@
-use Rattle.std.proofs.Common.{List, subst}
-use Rattle.descriptor_file.specs.declared.root.Root.{Root}
-use Rattle.mark_tables.specs.Assemblies.{all_of}
-use Rattle.marking.specs.Holding.{IsMarked}
-use Rattle.program_marks.proofs.needs.marked_of.Goals as goal
-
-pub returns : goal.returns
-returns c = subst (λ (roots : List Root). IsMarked (all_of c.args.marker.now) c.args.entry roots c.in_ok-marked.marked) c.in_ok-named.ensures.roots c.in_ok-marked.ensures

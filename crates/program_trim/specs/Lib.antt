@@ -1,2 +1,0 @@
-pub mod Trim
-pub mod Programs

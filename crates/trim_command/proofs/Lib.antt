@@ -1,4 +1,0 @@
-pub mod GivenRead
-pub mod LeftWritten
-pub mod Causes
-pub mod Completing

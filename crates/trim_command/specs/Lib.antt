@@ -1,4 +1,0 @@
-pub mod Reading
-pub mod Writing
-pub mod Answer
-pub mod Complete
