@@ -22,6 +22,7 @@ WHY = (
 ANSWERS = {
     0: r"(ended -?\d+|done)",
     3: r"bad file a\.exe \d+ (%s)" % "|".join(WHY.split()),
+    4: r"outside %s [A-Za-z]+" % PLACE,
     5: r"unresolved " + PLACE,
     8: r"limit \d \d+",
     12: r"no entry [0-9a-f]{8}",
@@ -29,9 +30,8 @@ ANSWERS = {
     21: r"spent 1000",
     22: r"stopped " + PLACE,
     23: r"stuck " + PLACE,
-    30: r"not yet a\.exe",
 }
-REFUSALS = (3, 5, 8, 12, 30)
+REFUSALS = (3, 4, 5, 8, 12)
 
 
 class Fault(Exception):
@@ -67,7 +67,7 @@ def check_trim(program, folder, told):
     printed, line, code = call(program, folder, "trim", "o.exe", "a.exe")
     if line.startswith("ended") or printed or os.path.exists(out) != (code == 0):
         raise Fault("trim: %r, printed %r" % (line, printed))
-    if told[2] == 3 and (line, code) != told[1:]:
+    if told[2] in (3, 12) and (line, code) != told[1:]:
         raise Fault("exec: %r, trim: %r" % (told[1], line))
     if code == 0:
         again = call(program, folder, "exec", "o.exe", "--steps", "1000")

@@ -12,7 +12,7 @@
     links.py wide N M OUT        a class of N parameters, and M MemberRefs in an instance of it
     links.py doubled N OUT       N generic classes, each with an argument twice as large for its base, and one MemberRef
 
-None of them is thin, so the program answers `not yet` as soon as one is linked, or the demand of linking that it fails.
+None of them has an entry point, so `trim` answers `no entry` as soon as one is linked, or the demand of linking that it fails.
 The same words give the same bytes each time.
 """
 import sys

@@ -13,10 +13,10 @@ use Rattle.status_lines.specs.declared.status.Status.{Status}
 use Rattle.status_lines.specs.declared.status.Status.TheVariants.{WriteFault, NoMemory}
 use Rattle.status_lines.specs.Lines.{line_of}
 use Rattle.status_lines.specs.Reports.{SinkFailed, starved_status, Reports}
+use Rattle.named_files.proofs.Told.{told_of_known}
 use Rattle.exec_command.specs.declared.input.TheConstants.{MOST_BYTES}
-use Rattle.exec_command.specs.Files.{TellsAll}
 use Rattle.exec_command.specs.Answer.{too_long, IsDue, line_for, RunCaused, FilesCaused, InputRead, NamesRead, ExecCaused}
-use Rattle.exec_command.specs.Complete.{IsQuiet, status_by, exec_status, with_file, files_under, WantsRun, IsAnswered}
+use Rattle.exec_command.specs.Complete.{IsQuiet, status_by, exec_status, WantsRun, IsAnswered}
 
 starved_is : (s : Status) → (starved_status s ≡ s) ⊎ (starved_status s ≡ NoMemory)
 starved_is WriteFault = inl refl
@@ -37,19 +37,7 @@ instead : (s due status : Status) → due ≡ s → (status ≡ due) ⊎ (status
 instead s due status e (inl x) = inl (x ∙ e)
 instead s due status e (inr x) = inr x
 
--- ---- the files and the input that were read are those that are told
-
-same_files : (a b : List (List ℕ)) → Some a ≡ Some b → a ≡ b
-same_files a b e = cc
-
-joined : (o : Option (List ℕ)) (os : Option (List (List ℕ))) (file : List ℕ) (files : List (List ℕ)) → o ≡ Some file → os ≡ Some files → with_file o os ≡ Some (file ∷ files)
-joined o os file files p q = ap (λ (x : Option (List ℕ)). with_file x os) p ∙ ap (λ (x : Option (List (List ℕ))). with_file (Some file) x) q
-
-told_under : (f : Files) (names files : List (List ℕ)) → TellsAll (Some f) names files → files_under f names ≡ Some files
-told_under f [] [] told = refl
-told_under f [] (file ∷ files) told = absurd told
-told_under f (name ∷ names) [] told = absurd told
-told_under f (name ∷ names) (file ∷ files) told = joined (f name) (files_under f names) file files told.0 (told_under f names files told.1)
+-- ---- the input that was read is the one that is told
 
 -- a source that is at its end gave all that it had
 all_given : (left now : Option (List ℕ)) (bytes input : List ℕ) → left ≡ Some input → Consumes left now bytes → IsAtEnd now → bytes ≡ input
@@ -114,9 +102,6 @@ known_answered names files steps in0 in1 (Some input) out0 out1 err0 err1 status
     inr (only_memory status (reported (line_of [] [] NoMemory) NoMemory out0 out1 err0 err1 status sinks h.reported))
 
 -- ---- names
-
-told_of_known : (known : Option Files) (f : Files) (names files : List (List ℕ)) → known ≡ Some f → TellsAll known names files → files_under f names ≡ Some files
-told_of_known known f names files e told = told_under f names files (subst (λ (o : Option Files). TellsAll o names files) e told)
 
 names_answered : (names : List (List ℕ)) (steps : ℕ) (was now : FolderState) (f : Files) (in0 in1 : SourceState) (out0 out1 err0 err1 : SinkState) (status : Status) → was.files ≡ Some f
     → (Rose in0.faults in1.faults → ⊥) → (SinkFailed out0 out1 err0 err1 → ⊥) → NamesRead names steps was now in0 in1 out0 out1 err0 err1 status → IsAnswered names f in0.left steps status

@@ -1,4 +1,3 @@
-pub mod NamesRead
 pub mod InputRead
 pub mod Causes
 pub mod Completing

@@ -17,8 +17,8 @@ use Rattle.status_lines.specs.declared.status.Status.{Status}
 use Rattle.status_lines.specs.declared.status.Status.TheVariants.{Ended, BadFile, NoEntry, Limit, ReadFault, WriteFault, NoMemory, Threw, Spent, Stopped, Stuck}
 use Rattle.status_lines.specs.Lines.{line_of}
 use Rattle.status_lines.specs.Reports.{Prints, Reports}
+use Rattle.named_files.specs.Files.{TellsAll, FailsAt}
 use Rattle.exec_command.specs.declared.input.TheConstants.{MOST_BYTES}
-use Rattle.exec_command.specs.Files.{TellsAll, FailsAt}
 use Rattle.exec_command.specs.Input.{ReadsAll, TakesSome, TakesTooMany}
 
 -- ---- statuses and their lines

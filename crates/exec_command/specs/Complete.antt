@@ -1,5 +1,5 @@
 -- The other way round: what the told files and the told input ask for is answered, unless the outside fails or memory runs out.
-use Rattle.std.specs.Prelude.{◌≡◌, ◌⊎◌, ℕ, List, [], ◌∷◌, Option, Some, None, length, nat_le, if◌then◌else◌}
+use Rattle.std.specs.Prelude.{◌≡◌, ◌⊎◌, ℕ, List, Option, Some, None, length, nat_le, if◌then◌else◌}
 use Rattle.il_outside.specs.Faults.{Rose}
 use Rattle.il_outside.specs.Folder.{Files, FolderState}
 use Rattle.il_outside.specs.Streams.{SourceState, SinkState}
@@ -9,6 +9,7 @@ use Rattle.run_rules.specs.Runs.{FileRun, run_of_files}
 use Rattle.status_lines.specs.declared.status.Status.{Status}
 use Rattle.status_lines.specs.declared.status.Status.TheVariants.{NoMemory}
 use Rattle.status_lines.specs.Reports.{SinkFailed}
+use Rattle.named_files.specs.Files.{files_under}
 use Rattle.exec_command.specs.declared.input.TheConstants.{MOST_BYTES}
 use Rattle.exec_command.specs.Answer.{status_of, refused, too_long}
 
@@ -26,15 +27,6 @@ status_by steps None run = status_of steps run.end
 abbrev pub exec_status : List (List ℕ) → List ℕ → ℕ → Status
 exec_status files input steps =
     if nat_le (length input) MOST_BYTES then status_by steps (input_fault files) (run_of_files files input steps) else too_long
-
-abbrev pub with_file : Option (List ℕ) → Option (List (List ℕ)) → Option (List (List ℕ))
-with_file (Some file) (Some files) = Some (file ∷ files)
-with_file file files = None
-
--- the files under names, None where one of them isn't there
-abbrev pub files_under : Files → List (List ℕ) → Option (List (List ℕ))
-files_under f [] = Some []
-files_under f (name ∷ names) = with_file (f name) (files_under f names)
 
 -- the status that these files and this input ask for; any where one of them isn't known
 abbrev pub WantsRun : Option (List (List ℕ)) → Option (List ℕ) → ℕ → Status → Type 0

@@ -1,4 +1,3 @@
-pub mod Files
 pub mod Input
 pub mod Turn
 pub mod Answer

@@ -7,12 +7,12 @@ ghost use Rattle.exec_command.specs.Input.{TakesSome};
 ghost use Rattle.exec_command.specs.Answer.{RunCaused, FilesCaused, ExecCaused};
 ghost use Rattle.exec_command.specs.Complete.{IsQuiet, IsAnswered};
 
-use crate::files::read_files;
 use crate::input::{InputFault, MOST_BYTES, read_input};
 use crate::reporting::report_run;
 use file_runs::exec_to;
 use il_base::{Seq, Text, limit};
 use il_outside::{Folder, FolderError, Sink, Source};
+use named_files::read_files;
 use status_lines::{Status, report};
 use std::alloc::Global;
 

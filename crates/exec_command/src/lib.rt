@@ -3,7 +3,6 @@
 #![tactic(auto)]
 
 mod execute;
-mod files;
 mod input;
 mod reporting;
 

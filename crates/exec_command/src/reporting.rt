@@ -60,15 +60,17 @@ fn assembly_in(alloc: Global, files: &Seq<Text>, status: &Status) -> Result<Text
         | Status::Ended { .. }
         | Status::BadWords { .. }
         | Status::BadFile { .. }
+        | Status::Outside { .. }
         | Status::Unresolved { .. }
+        | Status::Collision { .. }
+        | Status::BadDescriptor { .. }
         | Status::Limit { .. }
         | Status::NoEntry { .. }
         | Status::ReadFault
         | Status::WriteFault
         | Status::NoMemory
         | Status::Threw { .. }
-        | Status::Spent { .. }
-        | Status::NotYet { .. } => Ok(Seq::new(alloc)),
+        | Status::Spent { .. } => Ok(Seq::new(alloc)),
     }
 }
 
@@ -84,7 +86,10 @@ fn file_in<'a>(names: &'a [String], status: &Status) -> &'a [u8]
         Status::Done
         | Status::Ended { .. }
         | Status::BadWords { .. }
+        | Status::Outside { .. }
         | Status::Unresolved { .. }
+        | Status::Collision { .. }
+        | Status::BadDescriptor { .. }
         | Status::Limit { .. }
         | Status::NoEntry { .. }
         | Status::ReadFault
@@ -93,8 +98,7 @@ fn file_in<'a>(names: &'a [String], status: &Status) -> &'a [u8]
         | Status::Threw { .. }
         | Status::Spent { .. }
         | Status::Stopped { .. }
-        | Status::Stuck { .. }
-        | Status::NotYet { .. } => b"",
+        | Status::Stuck { .. } => b"",
     }
 }
 

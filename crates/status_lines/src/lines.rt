@@ -2,7 +2,7 @@
 
 ghost use Rattle.std.specs.Prelude.{◌≡◌, ◌<◌, ◌++◌, OnOk, IfOk, codes};
 ghost use Rattle.std.specs.Fmt.{decimal, signed_decimal};
-ghost use Rattle.status_lines.specs.Lines.{hex_digit, hex8, place_text, ended, why_text, bad_text, limit_text, threw_text, line_of};
+ghost use Rattle.status_lines.specs.Lines.{hex_digit, hex8, place_text, ended, what_text, why_text, outside_text, bad_text, descriptor_text, limit_text, threw_text, line_of};
 
 use crate::status::Status;
 use il_base::{BadAt, NoMemory, Place};
@@ -79,6 +79,30 @@ fn with_number(alloc: Global, label: &[u8], n: u64) -> Result<Vec<u8>, NoMemory>
     with_text(alloc, label, text.as_bytes())
 }
 
+/// The name of what is outside the profile (`il_base::outside`).
+#[tactic(auto, unfolding(crate::specs::Lines::what_text))]
+fn what_text(what: u8) -> &'static [u8]
+    ensures { result.now ≡ what_text what }
+{
+    match what {
+        1 => b"Float",
+        2 => b"Instruction",
+        3 => b"Platform",
+        4 => b"Filter",
+        5 => b"Signature",
+        6 => b"Layout",
+        7 => b"InterfaceBody",
+        8 => b"GlobalMember",
+        9 => b"ModuleInitializer",
+        10 => b"IdentityReader",
+        11 => b"Body",
+        12 => b"Stack",
+        13 => b"Attribute",
+        14 => b"Variance",
+        _ => b"FieldData",
+    }
+}
+
 /// The name of what fails in a file.
 #[tactic(auto, unfolding(crate::specs::Lines::why_text))]
 fn why_text(why: u8) -> &'static [u8]
@@ -124,6 +148,40 @@ fn with_fault(alloc: Global, word: &[u8], at: BadAt) -> Result<Vec<u8>, NoMemory
     with_text(alloc, b"bad file ", &text)
 }
 
+fn outside_text(alloc: Global, asm: &[u8], place: Place, what: u8) -> Result<Vec<u8>, NoMemory>
+    ensures { IfOk result (λ text. text.items ≡ outside_text asm.now place what) }
+{
+    let mut text = Vec::new(alloc);
+    put_place(&mut text, asm, place)?;
+    text.push(b' ')?;
+    text.extend_from_slice(what_text(what))?;
+    Ok(text)
+}
+
+fn with_form(alloc: Global, asm: &[u8], place: Place, what: u8) -> Result<Vec<u8>, NoMemory>
+    ensures { IfOk result (λ line. line.items ≡ ended (codes "outside " ++ outside_text asm.now place what)) }
+{
+    let text = outside_text(alloc, asm, place, what)?;
+    with_text(alloc, b"outside ", &text)
+}
+
+fn descriptor_text(alloc: Global, word: &[u8], offset: u32) -> Result<Vec<u8>, NoMemory>
+    ensures { IfOk result (λ text. text.items ≡ descriptor_text word.now offset) }
+{
+    let digits = offset.to_string(alloc)?;
+    let mut text = Vec::from_slice(alloc, word)?;
+    text.push(b' ')?;
+    text.extend_from_slice(digits.as_bytes())?;
+    Ok(text)
+}
+
+fn with_descriptor(alloc: Global, word: &[u8], offset: u32) -> Result<Vec<u8>, NoMemory>
+    ensures { IfOk result (λ line. line.items ≡ ended (codes "bad descriptor " ++ descriptor_text word.now offset)) }
+{
+    let text = descriptor_text(alloc, word, offset)?;
+    with_text(alloc, b"bad descriptor ", &text)
+}
+
 fn limit_text(alloc: Global, which: u8, found: u64) -> Result<Vec<u8>, NoMemory>
     ensures { IfOk result (λ text. text.items ≡ limit_text which found) }
 {
@@ -158,7 +216,8 @@ fn with_exception(alloc: Global, kind: &[u8], message: &[u8]) -> Result<Vec<u8>,
     with_text(alloc, b"threw ", &text)
 }
 
-/// The line of a status, with the name of the assembly that a place is in and the name of the file.
+/// The line of a status, with the name of the assembly that a place is in and the name of the file, or for a collision the text
+/// of its two types.
 pub(crate) fn line_of(
     alloc: Global,
     asm: &[u8],
@@ -171,7 +230,10 @@ pub(crate) fn line_of(
         Status::Done => Ok(Vec::from_slice(alloc, b"done\n")?),
         Status::Ended { code } => with_code(alloc, *code),
         Status::BadFile { file: _, at } => with_fault(alloc, word, *at),
+        Status::Outside { place, what } => with_form(alloc, asm, *place, *what),
         Status::Unresolved { place } => with_place(alloc, b"unresolved ", asm, *place),
+        Status::Collision { .. } => with_text(alloc, b"collision ", word),
+        Status::BadDescriptor { source: _, offset } => with_descriptor(alloc, word, *offset),
         Status::Limit { which, found } => with_limit(alloc, *which, *found),
         Status::BadWords { place } => with_number(alloc, b"bad words ", u64::from(*place)),
         Status::NoEntry { token } => with_text(alloc, b"no entry ", &hex8(*token)),
@@ -184,6 +246,5 @@ pub(crate) fn line_of(
         Status::Spent { steps } => with_number(alloc, b"spent ", *steps),
         Status::Stopped { place } => with_place(alloc, b"stopped ", asm, *place),
         Status::Stuck { place } => with_place(alloc, b"stuck ", asm, *place),
-        Status::NotYet { .. } => with_text(alloc, b"not yet ", word),
     }
 }

@@ -20,7 +20,10 @@ fn starved_status(status: Status) -> Status
         | Status::Ended { .. }
         | Status::BadWords { .. }
         | Status::BadFile { .. }
+        | Status::Outside { .. }
         | Status::Unresolved { .. }
+        | Status::Collision { .. }
+        | Status::BadDescriptor { .. }
         | Status::Limit { .. }
         | Status::NoEntry { .. }
         | Status::ReadFault
@@ -28,14 +31,13 @@ fn starved_status(status: Status) -> Status
         | Status::Threw { .. }
         | Status::Spent { .. }
         | Status::Stopped { .. }
-        | Status::Stuck { .. }
-        | Status::NotYet { .. } => Status::NoMemory,
+        | Status::Stuck { .. } => Status::NoMemory,
     }
 }
 
 /// Writes the line of a status to `err`, once, and gives the status back: `asm` is the name of the assembly that its place is in,
-/// `word` the name of its file. Where a write failed or memory ran out, the answer is WriteFault, or NoMemory for a status other
-/// than WriteFault, and a prefix of the line was written.
+/// `word` the name of its file, or for a collision the text of its two types. Where a write failed or memory ran out, the answer
+/// is WriteFault, or NoMemory for a status other than WriteFault, and a prefix of the line was written.
 pub fn report<E: Sink>(
     alloc: Global,
     err: &mut E,

@@ -1,6 +1,6 @@
 ghost use Rattle.std.specs.Prelude.{◌≡◌};
 
-use il_base::{BadAt, Place, Text};
+use il_base::{BadAt, Place, Text, TypeId};
 
 /// How the program answers.
 #[derive(Debug, Drop)]
@@ -15,10 +15,17 @@ pub enum Status {
     /// A file, counted from 0, has no record: the first demand of II.22 to II.25 that fails, at its offset. Or it doesn't
     /// link: 0 for an assembly that is there twice, else the offset of the row.
     BadFile { file: u32, at: BadAt },
+    /// Something that `trim` keeps is outside what can be trimmed: `what` is its number in `il_base::outside`.
+    Outside { place: Place, what: u8 },
     /// An operand of a method that `trim` keeps names nothing.
     Unresolved { place: Place },
-    /// More than a limit allows (`il_base::limit`): 1 files, 2 bytes of a file, 3 bytes of all files, 5 rows of a table, 7
-    /// bytes of the file that is written, 8 bytes of the input. `found` is what there is.
+    /// Two types that `trim` keeps would have one name in one assembly. Types are counted from 0 over all files.
+    Collision { first: TypeId, second: TypeId },
+    /// A descriptor can't be read from this offset in bytes on. Sources are counted from 0: all files, for the descriptors in
+    /// them, and then the descriptors that have files of their own.
+    BadDescriptor { source: u32, offset: u32 },
+    /// More than a limit allows (`il_base::limit`): 1 files, 2 bytes of a file, 3 bytes of all files, 4 bytes of a descriptor,
+    /// 5 rows of a table, 7 bytes of the file that is written, 8 bytes of the input. `found` is what there is.
     Limit { which: u8, found: u64 },
     /// The entry point token of the first file names no method (II.25.3.3.2).
     NoEntry { token: u32 },
@@ -35,8 +42,6 @@ pub enum Status {
     Stopped { place: Place },
     /// The program of `exec` broke a rule that the machine relies on.
     Stuck { place: Place },
-    /// A file, counted from 0, isn't of the kind that can be taken yet.
-    NotYet { file: u32 },
 }
 
 impl Status {
@@ -51,7 +56,10 @@ impl Status {
             Status::Ended { .. } => 0,
             Status::BadWords { .. } => 2,
             Status::BadFile { .. } => 3,
+            Status::Outside { .. } => 4,
             Status::Unresolved { .. } => 5,
+            Status::Collision { .. } => 6,
+            Status::BadDescriptor { .. } => 7,
             Status::Limit { .. } => 8,
             Status::ReadFault => 9,
             Status::WriteFault => 10,
@@ -61,7 +69,6 @@ impl Status {
             Status::Spent { .. } => 21,
             Status::Stopped { .. } => 22,
             Status::Stuck { .. } => 23,
-            Status::NotYet { .. } => 30,
         }
     }
 }

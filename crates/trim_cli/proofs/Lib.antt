@@ -1,4 +1,4 @@
-pub mod DigitLemmas
 pub mod AnswerLemmas
-pub mod TrimLemmas
 pub mod CompleteLemmas
+pub mod DigitLemmas
+pub mod ApartLemmas

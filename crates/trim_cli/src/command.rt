@@ -4,9 +4,18 @@ use il_base::Seq;
 #[derive(Drop)]
 pub enum Command {
     /// `exec IN.. [--steps N]`
-    Exec { inputs: Seq<usize>, steps: u64 },
-    /// `trim OUT IN`
-    Trim { output: usize, input: usize },
+    Exec {
+        inputs: Seq<usize>,
+        steps: u64,
+    },
+    /// `trim OUT IN.. [--descriptor FILE].. [--internalize] [--keep-list FILE]`
+    Trim {
+        output: usize,
+        inputs: Seq<usize>,
+        descriptors: Seq<usize>,
+        list: Option<usize>,
+        internalize: bool,
+    },
 }
 
 /// What was read of the words behind `exec`.
@@ -20,11 +29,26 @@ pub(crate) struct Progress {
     pub(crate) inputs: Seq<usize>,
 }
 
-/// What was read of the words behind `trim`.
+/// What the next word behind `trim` is.
 #[derive(Clone, Copy, Debug, PartialEq, Eq)]
+pub(crate) enum Awaited {
+    /// An option or a name.
+    Word,
+    /// The value of `--descriptor`.
+    Descriptor,
+    /// The value of `--keep-list`.
+    KeepList,
+}
+
+/// What was read of the words behind `trim`.
+#[derive(Drop)]
 pub(crate) struct TrimProgress {
     /// Whether the word `--` was read: every later word is a name.
     pub(crate) names_only: bool,
+    pub(crate) awaits: Awaited,
     pub(crate) output: Option<usize>,
-    pub(crate) input: Option<usize>,
+    pub(crate) inputs: Seq<usize>,
+    pub(crate) descriptors: Seq<usize>,
+    pub(crate) list: Option<usize>,
+    pub(crate) internalize: bool,
 }

@@ -2,10 +2,8 @@
 #![tactic(auto)]
 
 mod command;
-mod refusals;
 mod run;
 mod trim_words;
-mod trimming;
 mod words;
 
 use il_base::NoMemory;

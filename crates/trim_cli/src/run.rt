@@ -1,21 +1,26 @@
 //! The program over a folder, a source and two sinks.
 
 ghost use Rattle.std.specs.Prelude.{◌≡◌, Ok, IfOk, Some, map};
+ghost use Rattle.std.specs.Option.{option_map, option_copied};
 ghost use Rattle.std.specs.String.{string_bytes};
 ghost use Rattle.il_outside.specs.Folder.{Files, KeepsFiles};
 ghost use Rattle.exec_command.specs.Input.{TakesSome};
-ghost use Rattle.trim_cli.specs.Words.{read_words};
-ghost use Rattle.trim_cli.specs.Complete.{IsQuiet, IsSourceQuiet, IsAnswered};
-ghost use Rattle.trim_cli.specs.Answer.{capped, word_at, Caused, CausedBy, KeepsBy, TakesBy};
+ghost use Rattle.trim_command.specs.Writing.{IsApart, KeepsOthers, written_names};
+ghost use Rattle.trim_command.specs.Answer.{TrimCaused};
+ghost use Rattle.trim_command.specs.Complete.{IsQuiet};
+ghost use Rattle.trim_cli.specs.Words.{word_at, read_words};
+ghost use Rattle.trim_cli.specs.Complete.{IsSourceQuiet, IsAnswered};
+ghost use Rattle.trim_cli.specs.Answer.{capped, AreApart, Caused, CausedBy, KeepsBy, TakesBy};
 
 use crate::command::Command;
-use crate::trimming::trim_word;
+use crate::trim_words::word_at;
 use crate::words::read_words;
 use exec_command::exec_files;
 use il_base::NoMemory;
 use il_outside::{Folder, Sink, Source};
 use status_lines::{Status, report};
 use std::alloc::Global;
+use trim_command::trim_files;
 
 /// A place as a status carries it: a number past 4294967295 as that.
 fn capped(at: usize) -> u32
@@ -25,16 +30,6 @@ fn capped(at: usize) -> u32
         4_294_967_295
     } else {
         at as u32
-    }
-}
-
-/// The word at a place.
-fn word_at(words: &[String], at: usize) -> &str
-    ensures { result.now ≡ word_at (map string_bytes words.now) at }
-{
-    match words.get(at) {
-        None => "",
-        Some(word) => word.as_str(),
     }
 }
 
@@ -71,6 +66,53 @@ fn exec_words<F: Folder, I: Source, O: Sink, E: Sink>(
     }
 }
 
+/// The word at a place, if one is given.
+fn list_name(words: &[String], list: Option<usize>) -> Option<&str>
+    ensures { option_copied result ≡ option_map (word_at (map string_bytes words.now)) list }
+{
+    match list {
+        None => None,
+        Some(at) => Some(word_at(words, at)),
+    }
+}
+
+/// `trim` of the files and descriptors that the words at these places name.
+fn trim_words<F: Folder, O: Sink, E: Sink>(
+    alloc: Global,
+    words: &[String],
+    output: usize,
+    inputs: &[usize],
+    descriptors: &[usize],
+    list: Option<usize>,
+    internalize: bool,
+    folder: &mut F,
+    out: &mut O,
+    err: &mut E,
+) -> Status
+    requires { IsApart (word_at (map string_bytes words.now) output) (option_map (word_at (map string_bytes words.now)) list) }
+    ensures answered { TrimCaused (map (word_at (map string_bytes words.now)) inputs.now) (map (word_at (map string_bytes words.now)) descriptors.now) (word_at (map string_bytes words.now) output) (option_map (word_at (map string_bytes words.now)) list) internalize (F.state folder.old) (F.state folder.new) (O.state out.old) (O.state out.new) (E.state err.old) (E.state err.new) result }
+    ensures folder { KeepsOthers (written_names (word_at (map string_bytes words.now) output) (option_map (word_at (map string_bytes words.now)) list)) (F.state folder.old).files (F.state folder.new).files }
+{
+    let names = match words_at(alloc, words, inputs) {
+        Err(_) => return report(alloc, err, &[], &[], Status::NoMemory),
+        Ok(names) => names,
+    };
+    match words_at(alloc, words, descriptors) {
+        Err(_) => report(alloc, err, &[], &[], Status::NoMemory),
+        Ok(texts) => trim_files(
+            alloc,
+            word_at(words, output),
+            names.as_slice(),
+            texts.as_slice(),
+            list_name(words, list),
+            internalize,
+            folder,
+            out,
+            err,
+        ),
+    }
+}
+
 /// Does what a command asks for, or tells the place of a bad word.
 fn do_command<F: Folder, I: Source, O: Sink, E: Sink>(
     alloc: Global,
@@ -81,6 +123,7 @@ fn do_command<F: Folder, I: Source, O: Sink, E: Sink>(
     out: &mut O,
     err: &mut E,
 ) -> Status
+    requires { AreApart command (map string_bytes words.now) }
     ensures answered { CausedBy command (map string_bytes words.now) (F.state folder.old) (F.state folder.new) (I.state input.old) (I.state input.new) (O.state out.old) (O.state out.new) (E.state err.old) (E.state err.new) result }
     ensures folder { KeepsBy command (map string_bytes words.now) (F.state folder.old).files (F.state folder.new).files }
     ensures input { TakesBy command (I.state input.old) (I.state input.new) }
@@ -97,15 +140,31 @@ fn do_command<F: Folder, I: Source, O: Sink, E: Sink>(
             out,
             err,
         ),
-        Ok(Command::Trim { output, input: at }) => {
-            let target = word_at(words, output);
-            let name = word_at(words, at);
-            trim_word(alloc, target, name, folder, out, err)
-        }
+        Ok(
+            Command::Trim {
+                output,
+                inputs,
+                descriptors,
+                list,
+                internalize,
+            },
+        ) => trim_words(
+            alloc,
+            words,
+            output,
+            inputs.as_slice(),
+            descriptors.as_slice(),
+            list,
+            internalize,
+            folder,
+            out,
+            err,
+        ),
     }
 }
 
 /// Reads the words, and does what they ask for.
+#[tactic(auto, using(crate::proofs::ApartLemmas::apart))]
 fn answer<F: Folder, I: Source, O: Sink, E: Sink>(
     alloc: Global,
     words: &[String],
@@ -128,15 +187,16 @@ fn answer<F: Folder, I: Source, O: Sink, E: Sink>(
 ///
 /// `answered` says for each status when it comes and what it leaves. `Ended`, `Threw`, `Spent`, `Stopped` and `Stuck` are what
 /// the run's definition gives at the given steps, for the bytes that the folder told under the words and those that the source
-/// had left; `out` is extended by exactly the run's output. `Done` says that OUT holds the file that a trim of IN gives: it loads
-/// as one assembly whose methods are exactly the marked ones, and for every number of steps it prints, ends, stops or goes on as
-/// IN. `BadFile`, `Limit`, `NoEntry` and `NotYet` come exactly where those bytes say so, `Unresolved` exactly where a kept operand
-/// names nothing, `BadWords` where the words don't read, `ReadFault` only where one read of the folder failed, that of an IN, or
-/// one of the source, `WriteFault` only where one write of the folder failed, that of OUT, or one write to a sink; `NoMemory`
-/// alone is free. A call that fails is never hidden: where another answer is due, no read and no write of the folder, no read of
-/// the source and no write to `out` failed. `err` is extended by exactly the status line, and after `WriteFault` and `NoMemory`
-/// both sinks by prefixes. After a refusal the folder is as it was. `complete` is the other way round: where no count rose, what
-/// the words, a told folder and a told source ask for is the answer, or `NoMemory`.
+/// had left; `out` is extended by exactly the run's output. `Done` says that OUT holds the file that a trim of the files IN gives
+/// with the descriptors and options that the words name (`Trims` in `trim_core`), and that the keep list holds its text, where one
+/// is asked for. `BadFile`, `Limit`, `NoEntry`, `BadDescriptor`, `Outside`, `Unresolved` and `Collision` come exactly where those
+/// bytes say so, `BadWords` where the words don't read, `ReadFault` only where one read of the folder failed, that of a file or a
+/// descriptor, or one of the source, `WriteFault` only where one write of the folder failed, that of OUT, or that of the keep list,
+/// after which OUT stands whole, or one write to a sink; `NoMemory` alone is free. A call that fails is never hidden: where another
+/// answer is due, no read and no write of the folder, no read of the source and no write to `out` failed. `err` is extended by
+/// exactly the status line, and after `WriteFault` and `NoMemory` both sinks by prefixes. After a refusal the folder is as it was.
+/// `complete` is the other way round: where no count rose, what the words, a told folder and a told source ask for is the answer,
+/// or `NoMemory`.
 pub fn run<F: Folder, I: Source, O: Sink, E: Sink>(
     alloc: Global,
     words: &Vec<String>,
@@ -151,7 +211,7 @@ pub fn run<F: Folder, I: Source, O: Sink, E: Sink>(
         → IsSourceQuiet (read_words (map string_bytes words.now.items)) (I.state input.old) (I.state input.new)
         → IsAnswered (read_words (map string_bytes words.now.items)) (map string_bytes words.now.items) files (I.state input.old).left result }
 
-    // `trim` changes OUT alone, and every other call nothing; only `exec` reads the source.
+    // `trim` changes OUT and the keep list alone, and every other call nothing; only `exec` reads the source.
     ensures folder { KeepsBy (read_words (map string_bytes words.now.items)) (map string_bytes words.now.items) (F.state folder.old).files (F.state folder.new).files }
     ensures input { TakesBy (read_words (map string_bytes words.now.items)) (I.state input.old) (I.state input.new) }
 {

@@ -4,14 +4,14 @@ mod edits;
 mod example;
 
 use super::*;
-use example::{endless, hello};
+use example::{endless, hello, library};
 use file_runs::exec;
 use il_base::{NoMemory, Seq};
 use il_outside::{Folder, MemFolder, MemSink, MemSource, NamedFile};
 use run_rules::EndKind;
 use std::alloc::{AllocError, Global};
 use std::test::*;
-use trim_core::trim;
+use trim_core::{Opts, trim};
 
 fn words_of(alloc: Global, words: &[&str]) -> Result<Vec<String>, AllocError> {
     let mut all = Vec::new(alloc);
@@ -140,8 +140,91 @@ fn trims_to_itself(alloc: Global) -> Result<bool, NoMemory> {
 fn a_file_without_leftovers_trims_to_itself(rt: HostRuntime) -> Result<(), Fail> {
     let same = trims_to_itself(rt.alloc());
     assert!(rt; same.ok().ok_or("memory")?);
-    let missing = answers(rt.alloc(), &["trim", "out.exe"], 2, b"", b"bad words 2\n");
-    assert!(rt; missing.ok().ok_or("memory")?);
+    Ok(())
+}
+
+/// Words of `trim` that don't read: OUT alone, a keep list that is OUT, an option that comes again, one without its value.
+fn are_bad(alloc: Global) -> Result<bool, NoMemory> {
+    let alone = ["trim", "out.exe"];
+    let same = ["trim", "o", "a", "--keep-list", "o"];
+    let again = ["trim", "o", "a", "--internalize", "--internalize"];
+    let short = ["trim", "o", "a", "--keep-list", "k", "--descriptor"];
+    Ok(
+        answers(alloc, &alone, 2, b"", b"bad words 2\n")?
+            && answers(alloc, &same, 2, b"", b"bad words 4\n")?
+            && answers(alloc, &again, 2, b"", b"bad words 4\n")?
+            && answers(alloc, &short, 2, b"", b"bad words 6\n")?,
+    )
+}
+
+#[test]
+fn bad_words_of_a_trim_are_named(rt: HostRuntime) -> Result<(), Fail> {
+    let all = are_bad(rt.alloc());
+    assert!(rt; all.ok().ok_or("memory")?);
+    Ok(())
+}
+
+/// What a descriptor names of `lib.dll`.
+const KEEPS: &[u8] =
+    b"<linker><assembly fullname=\"Lib\"><type fullname=\"Program\"/></assembly></linker>";
+
+/// Runs `exec` of `out.exe`, and says whether it prints `Hi`.
+fn prints_hi(alloc: Global, folder: &mut MemFolder) -> Result<bool, NoMemory> {
+    let words = words_of(alloc, &["exec", "out.exe"])?;
+    let mut input = MemSource::new(Seq::new(alloc), Seq::new(alloc));
+    let mut out = MemSink::new(Seq::new(alloc));
+    let mut err = MemSink::new(Seq::new(alloc));
+    let answer = run(alloc, &words, folder, &mut input, &mut out, &mut err);
+    Ok(
+        answer.code() == 0
+            && out.held() == b"Hi\n".as_slice()
+            && err.held() == b"ended 0\n".as_slice(),
+    )
+}
+
+/// Trims `hello.exe` and `lib.dll`, of which a descriptor names the class, into `out.exe`, which then runs; the last line of the keep
+/// list is the library's method.
+fn merges(alloc: Global) -> Result<bool, NoMemory> {
+    let mut files = Seq::new(alloc);
+    files.push(named(alloc, b"hello.exe", hello(alloc)?)?)?;
+    files.push(named(alloc, b"lib.dll", library(alloc)?)?)?;
+    files.push(named(alloc, b"keep.xml", Vec::from_slice(alloc, KEEPS)?)?)?;
+    let mut folder = MemFolder::honest(files);
+    let words = words_of(
+        alloc,
+        &[
+            "trim",
+            "out.exe",
+            "hello.exe",
+            "--descriptor",
+            "keep.xml",
+            "lib.dll",
+            "--keep-list",
+            "kept.txt",
+            "--internalize",
+        ],
+    )?;
+    let mut input = MemSource::new(Seq::new(alloc), Seq::new(alloc));
+    let mut out = MemSink::new(Seq::new(alloc));
+    let mut err = MemSink::new(Seq::new(alloc));
+    let answer = run(alloc, &words, &mut folder, &mut input, &mut out, &mut err);
+    if answer.code() != 0 || err.held() != b"done\n".as_slice() || !out.held().is_empty() {
+        return Ok(false);
+    }
+    match folder.read(alloc, "kept.txt") {
+        Err(_) => Ok(false),
+        Ok(list) => Ok(
+            list.as_slice()
+                .ends_with(b"Lib:06000001 method Program.Main\n")
+                && prints_hi(alloc, &mut folder)?,
+        ),
+    }
+}
+
+#[test]
+fn two_assemblies_become_one(rt: HostRuntime) -> Result<(), Fail> {
+    let merged = merges(rt.alloc());
+    assert!(rt; merged.ok().ok_or("memory")?);
     Ok(())
 }
 
@@ -150,7 +233,11 @@ fn call_answers(alloc: Global) -> Result<bool, NoMemory> {
     let mut files = Seq::new(alloc);
     files.push(Seq::from_vec(hello(alloc)?))?;
     let whole = hello(alloc)?;
-    match trim(alloc, &files) {
+    let opts = Opts {
+        internalize: false,
+        keep_list: false,
+    };
+    match trim(alloc, &files, &Seq::new(alloc), opts) {
         Err(_) => Ok(false),
         Ok(trimmed) => Ok(trimmed.bytes.as_slice() == whole.as_slice()),
     }

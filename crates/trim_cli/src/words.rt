@@ -194,7 +194,7 @@ pub(crate) fn read_words(
             if first.as_bytes() == b"exec".as_slice() {
                 exec_words(alloc, words)
             } else if first.as_bytes() == b"trim".as_slice() {
-                Ok(trim_words(words))
+                trim_words(alloc, words)
             } else {
                 Ok(Err(0))
             }

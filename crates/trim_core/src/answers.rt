@@ -1,21 +1,38 @@
 ghost use Rattle.std.specs.Prelude.{◌≡◌};
 ghost use Rattle.trim_core.specs.declared.answers.Refusal.TheVariants as refusal;
 
-use il_base::{BadAt, NoMemory, Place, Text};
+use il_base::{BadAt, NoMemory, Place, Text, TypeId};
 
-/// Why a call gave no result. Files are counted from 0.
+/// What a trim does beside leaving out what isn't needed.
+#[derive(Clone, Copy, Debug, PartialEq, Eq)]
+pub struct Opts {
+    /// Whether public types of all files but the first become internal.
+    pub internalize: bool,
+    /// Whether the keep list is wanted.
+    pub keep_list: bool,
+}
+
+/// Why a call gave no result. Files are counted from 0 in the order in which they were given.
 #[derive(Clone, Copy, Debug, PartialEq, Eq)]
 pub enum Refusal {
-    /// The file has no record: the first demand of II.22 to II.25 that fails, at its offset in the file. Or it doesn't link:
-    /// the first demand of linking that fails, at 0 for an assembly that is there twice, else at the offset of the row.
+    /// The file has no record: the first demand of II.22 to II.25 that fails, at its offset in the file. Or the files don't
+    /// link: the first demand of linking that fails, at the offset of the row, 0 where it's an assembly that is there twice.
     BadFile { file: u32, at: BadAt },
-    /// More than a limit allows. Limit 2: a file has at most 67108864 bytes. Limit 5: a table has at most 1048576 rows.
-    /// Limit 7: a file that is written has at most 268435456 bytes, and its `#US` at most 16777216. `found` is the number above it.
-    Limit { which: u8, found: u64 },
-    /// An operand of a method that is kept names nothing.
+    /// What is needed has a form outside the profile, by its number in `il_base::outside`.
+    Outside { place: Place, what: u8 },
+    /// What is needed has a part that names nothing.
     Unresolved { place: Place },
-    /// The file can't be taken yet: its record isn't thin, or it is the second one.
-    NotYet { file: u32 },
+    /// Two types that are needed, of different assemblies, have one full name, and the second can't be renamed. Types are counted
+    /// from 0 over the TypeDef rows of all files in order.
+    Collision { first: TypeId, second: TypeId },
+    /// A descriptor that isn't one, at the offset in bytes of the first token that isn't allowed there. `source` counts the files
+    /// from 0, for the descriptor that a file has embedded, and then the named descriptors.
+    BadDescriptor { source: u32, offset: u32 },
+    /// More than a limit allows: a limit's number in `il_base::limit`, and what was found.
+    Limit { which: u8, found: u64 },
+    /// The entry point token of the first file names no MethodDef row (II.25.3.3.2).
+    NoEntry { token: u32 },
+    /// The allocator refused.
     NoMemory,
 }
 
@@ -32,4 +49,6 @@ impl From<NoMemory> for Refusal {
 pub struct Trimmed {
     /// The file that is written.
     pub bytes: Text,
+    /// The keep list in UTF-8; empty where it isn't wanted.
+    pub kept: Text,
 }

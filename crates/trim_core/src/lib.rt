@@ -1,10 +1,15 @@
-//! Trims the program of a file: in go the bytes of a file, out come those of what is left of it. `specs/Trim` defines the answer.
+//! Trims the program of files: in go the bytes of files and of descriptors, out come those of what is left of them, with the keep list,
+//! or the first reason why there is nothing (`specs/Told`). `specs/Trim` defines the answer.
 #![tactic(auto)]
 
+mod alone;
 mod answers;
-mod told;
+mod colliding;
+mod digits;
+mod program;
+mod taking;
 mod trimming;
 
-pub use answers::{Refusal, Trimmed};
-pub use told::assembly_name;
+pub use answers::{Opts, Refusal, Trimmed};
+pub use colliding::collision_text;
 pub use trimming::trim;

@@ -1,112 +1,145 @@
-//! `trim`: leaves out what the entry point doesn't lead to.
+//! `trim`: leaves out what programs don't need, and merges their files.
 
-ghost use Rattle.std.specs.Prelude.{◌≡◌, [], ◌∷◌, None, IsTrue};
-ghost use Rattle.blob_grammar.specs.Laws.{AreBytes};
-ghost use Rattle.record_format.specs.Record.{HasRecord};
-ghost use Rattle.world_model.specs.Thin.{is_thin};
-ghost use Rattle.link_rules.specs.Linked.{link_fault_of};
-ghost use Rattle.trim_core.specs.Told.{told_alone, told_of};
-ghost use Rattle.trim_core.specs.Trim.{Trims, TrimsRecord};
-ghost use Rattle.trim_core.specs.Places.{place_in};
-ghost use Rattle.trim_rules.specs.Marked.{IsMarking};
-ghost use Rattle.trim_rules.specs.BadOperands.{first_bad};
+ghost use Rattle.std.specs.Prelude.{◌≡◌};
+ghost use Rattle.std.specs.Option.{option_map};
+ghost use Rattle.inputs.specs.Files.{records, input_fault};
+ghost use Rattle.descriptor_roots.specs.Roots.{descriptor_fault, roots_of};
+ghost use Rattle.trim_core.specs.Told.{or_refusal, input_refusal, roots_refusal, too_long, short_fault};
+ghost use Rattle.trim_core.specs.Taken.{IsTaken};
+ghost use Rattle.trim_core.specs.Trim.{Trims, TrimsFiles, TrimsUnless};
 
-use crate::answers::{Refusal, Trimmed};
-use crate::told::told_world;
-use assembly_writer::{WriteError, write};
-use il_base::{Bits, Place, Seq, Text};
-use run_rules::laws::thin_files_run;
+use crate::alone::trim_alone;
+use crate::answers::{Opts, Refusal, Trimmed};
+use crate::program::trim_program;
+use crate::taking::{inputs_of, thin_of};
+use descriptor_file::Root;
+use descriptor_roots::{RootsError, descriptor_roots, within_length};
+use il_base::{Seq, Text, limit};
+use inputs::{InputError, take_files, within_limits};
 use std::alloc::Global;
-use thin_marking::{first_bad, mark_methods};
-use thin_sweep::restrict;
-use trim_laws::laws::{can_write, headline};
-use trim_rules::BadOperand;
-use world_model::AsmRec;
+use world_model::World;
 
-/// The place of an operand in the one file.
-fn place_of(operand: BadOperand) -> Place
-    ensures { result ≡ place_in operand.method operand.offset }
+/// Why files are refused, as it is answered.
+fn input_refusal(error: InputError) -> Refusal
+    ensures { result ≡ input_refusal error }
 {
-    let row = (operand.method % 0x1_0000_0000) as u32;
-    Place {
-        asm: 0,
-        token: 0x0600_0001u32.wrapping_add(row),
-        offset: operand.offset,
+    match error {
+        InputError::Limit { which, found } => Refusal::Limit { which, found },
+        InputError::BadFile { file, at } => Refusal::BadFile { file, at },
+        InputError::NoEntry { token } => Refusal::NoEntry { token },
+        InputError::NoMemory => Refusal::NoMemory,
     }
 }
 
-/// The file of what is left of a file's record.
-fn written(alloc: Global, file: &[u8], rec: &AsmRec, marked: &Bits) -> Result<Trimmed, Refusal>
-    requires record { HasRecord file.now rec.now }
-    requires thin { IsTrue (is_thin rec.now) }
-    requires linked { link_fault_of (rec.now ∷ []) ≡ None }
-    requires marking { IsMarking rec.now marked.now.flags }
-    requires good { first_bad rec.now marked.now.flags ≡ None }
-    ensures { TrimsRecord rec.now result }
+/// That a descriptor has too many bytes, as it is answered.
+fn too_long(found: u64) -> Refusal
+    ensures { result ≡ too_long found }
 {
-    let _ = file;
-    can_write();
-    headline();
-    thin_files_run();
-    let left = match restrict(alloc, rec, marked.flags.as_slice()) {
-        Err(_) => return Err(Refusal::NoMemory),
-        Ok(left) => left,
-    };
-    let mut bytes = Vec::new(alloc);
-    match write(alloc, &left, &mut bytes) {
-        Err(WriteError::NoMemory) => Err(Refusal::NoMemory),
-        Err(WriteError::Limit { which, found }) => Err(Refusal::Limit { which, found }),
-        Ok(()) => Ok(Trimmed {
-            bytes: Seq::from_vec(bytes),
-        }),
+    Refusal::Limit {
+        which: limit::DESCRIPTOR_LENGTH,
+        found,
     }
 }
 
-/// What a trim of a file's thin record gives.
-fn trim_record(alloc: Global, file: &[u8], rec: &AsmRec) -> Result<Trimmed, Refusal>
-    requires record { HasRecord file.now rec.now }
-    requires thin { IsTrue (is_thin rec.now) }
-    requires linked { link_fault_of (rec.now ∷ []) ≡ None }
-    ensures { TrimsRecord rec.now result }
+/// Why a descriptor is refused, as it is answered.
+fn roots_refusal(error: RootsError) -> Refusal
+    ensures { result ≡ roots_refusal error }
 {
-    let marked = match mark_methods(alloc, rec) {
-        Err(_) => return Err(Refusal::NoMemory),
-        Ok(marked) => marked,
-    };
-    match first_bad(alloc, rec, &marked) {
-        Err(_) => Err(Refusal::NoMemory),
-        Ok(Some(operand)) => Err(Refusal::Unresolved {
-            place: place_of(operand),
-        }),
-        Ok(None) => written(alloc, file, rec, &marked),
+    match error {
+        RootsError::Bad { source, offset } => Refusal::BadDescriptor { source, offset },
+        RootsError::TooLong { found } => too_long(found),
+        RootsError::NoMemory => Refusal::NoMemory,
     }
 }
 
-/// Trims one file's bytes.
-fn trim_file(alloc: Global, file: &[u8]) -> Result<Trimmed, Refusal>
-    ensures { Trims (told_alone file.now) result }
+/// Trims files that were taken as this world, with these elements of descriptors.
+#[tactic(auto, using(crate::proofs::FileLemmas::are_thin, crate::proofs::FileLemmas::by_thin, crate::proofs::FileLemmas::by_all))]
+fn trim_rooted(
+    alloc: Global,
+    files: &Seq<Text>,
+    world: &World,
+    descriptors: &Seq<Text>,
+    roots: &[Root],
+    opts: Opts,
+) -> Result<Trimmed, Refusal>
+    requires taken { IsTaken files.now world.now }
+    requires roots { roots.now ≡ roots_of (records files.now) descriptors.now }
+    ensures { TrimsFiles files.now descriptors.now opts result }
 {
-    match told_world(alloc, file) {
-        Err(refusal) => Err(refusal),
-        Ok(world) => match world.recs.as_slice() {
-            [] => unreachable!(),
-            [rec, ..] => trim_record(alloc, file, rec),
-        },
+    match thin_of(files, world, descriptors.as_slice(), opts) {
+        Some(rec) => trim_alone(alloc, files.as_slice(), rec),
+        None => trim_program(alloc, files, world, roots, opts),
     }
 }
 
-/// Trims the program of the files, of which there is so far one: what is left are the methods that its entry point leads
-/// to.
+/// Trims files that were taken as this world.
+#[tactic(auto, using(crate::proofs::FileLemmas::roots_due, crate::proofs::FileLemmas::roots_on))]
+fn trim_taken(
+    alloc: Global,
+    files: &Seq<Text>,
+    world: &World,
+    descriptors: &Seq<Text>,
+    opts: Opts,
+) -> Result<Trimmed, Refusal>
+    requires { IsTaken files.now world.now }
+    ensures { TrimsUnless (option_map roots_refusal (descriptor_fault (records files.now) descriptors.now)) files.now descriptors.now opts result }
+{
+    match descriptor_roots(alloc, inputs_of(files, world), descriptors.as_slice()) {
+        Err(error) => Err(roots_refusal(error)),
+        Ok(roots) => trim_rooted(alloc, files, world, descriptors, roots.as_slice(), opts),
+    }
+}
+
+/// Trims files whose number and lengths are within the limits.
+#[tactic(auto, using(crate::proofs::FileLemmas::input_due, crate::proofs::FileLemmas::taken_on))]
+fn trim_files(
+    alloc: Global,
+    files: &Seq<Text>,
+    descriptors: &Seq<Text>,
+    opts: Opts,
+) -> Result<Trimmed, Refusal>
+    ensures { TrimsUnless (or_refusal (option_map input_refusal (input_fault files.now)) (option_map roots_refusal (descriptor_fault (records files.now) descriptors.now))) files.now descriptors.now opts result }
+{
+    match take_files(alloc, files) {
+        Err(error) => Err(input_refusal(error)),
+        Ok(world) => trim_taken(alloc, files, &world, descriptors, opts),
+    }
+}
+
+/// Trims files whose number and lengths are within the limits, where the descriptors are too.
+#[tactic(auto, using(crate::proofs::FileLemmas::length_due, crate::proofs::FileLemmas::within_on))]
+fn trim_short(
+    alloc: Global,
+    files: &Seq<Text>,
+    descriptors: &Seq<Text>,
+    opts: Opts,
+) -> Result<Trimmed, Refusal>
+    ensures { TrimsUnless (short_fault files.now descriptors.now) files.now descriptors.now opts result }
+{
+    match within_length(descriptors.as_slice()) {
+        Some(found) => Err(too_long(found)),
+        None => trim_files(alloc, files, descriptors, opts),
+    }
+}
+
+/// Trims the program of the files, of which the first has the entry point and gives the name, with what these descriptors and the
+/// embedded ones keep, and merges what is left into one file.
 ///
-/// `BadFile`, `Limit` 2 and 5 and `NotYet` come exactly where the files say so; `Unresolved` exactly where an operand of a
-/// method that is kept names nothing, and it is the first of them; `Limit` 7 exactly where the file that is written would
-/// have more than 268435456 bytes, or its `#US` more than 16777216. `NoMemory` alone is free.
-pub fn trim(alloc: Global, files: &Seq<Text>) -> Result<Trimmed, Refusal>
-    ensures { Trims (told_of files.now) result }
+/// It refuses with the first of these: a limit on files (1 to 3), one on a named descriptor (4), a demand on a file in its turn
+/// (`BadFile`, `Limit` 5), a demand of linking (`BadFile`), `NoEntry`, a descriptor (`BadDescriptor`, `Limit` 4 for an embedded one),
+/// the first flaw of what is needed (`Outside`, `Unresolved`, `Limit` 6), `Collision`, and the limits on the file that is
+/// written (5, 7). `NoMemory` alone is free.
+#[tactic(auto, unfolding(crate::specs::Told::trim_fault), using(crate::proofs::FileLemmas::limit_due, crate::proofs::FileLemmas::taken_on))]
+pub fn trim(
+    alloc: Global,
+    files: &Seq<Text>,
+    descriptors: &Seq<Text>,
+    opts: Opts,
+) -> Result<Trimmed, Refusal>
+    ensures { Trims files.now descriptors.now opts result }
 {
-    match files.as_slice() {
-        [] => Err(Refusal::NotYet { file: 0 }),
-        [file] => trim_file(alloc, file.as_slice()),
-        [_, _, ..] => Err(Refusal::NotYet { file: 1 }),
+    match within_limits(files.as_slice()) {
+        Err(error) => Err(input_refusal(error)),
+        Ok(()) => trim_short(alloc, files, descriptors, opts),
     }
 }

@@ -109,20 +109,18 @@ fn damage_is_named(rt: HostRuntime) -> Result<(), Fail> {
     Ok(())
 }
 
-/// A call of a MemberRef row that isn't there, and a method that isn't static.
-fn operands_and_forms(alloc: Global) -> Result<bool, NoMemory> {
+/// A call of a MemberRef row that isn't there.
+fn bad_operand(alloc: Global) -> Result<bool, NoMemory> {
     let call = edited(alloc, 599, b"\x02")?;
-    let instance = edited(alloc, 820, b"\x81")?;
     Ok(
         executes(alloc, &call, 22, b"", b"stopped App:06000001:00000005\n")?
-            && trim_refuses(alloc, &call, 5, b"unresolved App:06000001:00000005\n")?
-            && trim_refuses(alloc, &instance, 30, b"not yet a.exe\n")?,
+            && trim_refuses(alloc, &call, 5, b"unresolved App:06000001:00000005\n")?,
     )
 }
 
 #[test]
-fn what_names_nothing_and_what_is_not_thin(rt: HostRuntime) -> Result<(), Fail> {
-    let all = operands_and_forms(rt.alloc());
+fn what_names_nothing_is_told(rt: HostRuntime) -> Result<(), Fail> {
+    let all = bad_operand(rt.alloc());
     assert!(rt; all.ok().ok_or("memory")?);
     Ok(())
 }
@@ -177,29 +175,23 @@ fn a_method_that_nothing_calls_goes(rt: HostRuntime) -> Result<(), Fail> {
     Ok(())
 }
 
-/// The read of IN fails, or the write of OUT after 3 bytes.
+/// The read of IN fails, the write of OUT after 3 bytes, or that of the keep list after 4.
 fn calls_that_fail(alloc: Global) -> Result<bool, NoMemory> {
     let hello = hello(alloc)?;
-    let words = ["trim", "o.exe", "a.exe"];
-    let unread = run_on(
-        alloc,
-        &hello,
-        &words,
-        &[FailAt { call: 0, kept: 0 }],
-        "o.exe",
-    )?;
-    let unwritten = run_on(
-        alloc,
-        &hello,
-        &words,
-        &[FailAt { call: 1, kept: 3 }],
-        "o.exe",
-    )?;
+    let words = ["trim", "o.exe", "a.exe", "--keep-list", "kept.txt"];
+    let unread = [FailAt { call: 0, kept: 0 }];
+    let unread = run_on(alloc, &hello, &words, &unread, "o.exe")?;
+    let unwritten = [FailAt { call: 1, kept: 3 }];
+    let unwritten = run_on(alloc, &hello, &words, &unwritten, "o.exe")?;
+    let unlisted = [FailAt { call: 2, kept: 4 }];
+    let unlisted = run_on(alloc, &hello, &words, &unlisted, "kept.txt")?;
     Ok(
         said(&unread, 9, b"", b"read fault\n")
             && unread.file.is_none()
             && said(&unwritten, 10, b"", b"write fault\n")
-            && unwritten.file.unwrap_or(Seq::new(alloc)).as_slice() == b"MZ\x90".as_slice(),
+            && unwritten.file.unwrap_or(Seq::new(alloc)).as_slice() == b"MZ\x90".as_slice()
+            && said(&unlisted, 10, b"", b"write fault\n")
+            && unlisted.file.unwrap_or(Seq::new(alloc)).as_slice() == b"App:".as_slice(),
     )
 }
 

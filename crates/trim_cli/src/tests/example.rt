@@ -146,6 +146,11 @@ pub(super) fn edited(alloc: Global, at: usize, part: &[u8]) -> Result<Vec<u8>, A
     Ok(bytes)
 }
 
+/// The same by another name of the assembly, `Lib`.
+pub(super) fn library(alloc: Global) -> Result<Vec<u8>, AllocError> {
+    edited(alloc, 0x3bf, b"Lib")
+}
+
 /// Its first bytes.
 pub(super) fn cut(alloc: Global, length: usize) -> Result<Vec<u8>, AllocError> {
     let mut bytes = hello(alloc)?;

@@ -1,6 +1,6 @@
 use Rattle.std.proofs.Common.{◌≡◌, map, take}
 use Rattle.std.specs.String.{string_bytes}
-use Rattle.trim_cli.specs.Answer.{word_at}
+use Rattle.trim_cli.specs.Words.{word_at}
 use Rattle.trim_cli.proofs.run.words_at.Given as goal
 
 abbrev pub invariant-loop-at : goal.invariant-loop-at

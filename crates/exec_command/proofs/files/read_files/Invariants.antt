@@ -1,7 +1,0 @@
-use Rattle.std.proofs.Common.{map, take}
-use Rattle.std.specs.String.{string_bytes}
-use Rattle.exec_command.proofs.NamesRead.{Read}
-use Rattle.exec_command.proofs.files.read_files.Given as goal
-
-abbrev pub invariant-loop-name : goal.invariant-loop-name
-invariant-loop-name g l = Read (map string_bytes (take l.name-index l.names)) l.files (g.F.Folder.state l.initial.folder) (g.F.Folder.state l.folder)

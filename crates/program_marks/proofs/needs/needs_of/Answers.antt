@@ -1,0 +1,17 @@
+use Rattle.std.proofs.Common.{subst}
+use Rattle.std.specs.Option.{option_map}
+use Rattle.world_model.specs.declared.world.World.{World}
+use Rattle.mark_rules.specs.Marking.{Marks}
+use Rattle.mark_rules.specs.BadItems.{IsFirstFlaw}
+use Rattle.mark_flaws.specs.Told.{flaw_told}
+use Rattle.marking.specs.Holding.{IsMarked}
+use Rattle.flaw_laws.specs.There.{RowsThere}
+use Rattle.program_marks.proofs.needs.needs_of.Goals as goal
+
+pub returns-clause-marked : goal.returns-clause-marked
+returns-clause-marked c = subst (λ (w : World). IsMarked w.recs c.args.entry c.args.roots.now c.in_ok-needs.needs.marked) c.in_ok-marker.ensures.world c.in_ok-needs.ensures.marked
+
+pub returns-clause-flaw : goal.returns-clause-flaw
+returns-clause-flaw c =
+    subst (λ (w : World). RowsThere w.recs → IsFirstFlaw w.recs c.args.entry (Marks w.recs c.args.entry c.args.roots.now) (option_map flaw_told c.in_ok-needs.needs.flaw)) c.in_ok-marker.ensures.world
+    c.in_ok-needs.ensures.flaw

@@ -1,0 +1,7 @@
+//! What a program needs, and the first item of it that is outside the profile or names nothing. What goes in is the world that a
+//! link gave, an entry method by its row, and the elements of descriptors; what is made of the world once is made here.
+#![tactic(auto)]
+
+mod needs;
+
+pub use needs::{Needs, needs_of};

@@ -1,0 +1,190 @@
+//! The marked set of a world, with its first bad item.
+
+ghost use Rattle.std.specs.Prelude.{◌≡◌, IfOk};
+ghost use Rattle.std.specs.Option.{option_map};
+ghost use Rattle.link_rules.specs.Linked.{IsWorld};
+ghost use Rattle.mark_tables.specs.Assemblies.{all_of, IsMarker};
+ghost use Rattle.attribute_values.specs.Tables.{AreAttributeTables};
+ghost use Rattle.mark_rules.specs.Marking.{Marks};
+ghost use Rattle.mark_rules.specs.BadItems.{IsFirstFlaw};
+ghost use Rattle.mark_flaws.specs.Told.{flaw_told};
+ghost use Rattle.mark_flaws.specs.Tables.{AreFlawTables};
+ghost use Rattle.slashed_names.specs.Names.{AreNames};
+ghost use Rattle.descriptor_types.specs.Types.{AreTypes};
+ghost use Rattle.nested_types.specs.Nested.{AreNested};
+ghost use Rattle.virtual_calls.specs.Slots.{AreSlots};
+ghost use Rattle.mark_roots.specs.Lookups.{IsLookup, recs_in};
+ghost use Rattle.descriptor_file.specs.declared.root.Root.{Root};
+ghost use Rattle.std.specs.Prelude.{List};
+ghost use Rattle.marking.specs.Holding.{IsMarked};
+ghost use Rattle.flaw_laws.specs.There.{RowsThere};
+
+use attribute_values::tables::AttributeTables;
+use bad_items::{Program, first_bad};
+use descriptor_file::Root;
+use descriptor_types::types::DescriptorTypes;
+use il_base::NoMemory;
+use link_rules::RowAt;
+use mark_flaws::flaw::Flaw;
+use mark_flaws::tables::FlawTables;
+use mark_roots::lookup::Lookup;
+use mark_tables::marker::Marker;
+use marking::{Marked, mark};
+use named_world::NamedWorld;
+use nested_types::nested::NestedTypes;
+use slashed_names::names::SlashedNames;
+use std::alloc::Global;
+use virtual_calls::slots::Slots;
+use world_model::World;
+
+/// What a program needs.
+#[derive(Drop)]
+pub struct Needs {
+    /// The items that are needed, and what is known of types.
+    pub marked: Marked,
+    /// The first bad item among them, by assembly, token, offset in bytes and kind.
+    pub flaw: Option<Flaw>,
+}
+
+/// What is marked, by all that is asked of a world.
+fn marked_by<'a>(
+    alloc: Global,
+    lookup: Lookup<'a, 'a>,
+    attributes: &'a AttributeTables<'a>,
+    nested: &'a NestedTypes,
+    slots: &Slots,
+    entry: Option<RowAt>,
+    roots: &'a [Root],
+) -> Result<Marked, NoMemory>
+    requires lookup { IsLookup lookup }
+    requires attributes { AreAttributeTables lookup.marker.now attributes.now }
+    requires nested { AreNested (recs_in lookup) nested.now }
+    requires slots { AreSlots (recs_in lookup) slots.now }
+    ensures { IfOk result (IsMarked (recs_in lookup.entry) entry roots.now) }
+{
+    let marker = lookup.marker;
+    let named = NamedWorld::of(alloc, lookup, attributes, nested, roots)?;
+    let marked = mark(alloc, marker, slots, &named, entry)?;
+    Ok(marked)
+}
+
+/// What is marked, by the names of types.
+fn marked_under<'a>(
+    alloc: Global,
+    marker: &'a Marker<'a>,
+    attributes: &'a AttributeTables<'a>,
+    names: &'a SlashedNames,
+    types: &'a DescriptorTypes<'a>,
+    entry: Option<RowAt>,
+    roots: &'a [Root],
+) -> Result<Marked, NoMemory>
+    requires marker { IsMarker marker.now }
+    requires attributes { AreAttributeTables marker.now attributes.now }
+    requires names { AreNames (all_of marker.now) names.now }
+    requires types { AreTypes (all_of marker.now) types.now }
+    ensures { IfOk result (IsMarked (all_of marker.now) entry roots.now) }
+{
+    let slots = Slots::of(alloc, &marker.tables)?;
+    let nested = NestedTypes::of(alloc, marker)?;
+    let lookup = Lookup {
+        marker,
+        names,
+        types,
+    };
+    let marked = marked_by(alloc, lookup, attributes, &nested, &slots, entry, roots)?;
+    Ok(marked)
+}
+
+/// What is marked of a world with the tables that are made of it once.
+fn marked_of<'a>(
+    alloc: Global,
+    marker: &'a Marker<'a>,
+    attributes: &'a AttributeTables<'a>,
+    entry: Option<RowAt>,
+    roots: &'a [Root],
+) -> Result<Marked, NoMemory>
+    requires marker { IsMarker marker.now }
+    requires attributes { AreAttributeTables marker.now attributes.now }
+    ensures { IfOk result (IsMarked (all_of marker.now) entry roots.now) }
+{
+    let names = SlashedNames::of(alloc, marker)?;
+    let types = DescriptorTypes::of(alloc, &names, marker)?;
+    let marked = marked_under(alloc, marker, attributes, &names, &types, entry, roots)?;
+    Ok(marked)
+}
+
+/// The first bad item of what is marked.
+fn flaw_of<'a>(
+    alloc: Global,
+    marker: &'a Marker<'a>,
+    attributes: &'a AttributeTables<'a>,
+    marked: &'a Marked,
+    tables: &'a FlawTables,
+    entry: Option<RowAt>,
+) -> Result<Option<Flaw>, NoMemory>
+    requires marker { IsMarker marker.now }
+    requires attributes { AreAttributeTables marker.now attributes.now }
+    requires tables { AreFlawTables (all_of marker.now) tables.now }
+    ensures { IfOk result (λ f. RowsThere (all_of marker.now) → (roots : List Root) → IsMarked (all_of marker.now) entry roots marked.now → IsFirstFlaw (all_of marker.now) entry (Marks (all_of marker.now) entry roots) (option_map flaw_told f)) }
+{
+    let program = Program {
+        marker,
+        attributes,
+        tables,
+        marked,
+    };
+    first_bad(alloc, &program, entry)
+}
+
+/// What a program needs, by the tables that are made of its world once.
+fn needs_by<'a>(
+    alloc: Global,
+    marker: &'a Marker<'a>,
+    attributes: &'a AttributeTables<'a>,
+    tables: &'a FlawTables,
+    entry: Option<RowAt>,
+    roots: &'a [Root],
+) -> Result<Needs, NoMemory>
+    requires marker { IsMarker marker.now }
+    requires attributes { AreAttributeTables marker.now attributes.now }
+    requires tables { AreFlawTables (all_of marker.now) tables.now }
+    ensures marked { IfOk result (λ n. IsMarked (all_of marker.now) entry roots.now n.marked) }
+    ensures flaw { IfOk result (λ n. RowsThere (all_of marker.now) → IsFirstFlaw (all_of marker.now) entry (Marks (all_of marker.now) entry roots.now) (option_map flaw_told n.flaw)) }
+{
+    let marked = marked_of(alloc, marker, attributes, entry, roots)?;
+    let flaw = flaw_of(alloc, marker, attributes, &marked, tables, entry)?;
+    Ok(Needs { marked, flaw })
+}
+
+/// What a program needs, by what is asked of its world.
+fn needs_with(
+    alloc: Global,
+    marker: &Marker<'_>,
+    entry: Option<RowAt>,
+    roots: &[Root],
+) -> Result<Needs, NoMemory>
+    requires { IsMarker marker.now }
+    ensures marked { IfOk result (λ n. IsMarked (all_of marker.now) entry roots.now n.marked) }
+    ensures flaw { IfOk result (λ n. RowsThere (all_of marker.now) → IsFirstFlaw (all_of marker.now) entry (Marks (all_of marker.now) entry roots.now) (option_map flaw_told n.flaw)) }
+{
+    let attributes = AttributeTables::of(alloc, marker)?;
+    let tables = FlawTables::of(alloc, marker)?;
+    let needs = needs_by(alloc, marker, &attributes, &tables, entry, roots)?;
+    Ok(needs)
+}
+
+/// What a program needs of the world that a link gave, from an entry method by its row and the elements of descriptors.
+pub fn needs_of(
+    alloc: Global,
+    world: &World,
+    entry: Option<RowAt>,
+    roots: &[Root],
+) -> Result<Needs, NoMemory>
+    requires { IsWorld world.now }
+    ensures marked { IfOk result (λ n. IsMarked world.now.recs entry roots.now n.marked) }
+    ensures flaw { IfOk result (λ n. RowsThere world.now.recs → IsFirstFlaw world.now.recs entry (Marks world.now.recs entry roots.now) (option_map flaw_told n.flaw)) }
+{
+    let marker = Marker::of(alloc, world)?;
+    let needs = needs_with(alloc, &marker, entry, roots)?;
+    Ok(needs)
+}

@@ -1,0 +1,22 @@
+use Rattle.std.proofs.Common.{Option, sym, subst}
+use Rattle.std.specs.Option.{option_map}
+use Rattle.mark_rules.specs.Marking.{Marks}
+use Rattle.mark_rules.specs.BadItems.{IsFirstFlaw}
+use Rattle.mark_flaws.specs.declared.flaw.Flaw.{Flaw}
+use Rattle.mark_flaws.specs.Told.{flaw_told}
+use Rattle.program_trim.specs.declared.answers.TrimFault.{TrimFault}
+use Rattle.program_trim.specs.Trim.{IsFlawedAt, RefusesWorld}
+use Rattle.program_trim.specs.Programs.{place_of}
+use Rattle.program_trim.proofs.Joined.{refused}
+use Rattle.program_trim.proofs.trimming.trim_world.Goals as goal
+
+pub returns-in-Some : goal.returns-in-Some
+returns-in-Some c =
+    let recs = c.args.world.now.recs in
+    let entry = c.args.entry in
+    let roots = c.args.roots.now in
+    let flaw = c.in-Some.flaw in
+    let first : IsFlawedAt recs entry roots (place_of flaw) flaw.kind =
+    subst (λ (f : Option Flaw). IsFirstFlaw recs entry (Marks recs entry roots) (option_map flaw_told f)) c.in-Some.is (c.in_ok-needs.ensures.flaw c.requires.there) in
+    subst (λ (e : TrimFault). RefusesWorld recs entry roots c.args.internal e) (sym c.refusal_of.ensures)
+    (refused recs entry roots c.args.internal (place_of flaw) flaw.kind first)

@@ -1,0 +1,109 @@
+-- What a trim of a linked world answers. `recs` are the records of the world: the inputs, and then the core library. What the program
+-- needs, from its entry and the elements of descriptors, is `Marks recs entry roots`.
+use Rattle.std.specs.Prelude.{◌≡◌, ◌↔◌, ◌⊎◌, ℕ, Bool, false, IsTrue, List, Option, Some, None, Result, Ok, Err}
+use Rattle.il_base.specs.declared.ids.Item.{Item}
+use Rattle.il_base.specs.declared.ids.TypeId.{TypeId}
+use Rattle.il_base.specs.declared.ids.Place.{Place}
+use Rattle.world_model.specs.declared.known.BadKind.{BadKind}
+use Rattle.world_model.specs.declared.known.BadKind.TheVariants.{Unresolved, Outside, Over}
+use Rattle.world_model.specs.declared.record.AsmRec.{AsmRec}
+use Rattle.link_rules.specs.declared.row_at.RowAt.{RowAt}
+use Rattle.descriptor_file.specs.declared.root.Root.{Root}
+use Rattle.mark_rules.specs.Facts.Fact.{marked, shown}
+use Rattle.mark_rules.specs.Marking.{Marks}
+use Rattle.mark_rules.specs.BadItems.{Flaw, IsFirstFlaw}
+use Rattle.mark_rules.specs.KeepList.{keep_list}
+use Rattle.mark_numbers.specs.Numbers.{is_there}
+use Rattle.merge_rules.specs.Names.{Collision, collision}
+use Rattle.merge_rules.specs.Numbers.{Kept, kept_types}
+use Rattle.merge_rules.specs.Restricted.{restricted}
+use Rattle.merge_plan.specs.Plans.{id_of}
+use Rattle.record_layout.specs.Laid.{laid}
+use Rattle.record_layout.specs.Limits.{limit_of}
+use Rattle.program_trim.specs.declared.answers.ProgramTrim.{ProgramTrim}
+use Rattle.program_trim.specs.declared.answers.TrimFault.{TrimFault}
+use Rattle.program_trim.specs.declared.answers.TrimFault.TheVariants as refusal
+
+-- ---- what is kept
+
+-- of each item that is there the set says whether the program needs it, and it has no others
+pub record IsKeptSet (recs : List AsmRec) (entry : Option RowAt) (roots : List Root) (kept : Kept) : Type 0 where
+  pub exact : (i : Item) → IsTrue (is_there recs (marked i)) → IsTrue (kept i) ↔ Marks recs entry roots (marked i)
+  pub absent : (i : Item) → is_there recs (marked i) ≡ false → kept i ≡ false
+
+-- of each type that is there the test says whether its name or identity can be seen when the program runs
+abbrev pub IsShownSet : List AsmRec → Option RowAt → List Root → (TypeId → Bool) → Type 0
+IsShownSet recs entry roots seen = (t : TypeId) → IsTrue (is_there recs (shown t)) → IsTrue (seen t) ↔ Marks recs entry roots (shown t)
+
+-- ---- names
+
+-- the first collision of two kept types that want one name, None where there is none
+pub record IsCollision (recs : List AsmRec) (entry : Option RowAt) (roots : List Root) (kept : Kept) (answer : Option Collision) : Type 0 where
+  pub seen : TypeId → Bool
+  pub exact : IsShownSet recs entry roots seen
+  pub first : collision recs seen (kept_types recs kept) ≡ answer
+
+-- ---- what is wrong with what is needed
+
+abbrev pub flaw_at : Place → BadKind → Flaw
+flaw_at place kind = record { asm = place.asm; token = place.token; offset = place.offset; kind = kind }
+
+abbrev pub HasNoFlaw : List AsmRec → Option RowAt → List Root → Type 0
+HasNoFlaw recs entry roots = IsFirstFlaw recs entry (Marks recs entry roots) None
+
+-- the first flaw of what is needed is of this kind, at this place
+abbrev pub IsFlawedAt : List AsmRec → Option RowAt → List Root → Place → BadKind → Type 0
+IsFlawedAt recs entry roots place kind = IsFirstFlaw recs entry (Marks recs entry roots) (Some (flaw_at place kind))
+
+-- ---- the answers
+
+-- What is needed has no flaw, and no two types of it want one name. The bytes are those of the file that the rows of exactly what is
+-- needed are laid out in; it passes no limit. The list has a line for each of them.
+pub record TrimmedWorld (recs : List AsmRec) (entry : Option RowAt) (roots : List Root) (internal : Bool) (t : ProgramTrim) : Type 0 where
+  pub kept : Kept
+  pub exact : IsKeptSet recs entry roots kept
+  pub good : HasNoFlaw recs entry roots
+  pub unique : IsCollision recs entry roots kept None
+  pub left : AsmRec
+  pub restricted : restricted internal recs kept ≡ Some left
+  pub bytes : t.bytes ≡ laid left
+  pub within : limit_of left ≡ None
+  pub list : t.kept ≡ keep_list recs kept
+
+-- these two types want one name
+pub record Collides (recs : List AsmRec) (entry : Option RowAt) (roots : List Root) (first second : TypeId) : Type 0 where
+  pub kept : Kept
+  pub exact : IsKeptSet recs entry roots kept
+  pub good : HasNoFlaw recs entry roots
+  pub both : Collision
+  pub collides : IsCollision recs entry roots kept (Some both)
+  pub first_is : first ≡ id_of recs both.first
+  pub second_is : second ≡ id_of recs both.second
+
+-- the file of what is left passes a limit
+pub record IsTooLong (recs : List AsmRec) (entry : Option RowAt) (roots : List Root) (internal : Bool) (which found : ℕ) : Type 0 where
+  pub kept : Kept
+  pub exact : IsKeptSet recs entry roots kept
+  pub good : HasNoFlaw recs entry roots
+  pub unique : IsCollision recs entry roots kept None
+  pub left : AsmRec
+  pub restricted : restricted internal recs kept ≡ Some left
+  pub passed : limit_of left ≡ Some (which, found)
+
+-- the first flaw is that of a body that passes a limit
+pub record HasLongBody (recs : List AsmRec) (entry : Option RowAt) (roots : List Root) (which found : ℕ) : Type 0 where
+  pub place : Place
+  pub flawed : IsFlawedAt recs entry roots place (Over which found)
+
+-- why a trim left nothing; want of memory has no cause
+abbrev pub RefusesWorld : List AsmRec → Option RowAt → List Root → Bool → TrimFault → Type 0
+RefusesWorld recs entry roots internal (refusal.Outside place what) = IsFlawedAt recs entry roots place (Outside what)
+RefusesWorld recs entry roots internal (refusal.Unresolved place) = IsFlawedAt recs entry roots place Unresolved
+RefusesWorld recs entry roots internal (refusal.Collision first second) = Collides recs entry roots first second
+RefusesWorld recs entry roots internal (refusal.Limit which found) =
+    HasLongBody recs entry roots which found ⊎ IsTooLong recs entry roots internal which found
+RefusesWorld recs entry roots internal refusal.NoMemory = Unit {0}
+
+abbrev pub TrimsWorld : List AsmRec → Option RowAt → List Root → Bool → Result ProgramTrim TrimFault → Type 0
+TrimsWorld recs entry roots internal (Ok t) = TrimmedWorld recs entry roots internal t
+TrimsWorld recs entry roots internal (Err e) = RefusesWorld recs entry roots internal e

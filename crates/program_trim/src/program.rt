@@ -1,0 +1,16 @@
+use descriptor_file::Root;
+use link_rules::RowAt;
+use world_model::World;
+
+/// A program that is to be trimmed.
+#[derive(Clone, Copy)]
+pub(crate) struct Program<'a> {
+    /// What a link gave.
+    pub world: &'a World,
+    /// The entry method.
+    pub entry: Option<RowAt>,
+    /// The elements of descriptors.
+    pub roots: &'a [Root],
+    /// Whether public types of all inputs but the first become internal.
+    pub internal: bool,
+}

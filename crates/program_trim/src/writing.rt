@@ -1,0 +1,45 @@
+//! The file of what is left, and the keep list.
+
+ghost use Rattle.std.specs.Prelude.{◌≡◌, None, IfOk, IfErr};
+ghost use Rattle.link_rules.specs.Linked.{IsWorld};
+ghost use Rattle.mark_rules.specs.KeepList.{keep_list};
+ghost use Rattle.merge_plan.specs.Kept.{kept_by};
+ghost use Rattle.record_layout.specs.Laid.{laid};
+ghost use Rattle.record_layout.specs.Limits.{limit_of};
+ghost use Rattle.record_writer.specs.Written.{Refuses};
+
+use il_base::{NoMemory, Seq, Text};
+use keep_lists::lists::keep_list;
+use mark_tables::marker::Marker;
+use merge_plan::KeptItems;
+use record_writer::{WriteError, write};
+use std::alloc::Global;
+use world_model::{AsmRec, World};
+use written_signatures::can_write;
+
+/// The bytes of the file of a record.
+pub(crate) fn file_of(alloc: Global, rec: &AsmRec) -> Result<Text, WriteError>
+    ensures is { IfOk result (λ bytes. bytes ≡ laid rec.now) }
+    ensures within { IfOk result (λ _. limit_of rec.now ≡ None) }
+    ensures refused { IfErr result (Refuses rec.now) }
+{
+    let can = can_write(alloc, rec)?;
+    if !can {
+        return Err(WriteError::NoMemory);
+    }
+    let mut bytes = Vec::new(alloc);
+    match write(alloc, rec, &mut bytes) {
+        Err(error) => Err(error),
+        Ok(()) => Ok(Seq::from_vec(bytes)),
+    }
+}
+
+/// The keep list of a world's kept items.
+pub(crate) fn list_of(alloc: Global, world: &World, kept: &KeptItems) -> Result<Text, NoMemory>
+    requires { IsWorld world.now }
+    ensures { IfOk result (λ text. text ≡ keep_list world.now.recs (kept_by kept.now)) }
+{
+    let marker = Marker::of(alloc, world)?;
+    let text = keep_list(alloc, &marker, kept)?;
+    Ok(text)
+}

@@ -1,0 +1,4 @@
+pub mod GivenRead
+pub mod LeftWritten
+pub mod Causes
+pub mod Completing

@@ -1,0 +1,78 @@
+//! The trim of any files.
+
+ghost use Rattle.std.specs.Prelude.{◌≡◌};
+ghost use Rattle.link_rules.specs.Linked.{IsWorld};
+ghost use Rattle.flaw_laws.specs.There.{RowsThere};
+ghost use Rattle.inputs.specs.Files.{records};
+ghost use Rattle.trim_core.specs.Told.{entry_row};
+ghost use Rattle.trim_core.specs.Taken.{IsTaken};
+ghost use Rattle.trim_core.specs.Trim.{TrimsProgram, list_if};
+
+use crate::answers::{Opts, Refusal, Trimmed};
+use crate::taking::{entry_row, inputs_of};
+use descriptor_file::Root;
+use il_base::{Seq, Text};
+use input_laws::laws::files_told;
+use link_rules::RowAt;
+use program_trim::{ProgramTrim, TrimFault, trim_world};
+use std::alloc::Global;
+use world_model::World;
+
+/// What is needed of files that were taken as a world: it is linked, and its rows of MethodImpl name rows of it.
+fn world_told(files: &Seq<Text>, world: &World)
+    requires { IsTaken files.now world.now }
+    ensures linked { IsWorld world.now }
+    ensures there { RowsThere world.now.recs }
+{
+    let _ = files;
+    let _ = world;
+    files_told();
+}
+
+/// The keep list where it is wanted, else nothing.
+fn list_if(alloc: Global, wanted: bool, list: Text) -> Text
+    ensures { result ≡ list_if wanted list }
+{
+    if wanted { list } else { Seq::new(alloc) }
+}
+
+/// What a trim of the world of files gives, from this entry method.
+fn trim_from(
+    alloc: Global,
+    world: &World,
+    entry: Option<RowAt>,
+    roots: &[Root],
+    opts: Opts,
+) -> Result<Trimmed, Refusal>
+    requires linked { IsWorld world.now }
+    requires there { RowsThere world.now.recs }
+    ensures { TrimsProgram world.now.recs entry roots.now opts result }
+{
+    match trim_world(alloc, world, entry, roots, opts.internalize) {
+        Err(TrimFault::Outside { place, what }) => Err(Refusal::Outside { place, what }),
+        Err(TrimFault::Unresolved { place }) => Err(Refusal::Unresolved { place }),
+        Err(TrimFault::Collision { first, second }) => Err(Refusal::Collision { first, second }),
+        Err(TrimFault::Limit { which, found }) => Err(Refusal::Limit { which, found }),
+        Err(TrimFault::NoMemory) => Err(Refusal::NoMemory),
+        Ok(ProgramTrim { bytes, kept }) => Ok(Trimmed {
+            bytes,
+            kept: list_if(alloc, opts.keep_list, kept),
+        }),
+    }
+}
+
+/// What a trim of files gives that were taken as this world, with these elements of descriptors.
+pub(crate) fn trim_program(
+    alloc: Global,
+    files: &Seq<Text>,
+    world: &World,
+    roots: &[Root],
+    opts: Opts,
+) -> Result<Trimmed, Refusal>
+    requires { IsTaken files.now world.now }
+    ensures { TrimsProgram world.now.recs (entry_row (records files.now)) roots.now opts result }
+{
+    world_told(files, world);
+    let entry = entry_row(inputs_of(files, world));
+    trim_from(alloc, world, entry, roots, opts)
+}
