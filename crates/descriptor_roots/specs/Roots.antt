@@ -4,13 +4,13 @@ use Rattle.world_model.specs.declared.record.AsmRec.{AsmRec}
 use Rattle.descriptor_file.specs.declared.root.Root.{Root}
 use Rattle.descriptor_file.specs.Reading.{descriptor_of}
 use Rattle.descriptor_roots.specs.declared.error.RootsError.{RootsError}
-use Rattle.descriptor_roots.specs.declared.error.RootsError.TheVariants.{Bad, TooLong, NoMemory}
+use Rattle.descriptor_roots.specs.declared.error.RootsError.TheVariants.{Bad, NoMemory}
 
--- the most bytes of a descriptor
+-- the most bytes of a named descriptor
 abbrev pub most_bytes : ℕ
 most_bytes = 1048576
 
--- the length of the first that is too long
+-- the length of the first named descriptor that is too long
 unfoldable pub long_descriptor : List (List ℕ) → Option ℕ
 long_descriptor [] = None
 long_descriptor (d ∷ ds) = if nat_le (length d) most_bytes then long_descriptor ds else Some (length d)
@@ -34,7 +34,7 @@ roots_in i (Some d) = roots_read i (descriptor_of d)
 
 abbrev pub fault_in : ℕ → Option (List ℕ) → Option RootsError
 fault_in i None = None
-fault_in i (Some d) = if nat_le (length d) most_bytes then fault_read i (descriptor_of d) else Some (TooLong (length d))
+fault_in i (Some d) = fault_read i (descriptor_of d)
 
 -- ---- several, of which the first has the number i; None stands for an input that has none
 
@@ -74,7 +74,7 @@ ReadsRoots inputs named (Err e) = descriptor_fault inputs named ≡ Some e
 
 -- ---- parts of it, as the code goes through them
 
--- roots are put behind others, unless a fault is there
+-- roots are put after others, unless a fault is there
 abbrev pub Adds : Option RootsError → List Root → List Root → List Root → Result Unit RootsError → Type 0
 Adds fault more old new (Ok tt) = (fault ≡ None) × (new ≡ old ++ more)
 Adds fault more old new (Err NoMemory) = Unit {0}

@@ -9,8 +9,6 @@ pub enum RootsError {
     /// `source` counts the inputs from 0, and then the named descriptors. `offset` is the place in the descriptor, in bytes, of the
     /// first token that isn't allowed there; its length where it ends too early.
     Bad { source: u32, offset: u32 },
-    /// A descriptor has so many bytes, which are more than 1048576.
-    TooLong { found: u64 },
     NoMemory,
 }
 

@@ -9,7 +9,7 @@ use il_base::{NoMemory, Seq, Text};
 use std::alloc::Global;
 use world_model::AsmRec;
 
-/// The most bytes of a descriptor.
+/// The most bytes of a named descriptor.
 const MOST_BYTES: usize = 1_048_576;
 
 /// The length of the first of these descriptors that is too long.
@@ -49,9 +49,9 @@ fn push_descriptor(
 ) -> Result<(), RootsError>
     ensures { AddsOne source (Some descriptor.now) roots.old roots.new result }
 {
-    if descriptor.len() > MOST_BYTES {
-        let found = descriptor.len() as u64;
-        return Err(RootsError::TooLong { found });
+    // (no file has so many bytes)
+    if descriptor.len() > u32::MAX as usize {
+        return Err(RootsError::NoMemory);
     }
     match read_descriptor(alloc, descriptor) {
         Err(DescriptorError::Bad { at }) => Err(RootsError::Bad { source, offset: at }),

@@ -17,14 +17,14 @@ pub enum Status {
     BadFile { file: u32, at: BadAt },
     /// Something that `trim` keeps is outside what can be trimmed: `what` is its number in `il_base::outside`.
     Outside { place: Place, what: u8 },
-    /// An operand of a method that `trim` keeps names nothing.
+    /// Something that `trim` keeps has a part that names nothing.
     Unresolved { place: Place },
     /// Two types that `trim` keeps would have one name in one assembly. Types are counted from 0 over all files.
     Collision { first: TypeId, second: TypeId },
     /// A descriptor can't be read from this offset in bytes on. Sources are counted from 0: all files, for the descriptors in
     /// them, and then the descriptors that have files of their own.
     BadDescriptor { source: u32, offset: u32 },
-    /// More than a limit allows (`il_base::limit`): 1 files, 2 bytes of a file, 3 bytes of all files, 4 bytes of a descriptor,
+    /// More than a limit allows (`il_base::limit`): 1 files, 2 bytes of a file, 3 bytes of all files, 4 bytes of a named descriptor,
     /// 5 rows of a table, 7 bytes of the file that is written, 8 bytes of the input. `found` is what there is.
     Limit { which: u8, found: u64 },
     /// The entry point token of the first file names no method (II.25.3.3.2).

@@ -34,7 +34,7 @@ after_word at (Some p) f = f p
 abbrev pub is_digit : ℕ → Bool
 is_digit b = nat_le 48 b && nat_le b 57
 
--- what decimal digits spell behind a number
+-- what decimal digits spell after a number
 abbrev pub value_of : ℕ → List ℕ → ℕ
 value_of n [] = n
 value_of n (d ∷ ds) = value_of (n * 10 + (d - 48)) ds
@@ -81,7 +81,7 @@ steps_of (Some n) = n
 abbrev pub with_inputs : ℕ → Option ℕ → List ℕ → Result Command ℕ
 with_inputs words steps inputs = if is_empty inputs then Err words else Ok (Exec inputs (steps_of steps))
 
--- a word that is missing stands behind the last one
+-- a word that is missing stands after the last one
 unfoldable pub finish : ℕ → Progress → Result Command ℕ
 finish words p = if p.expects then Err words else with_inputs words p.steps p.inputs
 
@@ -139,7 +139,7 @@ abbrev pub trim_rest : List (List ℕ) → ℕ → List (List ℕ) → TrimProgr
 trim_rest words at [] p = Ok p
 trim_rest words at (w ∷ ws) p = after_word at (trim_step words p at w) (trim_rest words (at + 1) ws)
 
--- a word that is missing stands behind the last one
+-- a word that is missing stands after the last one
 abbrev pub trim_finish : ℕ → Awaited → Option ℕ → TrimProgress → Result Command ℕ
 trim_finish words awaited.Word (Some output) p =
     if is_empty p.inputs then Err words else Ok (Trim output p.inputs p.descriptors p.list p.internalize)

@@ -18,7 +18,7 @@ pub enum Command {
     },
 }
 
-/// What was read of the words behind `exec`.
+/// What was read of the words after `exec`.
 #[derive(Drop)]
 pub(crate) struct Progress {
     /// Whether the word `--` was read: every later word is a name.
@@ -29,7 +29,7 @@ pub(crate) struct Progress {
     pub(crate) inputs: Seq<usize>,
 }
 
-/// What the next word behind `trim` is.
+/// What the next word after `trim` is.
 #[derive(Clone, Copy, Debug, PartialEq, Eq)]
 pub(crate) enum Awaited {
     /// An option or a name.
@@ -40,7 +40,7 @@ pub(crate) enum Awaited {
     KeepList,
 }
 
-/// What was read of the words behind `trim`.
+/// What was read of the words after `trim`.
 #[derive(Drop)]
 pub(crate) struct TrimProgress {
     /// Whether the word `--` was read: every later word is a name.

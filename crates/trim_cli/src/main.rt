@@ -17,7 +17,7 @@ use status_lines::Status;
 use std::env;
 use std::process::ExitCode;
 
-/// The words behind the program's name; none where one of them isn't text.
+/// The words after the program's name; none where one of them isn't text.
 fn words_of(rt: &HostRuntime) -> Result<Vec<String>, NoMemory> {
     let mut words = Vec::new(rt.alloc());
     let Ok(args) = env::args(rt) else {

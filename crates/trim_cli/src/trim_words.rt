@@ -190,7 +190,7 @@ fn word_step(
     }
 }
 
-/// The words behind the command's, from left to right.
+/// The words after the command's, from left to right.
 fn rest_of(alloc: Global, words: &[String]) -> Result<Result<TrimProgress, usize>, NoMemory>
     ensures { IfOk result (λ r. r ≡ trim_rest (map string_bytes words.now) 1 (map string_bytes (drop 1 words.now)) trim_begin) }
 {
@@ -238,7 +238,7 @@ fn finish(words: usize, progress: TrimProgress) -> Result<Command, usize>
     }
 }
 
-/// The words behind `trim`.
+/// The words after `trim`.
 pub(crate) fn trim_words(
     alloc: Global,
     words: &[String],

@@ -149,7 +149,7 @@ fn finish(words: usize, progress: Progress) -> Result<Command, usize>
     }
 }
 
-/// The words behind the command's, from left to right.
+/// The words after the command's, from left to right.
 fn rest_of(alloc: Global, words: &[String]) -> Result<Result<Progress, usize>, NoMemory>
     ensures { IfOk result (λ r. r ≡ rest_of 1 (map string_bytes (drop 1 words.now)) begin) }
 {
@@ -169,7 +169,7 @@ fn rest_of(alloc: Global, words: &[String]) -> Result<Result<Progress, usize>, N
     Ok(Ok(progress))
 }
 
-/// The words behind `exec`.
+/// The words after `exec`.
 fn exec_words(alloc: Global, words: &[String]) -> Result<Result<Command, usize>, NoMemory>
     requires { 1 ≤ length words.now }
     ensures { IfOk result (λ r. r ≡ finished (length words.now) (rest_of 1 (map string_bytes (drop 1 words.now)) begin)) }

@@ -196,8 +196,6 @@ pub roots_due : (recs : List AsmRec) (e : RootsError) (files ds : List (List ℕ
     → TrimsUnless (option_map roots_refusal (descriptor_fault (records files) ds)) files ds opts (Err (roots_refusal e))
 roots_due recs (RootsError.Bad source offset) files ds opts r h =
     due _ (refusal.BadDescriptor source offset) files ds opts (ap (λ (xs : List AsmRec). option_map roots_refusal (descriptor_fault xs ds)) (sym r) ∙ ap (option_map roots_refusal) h)
-roots_due recs (RootsError.TooLong found) files ds opts r h =
-    due _ (too_long found) files ds opts (ap (λ (xs : List AsmRec). option_map roots_refusal (descriptor_fault xs ds)) (sym r) ∙ ap (option_map roots_refusal) h)
 roots_due recs RootsError.NoMemory files ds opts r h = no_memory _ files ds opts
 
 -- ---- no refusal so far

@@ -31,7 +31,6 @@ too_long found = Limit limit.DESCRIPTOR_LENGTH found
 
 abbrev pub roots_refusal : RootsError → Refusal
 roots_refusal (roots.Bad source offset) = BadDescriptor source offset
-roots_refusal (roots.TooLong found) = too_long found
 roots_refusal roots.NoMemory = NoMemory
 
 -- ---- the first refusal

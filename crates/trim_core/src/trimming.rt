@@ -47,7 +47,6 @@ fn roots_refusal(error: RootsError) -> Refusal
 {
     match error {
         RootsError::Bad { source, offset } => Refusal::BadDescriptor { source, offset },
-        RootsError::TooLong { found } => too_long(found),
         RootsError::NoMemory => Refusal::NoMemory,
     }
 }
@@ -126,7 +125,7 @@ fn trim_short(
 /// embedded ones keep, and merges what is left into one file.
 ///
 /// It refuses with the first of these: a limit on files (1 to 3), one on a named descriptor (4), a demand on a file in its turn
-/// (`BadFile`, `Limit` 5), a demand of linking (`BadFile`), `NoEntry`, a descriptor (`BadDescriptor`, `Limit` 4 for an embedded one),
+/// (`BadFile`, `Limit` 5), a demand of linking (`BadFile`), `NoEntry`, a descriptor (`BadDescriptor`),
 /// the first flaw of what is needed (`Outside`, `Unresolved`, `Limit` 6), `Collision`, and the limits on the file that is
 /// written (5, 7). `NoMemory` alone is free.
 #[tactic(auto, unfolding(crate::specs::Told::trim_fault), using(crate::proofs::FileLemmas::limit_due, crate::proofs::FileLemmas::taken_on))]
