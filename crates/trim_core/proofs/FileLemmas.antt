@@ -1,11 +1,13 @@
 -- What files were taken as, and what a trim of them is.
 use Rattle.std.proofs.Common.{◌≡◌, ℕ, suc, ◌≤◌, Bool, List, [], ◌∷◌, ◌++◌, length, take, map, Option, Some, None, Result, Ok, Err, true, false, nat_le, refl, sym, ap, subst, ◌∙◌, arith, rules}
-use Rattle.std.specs.Prelude.{IsTrue, is_some, not, ◌&&◌, if◌then◌else◌}
+use Rattle.std.specs.Prelude.{IsTrue, is_some, not, ◌&&◌, ◌||◌, ◌×◌, if◌then◌else◌}
+use Rattle.std.specs.List.{list_any}
 use Rattle.std.specs.Option.{option_map}
 use Rattle.std.proofs.lemmas.Bool.Decides.{nat_tests}
 use Rattle.cli_format.specs.declared.error.TablesError.{TablesError}
 use Rattle.cli_format.specs.Demand.{first_fault}
 use Rattle.record_format.specs.Record.{record_demands, record_at, HasRecord}
+use Rattle.world_model.specs.declared.types.TypeDefRow.{TypeDefRow}
 use Rattle.world_model.specs.declared.record.AsmRec.{AsmRec}
 use Rattle.world_model.specs.declared.world.World.{World}
 use Rattle.world_model.specs.Thin.{is_thin}
@@ -15,6 +17,7 @@ use Rattle.link_rules.specs.CoreNames.{missing_names, core_with}
 use Rattle.link_rules.specs.Linked.{IsWorld, assemblies, world_in, world_of, link_fault_of}
 use Rattle.flaw_laws.specs.There.{RowsThere}
 use Rattle.file_layout.specs.Laid.{laid}
+use Rattle.restriction.specs.Moved.{moved_type_def}
 use Rattle.restriction.specs.Restricted.{restricted}
 use Rattle.trim_laws.specs.Headline.{Headline}
 use Rattle.inputs.specs.declared.error.InputError.{InputError}
@@ -29,7 +32,7 @@ use Rattle.trim_core.specs.declared.answers.Refusal.{Refusal}
 use Rattle.trim_core.specs.declared.answers.Refusal.TheVariants as refusal
 use Rattle.trim_core.specs.declared.answers.Trimmed.{Trimmed}
 use Rattle.trim_core.specs.Taken.{IsTaken, IsThinOf, AreThin}
-use Rattle.trim_core.specs.Told.{trim_fault, or_refusal, input_refusal, roots_refusal, too_long, is_plain, is_thin_alone, thin_alone, entry_row, RefusedBy}
+use Rattle.trim_core.specs.Told.{trim_fault, or_refusal, input_refusal, roots_refusal, too_long, is_plain, is_secured, has_security, is_thin_alone, thin_alone, entry_row, RefusedBy}
 use Rattle.trim_core.specs.Trim.{most_bytes, plain, TakenAs, RunsAs, TrimsRecord, TrimsProgram, TrimsBy, TrimsFiles, TrimsUnless}
 
 -- ---- files that were taken
@@ -113,17 +116,19 @@ if_some : (b : Bool) (r rec : AsmRec) → (if b then Some r else None) ≡ Some 
 if_some true r rec h = (refl, search rules)
 if_some false r rec h = search rules
 
-thin_part : (p thin described : Bool) → (p && (thin && described)) ≡ true → thin ≡ true
-thin_part true true described h = refl
-thin_part true false described h = h
-thin_part false thin described h = search rules
+thin_part : (p thin bare secured : Bool) → (p && (thin && bare && not secured)) ≡ true → (thin ≡ true) × (secured ≡ false)
+thin_part true true true true h = search rules
+thin_part true true true false h = (refl, refl)
+thin_part true true false secured h = search rules
+thin_part true false bare secured h = search rules
+thin_part false thin bare secured h = search rules
 
 one_thin : (f : List ℕ) (rec : AsmRec) (opts : Opts) → input_fault (f ∷ []) ≡ None → link_fault_of (record_at f ∷ []) ≡ None
     → thin_alone (record_at f ∷ []) [] opts ≡ Some rec → IsThinOf f rec
 one_thin f rec opts h l e =
     let b = if_some (is_plain opts && is_thin_alone (record_at f)) (record_at f) rec e in
-    let t : is_thin (record_at f) ≡ true = thin_part (is_plain opts) (is_thin (record_at f)) _ b.0 in
-    subst (λ (r : AsmRec). IsThinOf f r) b.1 (record { has = record { meets = meets f h; is = refl }; thin = t; linked = l })
+    let t = thin_part (is_plain opts) (is_thin (record_at f)) (not (is_some (record_at f).descriptor)) (has_security (record_at f)) b.0 in
+    subst (λ (r : AsmRec). IsThinOf f r) b.1 (record { has = record { meets = meets f h; is = refl }; thin = t.0; linked = l; unsecured = t.1 })
 
 pub are_thin : (files ds : List (List ℕ)) (w : World) (opts : Opts) (rec : AsmRec) → IsTaken files w → thin_alone (records files) ds opts ≡ Some rec → AreThin files rec
 are_thin [] ds w opts rec t e = search rules
@@ -228,26 +233,30 @@ unfolding fault_from
 bare_fault rec bare = rw bare refl
 
 -- nothing refuses files and no descriptor
-no_fault : (a b : Option InputError) (n : Option ℕ) (r : Option RootsError) → a ≡ None → n ≡ None → b ≡ None → r ≡ None
+nothing_due : (a b : Option InputError) (n : Option ℕ) (r : Option RootsError) → a ≡ None → n ≡ None → b ≡ None → r ≡ None
     → or_refusal (option_map input_refusal a) (or_refusal (option_map too_long n) (or_refusal (option_map input_refusal b) (option_map roots_refusal r))) ≡ None
-no_fault a b n r p q s t =
+nothing_due a b n r p q s t =
     ap (λ (x : Option InputError). or_refusal (option_map input_refusal x) (or_refusal (option_map too_long n) (or_refusal (option_map input_refusal b) (option_map roots_refusal r)))) p
     ∙ ap (λ (x : Option ℕ). or_refusal (option_map too_long x) (or_refusal (option_map input_refusal b) (option_map roots_refusal r))) q
     ∙ ap (λ (x : Option InputError). or_refusal (option_map input_refusal x) (option_map roots_refusal r)) s
     ∙ ap (λ (x : Option RootsError). option_map roots_refusal x) t
 
-thin_if : (b : Bool) (d : Option (List ℕ)) (rec : AsmRec) → b ≡ true → d ≡ None → (if b && not (is_some d) then Some rec else None) ≡ Some rec
-thin_if b d rec p q =
-    ap (λ (x : Bool). if x && not (is_some d) then Some rec else None) p ∙ ap (λ (x : Option (List ℕ)). if not (is_some x) then Some rec else None) q
+thin_if : (b : Bool) (d : Option (List ℕ)) (s : Bool) (rec : AsmRec) → b ≡ true → d ≡ None → s ≡ false
+    → (if b && not (is_some d) && not s then Some rec else None) ≡ Some rec
+thin_if b d s rec p q r =
+    ap (λ (x : Bool). if x && not (is_some d) && not s then Some rec else None) p
+    ∙ ap (λ (x : Option (List ℕ)). if not (is_some x) && not s then Some rec else None) q
+    ∙ ap (λ (x : Bool). if not x then Some rec else None) r
 
-told_record : (bs : List ℕ) (rec : AsmRec) → input_fault (bs ∷ []) ≡ None → record_at bs ≡ rec → is_thin rec ≡ true → rec.descriptor ≡ None → TakenAs bs rec
+told_record : (bs : List ℕ) (rec : AsmRec) → input_fault (bs ∷ []) ≡ None → record_at bs ≡ rec → is_thin rec ≡ true → rec.descriptor ≡ None → has_security rec ≡ false
+    → TakenAs bs rec
 unfolding trim_fault long_descriptor
-told_record bs rec taken is thin bare =
+told_record bs rec taken is thin bare unsecured =
     let l : limit_fault (bs ∷ []) ≡ None = front_passes _ _ taken in
     let d : descriptor_fault (records (bs ∷ [])) [] ≡ None = ap (λ (r : AsmRec). descriptor_fault (r ∷ []) []) is ∙ bare_fault rec bare in
     record {
-      taken = no_fault (limit_fault (bs ∷ [])) (input_fault (bs ∷ [])) (long_descriptor []) (descriptor_fault (records (bs ∷ [])) []) l refl taken d;
-      thin = subst (λ (r : AsmRec). thin_alone (r ∷ []) [] plain ≡ Some rec) (sym is) (thin_if (is_thin rec) rec.descriptor rec thin bare);
+      taken = nothing_due (limit_fault (bs ∷ [])) (input_fault (bs ∷ [])) (long_descriptor []) (descriptor_fault (records (bs ∷ [])) []) l refl taken d;
+      thin = subst (λ (r : AsmRec). thin_alone (r ∷ []) [] plain ≡ Some rec) (sym is) (thin_if (is_thin rec) rec.descriptor (has_security rec) rec thin bare unsecured);
     }
 
 -- bytes that have a record which is thin and links are a thin file
@@ -273,12 +282,22 @@ bare : (rec : AsmRec) (flags : List Bool) → (restricted rec flags).descriptor 
 unfolding restricted
 bare rec flags = refl
 
+secured_alike : (rec : AsmRec) (flags : List Bool) (ts : List TypeDefRow) → list_any is_secured (map (moved_type_def rec flags) ts) ≡ list_any is_secured ts
+secured_alike rec flags [] = refl
+secured_alike rec flags (t ∷ ts) = ap (λ (b : Bool). is_secured t || b) (secured_alike rec flags ts)
+
+-- the types that are left have the flags that they had
+unsecured_left : (rec : AsmRec) (flags : List Bool) → has_security rec ≡ false → has_security (restricted rec flags) ≡ false
+unfolding restricted
+unsecured_left rec flags h = secured_alike rec flags rec.type_def ∙ h
+
 -- a trim of it takes it as what is left
 pub told_again : (bs : List ℕ) (rec : AsmRec) (flags : List Bool) → bs ≡ laid (restricted rec flags) → Headline rec flags
-    → ((f : List ℕ) → IsThinFile f → input_fault (f ∷ []) ≡ None)
+    → ((f : List ℕ) → IsThinFile f → input_fault (f ∷ []) ≡ None) → has_security rec ≡ false
     → length bs ≤ most_bytes → TakenAs bs (restricted rec flags)
-told_again bs rec flags e h sound small =
+told_again bs rec flags e h sound unsecured small =
     told_record bs (restricted rec flags) (sound bs (written_thin bs rec flags e h small)) (written_record bs rec flags e h) h.settled.thin (bare rec flags)
+    (unsecured_left rec flags unsecured)
 
 -- `exec` of it runs what is left
 pub runs_again : (bs : List ℕ) (rec : AsmRec) (flags : List Bool) → bs ≡ laid (restricted rec flags) → Headline rec flags

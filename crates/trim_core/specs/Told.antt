@@ -1,8 +1,12 @@
 -- Why files and descriptors make no program that can be trimmed, and which files are trimmed by the definitions of thin records.
 use Rattle.std.specs.Prelude.{◌≡◌, ℕ, List, [], ◌∷◌, Option, Some, None, is_some, not, ◌&&◌, Bool, if◌then◌else◌}
+use Rattle.std.specs.List.{list_any}
 use Rattle.std.specs.Option.{option_map}
+use Rattle.il_base.specs.Flags.{has_flag}
+use Rattle.il_base.specs.declared.type_flags.TheConstants.{HAS_SECURITY}
 use Rattle.il_base.specs.declared.limit.TheConstants as limit
 use Rattle.il_base.specs.declared.table.TheConstants.{METHOD_DEF}
+use Rattle.world_model.specs.declared.types.TypeDefRow.{TypeDefRow}
 use Rattle.world_model.specs.declared.record.AsmRec.{AsmRec}
 use Rattle.world_model.specs.Thin.{is_thin}
 use Rattle.world_model.specs.Tokens.{index_in}
@@ -58,9 +62,16 @@ trim_fault files descriptors = or_refusal (option_map input_refusal (limit_fault
 abbrev pub is_plain : Opts → Bool
 is_plain opts = not opts.internalize && not opts.keep_list
 
--- a thin record without a descriptor
+-- the row says that the type has rows of DeclSecurity, of which none is written (II.23.1.15)
+abbrev pub is_secured : TypeDefRow → Bool
+is_secured t = has_flag t.flags HAS_SECURITY
+
+abbrev pub has_security : AsmRec → Bool
+has_security rec = list_any is_secured rec.type_def
+
+-- a thin record without a descriptor, whose rows are written as they are
 abbrev pub is_thin_alone : AsmRec → Bool
-is_thin_alone rec = is_thin rec && not (is_some rec.descriptor)
+is_thin_alone rec = is_thin rec && not (is_some rec.descriptor) && not (has_security rec)
 
 -- the record of one file, where no descriptor and no option is given, if it is thin
 abbrev pub thin_alone : List AsmRec → List (List ℕ) → Opts → Option AsmRec

@@ -1,10 +1,11 @@
 //! The trim of one thin file alone.
 
-ghost use Rattle.std.specs.Prelude.{◌≡◌, [], ◌∷◌, None, IsTrue};
+ghost use Rattle.std.specs.Prelude.{◌≡◌, [], ◌∷◌, None, IsTrue, false};
 ghost use Rattle.record_format.specs.Record.{HasRecord};
 ghost use Rattle.world_model.specs.Thin.{is_thin};
 ghost use Rattle.link_rules.specs.Linked.{link_fault_of};
 ghost use Rattle.trim_core.specs.Taken.{AreThin};
+ghost use Rattle.trim_core.specs.Told.{has_security};
 ghost use Rattle.trim_core.specs.Trim.{TrimsRecord};
 ghost use Rattle.trim_core.specs.Places.{place_in};
 ghost use Rattle.trim_rules.specs.Marked.{IsMarking};
@@ -38,6 +39,7 @@ fn written(alloc: Global, file: &[u8], rec: &AsmRec, marked: &Bits) -> Result<Tr
     requires record { HasRecord file.now rec.now }
     requires thin { IsTrue (is_thin rec.now) }
     requires linked { link_fault_of (rec.now ∷ []) ≡ None }
+    requires unsecured { has_security rec.now ≡ false }
     requires marking { IsMarking rec.now marked.now.flags }
     requires good { first_bad rec.now marked.now.flags ≡ None }
     ensures { TrimsRecord rec.now result }
@@ -66,6 +68,7 @@ fn trim_record(alloc: Global, file: &[u8], rec: &AsmRec) -> Result<Trimmed, Refu
     requires record { HasRecord file.now rec.now }
     requires thin { IsTrue (is_thin rec.now) }
     requires linked { link_fault_of (rec.now ∷ []) ≡ None }
+    requires unsecured { has_security rec.now ≡ false }
     ensures { TrimsRecord rec.now result }
 {
     let marked = match mark_methods(alloc, rec) {

@@ -3,14 +3,14 @@
 ghost use Rattle.std.specs.Prelude.{◌≡◌, ◌∷◌, [], None, option_copied};
 ghost use Rattle.inputs.specs.Files.{records};
 ghost use Rattle.link_rules.specs.Linked.{link_fault_of};
-ghost use Rattle.trim_core.specs.Told.{thin_alone, entry_row, is_plain, is_thin_alone};
+ghost use Rattle.trim_core.specs.Told.{thin_alone, entry_row, is_plain, is_secured, has_security, is_thin_alone};
 ghost use Rattle.trim_core.specs.Taken.{IsTaken};
 
 use crate::answers::Opts;
-use il_base::{Seq, Text, table};
+use il_base::{Seq, Text, has_type_flag, table, type_flags};
 use link_rules::RowAt;
 use thin_check::is_thin_linked;
-use world_model::{AsmRec, World, index_in};
+use world_model::{AsmRec, TypeDefRow, World, index_in};
 
 /// The records of the files, which are the first of their world.
 #[tactic(auto, using(crate::proofs::FileLemmas::inputs_within, crate::proofs::FileLemmas::inputs_are))]
@@ -29,12 +29,26 @@ fn is_plain(opts: Opts) -> bool
     !opts.internalize && !opts.keep_list
 }
 
-/// Whether a record that links alone is thin and has no descriptor.
+/// Whether the row of a type says that it has rows of DeclSecurity.
+fn is_secured(row: &TypeDefRow) -> bool
+    ensures { result ≡ is_secured row.now }
+{
+    has_type_flag(row.flags, type_flags::HAS_SECURITY)
+}
+
+/// Whether the row of some type says so.
+fn has_security(rec: &AsmRec) -> bool
+    ensures { result ≡ has_security rec.now }
+{
+    rec.type_def.as_slice().iter().any(is_secured)
+}
+
+/// Whether a record that links alone is thin, has no descriptor and no flag of security.
 fn is_thin_alone(rec: &AsmRec) -> bool
     requires { link_fault_of (rec.now ∷ []) ≡ None }
     ensures { result ≡ is_thin_alone rec.now }
 {
-    is_thin_linked(rec) && rec.descriptor.is_none()
+    is_thin_linked(rec) && rec.descriptor.is_none() && !has_security(rec)
 }
 
 /// The first of these inputs, where it is the only one, no descriptor and no option is given, and it is thin.

@@ -28,7 +28,7 @@ returns c =
       users = users;
       short = subst (λ (bs : List ℕ). length bs ≤ 268435456) (sym bytes) short;
       headline = headline;
-      told = told_again c.from_vec.result rec flags bytes headline c.thin_files_run.ensures.sound;
+      told = told_again c.from_vec.result rec flags bytes headline c.thin_files_run.ensures.sound c.requires.unsecured;
       runs = runs_again c.from_vec.result rec flags bytes headline c.thin_files_run.ensures.sound c.thin_files_run.ensures.run;
       list = c.new.ensures;
     }
