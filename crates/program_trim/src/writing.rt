@@ -3,6 +3,7 @@
 ghost use Rattle.std.specs.Prelude.{◌≡◌, None, IfOk, IfErr};
 ghost use Rattle.link_rules.specs.Linked.{IsWorld};
 ghost use Rattle.mark_rules.specs.KeepList.{keep_list};
+ghost use Rattle.mark_tables.specs.Assemblies.{all_of, IsMarker};
 ghost use Rattle.merge_plan.specs.Kept.{kept_by};
 ghost use Rattle.record_layout.specs.Laid.{laid};
 ghost use Rattle.record_layout.specs.Limits.{limit_of};
@@ -34,12 +35,21 @@ pub(crate) fn file_of(alloc: Global, rec: &AsmRec) -> Result<Text, WriteError>
     }
 }
 
+/// The keep list of kept items, by what is asked of their world.
+fn list_with(alloc: Global, marker: &Marker<'_>, kept: &KeptItems) -> Result<Text, NoMemory>
+    requires { IsMarker marker.now }
+    ensures { IfOk result (λ text. text ≡ keep_list (all_of marker.now) (kept_by kept.now)) }
+{
+    let text = keep_list(alloc, marker, kept)?;
+    Ok(text)
+}
+
 /// The keep list of a world's kept items.
 pub(crate) fn list_of(alloc: Global, world: &World, kept: &KeptItems) -> Result<Text, NoMemory>
     requires { IsWorld world.now }
     ensures { IfOk result (λ text. text ≡ keep_list world.now.recs (kept_by kept.now)) }
 {
     let marker = Marker::of(alloc, world)?;
-    let text = keep_list(alloc, &marker, kept)?;
+    let text = list_with(alloc, &marker, kept)?;
     Ok(text)
 }
