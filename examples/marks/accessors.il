@@ -1,5 +1,5 @@
 // A property or event stays where one of its accessors does (II.22.34, II.22.13, II.22.28), with its owner, the types of its signature
-// or its event type. The other accessors go, and so does a property without a kept accessor. An event of any class will do here.
+// or its event type; an accessor may be another type's method. The other accessors go, and so does a property without a kept accessor.
 .assembly extern mscorlib { .ver 4:0:0:0 }
 .assembly accessors { .ver 1:0:0:0 }
 .module accessors.exe
@@ -16,6 +16,8 @@
     call void Owner::add_Heard(object)
     call void Owner::raise_Raised()
     call void Owner::other_Other()
+    call int32 Elsewhere::get_Far()
+    pop
     ret
   }
 }
@@ -23,6 +25,16 @@
 .class private auto ansi Handler extends [mscorlib]System.Object { }
 .class private auto ansi UnheardHandler extends [mscorlib]System.Object { }
 .class private auto ansi PropertyModifier extends [mscorlib]System.Object { }
+
+.class private auto ansi Elsewhere extends [mscorlib]System.Object
+{
+  .method public static int32 get_Far() cil managed
+  {
+    .maxstack 8
+    ldc.i4.6
+    ret
+  }
+}
 
 .class private auto ansi Owner extends [mscorlib]System.Object
 {
@@ -101,6 +113,10 @@
   {
     .addon void Owner::add_Raised(object)
     .fire void Owner::raise_Raised()
+  }
+  .property int32 Far()
+  {
+    .get int32 Elsewhere::get_Far()
   }
   .property int32 Other()
   {

@@ -17,6 +17,11 @@ public class LibraryAttribute : Attribute
 
 public static class Library
 {
-    public static int Number() { return 8; }
+    public static int Number() { return Helper.Number(); }
     public static int Unused() { return 9; }
+}
+
+static class Helper
+{
+    public static int Number() { return 8; }
 }

@@ -1,5 +1,6 @@
 // A descriptor names a method by `RETURN NAME(TYPE,TYPE)` and a field by `TYPE NAME`, in full names: nested types with `/`, arrays with
-// `[]`, references with `&`, instances with their arguments in `<>`, type parameters by their names.
+// `[]`, references with `&`, instances with their arguments in `<>`, type parameters by their names, and
+// without modifiers.
 using System;
 
 class Box<T>
@@ -19,6 +20,7 @@ static class Program
 {
     static int number;
     static string text;
+    static volatile int counter;
     static Pair<int, Box<string>> pair;
 
     static void Main() { Console.WriteLine("signatures"); }
