@@ -1,6 +1,6 @@
-// What isn't kept may be of any form that `trim` doesn't take: floating point in code and fields, explicit layout, platform calls,
-// filters, variance of interfaces, pointers, names of types that aren't there. It goes. The field that is no number of the core library goes
-// from a class of which objects are made.
+// What isn't kept may be of any form that a trim doesn't take: floating point in code and fields, explicit layout, platform calls,
+// filters, variance, pointers, arrays of two dimensions, members of the core library that aren't there. It goes, and so do such
+// fields of a class of which objects are made.
 using System;
 using System.Runtime.InteropServices;
 
