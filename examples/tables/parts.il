@@ -9,6 +9,8 @@
 }
 .module parts.dll
 .module extern gears.dll
+.file nometadata extra.bin .hash = (01 02 03 04)
+.mresource public tables.xml { }
 .class extern public forwarder Parts.Gone { .assembly extern ghost }
 
 .class public auto ansi Parts.NoteAttribute extends [mscorlib]System.Attribute
@@ -151,6 +153,7 @@
 
 .class public auto ansi beforefieldinit Parts.Bell extends [mscorlib]System.Object
 {
+  .field private int32 modreq([mscorlib]System.Runtime.CompilerServices.IsVolatile) count
   .method public hidebysig specialname rtspecialname instance void .ctor() cil managed
   {
     ldarg.0
@@ -161,6 +164,10 @@
   .method public hidebysig specialname instance void remove_Broken(class Parts.Deaf 'value') cil managed { ret }
   .method public hidebysig specialname instance void add_Rung(class Parts.Listener 'value') cil managed
   {
+    ldarg.0
+    ldc.i4.1
+    volatile.
+    stfld int32 modreq([mscorlib]System.Runtime.CompilerServices.IsVolatile) Parts.Bell::count
     ldstr "rung"
     call void [mscorlib]System.Console::WriteLine(string)
     ret

@@ -56,6 +56,8 @@
 {
   .method assembly hidebysig static void Show(string text) cil managed
   {
+    .custom instance void [ghost]Ghost.Outer/MarkAttribute::.ctor() = (01 00 00 00)
+    .custom instance void class [ghost]Ghost.Of`1<string>::.ctor() = (01 00 00 00)
     ldarg.0
     call void [mscorlib]System.Console::WriteLine(string)
     ret
