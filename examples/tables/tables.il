@@ -30,7 +30,7 @@
   }
 }
 
-.class private auto ansi beforefieldinit Tables.Screw extends [parts]Parts.Part
+.class private auto ansi beforefieldinit Tables.Screw extends [parts]Parts.Part implements Tables.IScaled
 {
   .custom instance void [ghost]Ghost.MarkAttribute::.ctor(int32) = (01 00 07 00 00 00 00 00)
   .custom instance void [ghost]Ghost.MarkAttribute::.ctor(valuetype [parts]Parts.Kind) = (01 00 01 00 00 00 00 00)
@@ -47,6 +47,12 @@
     ldc.i4.s 9
     ret
   }
+  .method private hidebysig newslot specialname virtual final instance int32 Tables.IScaled.get_Scale() cil managed
+  {
+    .override Tables.IScaled::get_Scale
+    ldc.i4.7
+    ret
+  }
   .method public hidebysig instance void Turn(int32 by) cil managed { ret }
   .property instance int32 Units() { .get instance int32 Tables.Screw::get_Units() }
 }
@@ -58,16 +64,68 @@
   {
     .custom instance void [ghost]Ghost.Outer/MarkAttribute::.ctor() = (01 00 00 00)
     .custom instance void class [ghost]Ghost.Of`1<string>::.ctor() = (01 00 00 00)
+    .param [1] = nullref
     ldarg.0
     call void [mscorlib]System.Console::WriteLine(string)
     ret
   }
 }
 
+.class interface private abstract auto ansi Tables.IScaled
+{
+  .method public hidebysig newslot specialname abstract virtual instance int32 get_Scale() cil managed { }
+  .property instance int32 Scale() { .get instance int32 Tables.IScaled::get_Scale() }
+}
+
+.class private auto ansi sealed Tables.Mode extends [mscorlib]System.Enum
+{
+  .field public specialname rtspecialname int32 value__
+  .field public static literal valuetype Tables.Mode Off = int32(0)
+  .field public static literal valuetype Tables.Mode On = int32(1)
+}
+
+.class private auto ansi beforefieldinit Tables.Ring`1<.ctor ([parts]Parts.Part) T> extends [mscorlib]System.Object
+{
+  .field private !0 last
+  .method public hidebysig static !0 Turn(!0 item) cil managed
+  {
+    ldarg.0
+    ret
+  }
+  .method public hidebysig static !0 Back(!0 item) cil managed
+  {
+    ldarg.0
+    ret
+  }
+}
+
+.class private auto ansi beforefieldinit Tables.Gong extends [mscorlib]System.Object
+{
+  .method public hidebysig specialname static void add_Struck(class [parts]Parts.Listener 'value') cil managed
+  {
+    .locals init (valuetype Tables.Mode mode)
+    ldc.i4.1
+    stloc.0
+    ret
+  }
+  .method public hidebysig specialname static void remove_Struck(class [parts]Parts.Listener 'value') cil managed { ret }
+  .event [parts]Parts.Listener Struck
+  {
+    .addon void Tables.Gong::add_Struck(class [parts]Parts.Listener)
+    .removeon void Tables.Gong::remove_Struck(class [parts]Parts.Listener)
+  }
+}
+
 .class private abstract auto ansi sealed Tables.Program extends [mscorlib]System.Object
 {
+  .field private static int64 big at D_Big
+  .field private static int64 other at D_Other
+  .data D_Other = int64(5)
+  .data D_Big = int64(4294967297)
   .class nested private sequential ansi sealed Box extends [mscorlib]System.ValueType
   {
+    .pack 2
+    .size 24
     .field public valuetype [parts]Parts.Pair pair
     .field public static string unused
   }
@@ -76,6 +134,11 @@
   {
     ldstr "never"
     call void Texts::Show(string)
+    ret
+  }
+  .method private hidebysig static !!0 Twist<([parts]Parts.IMeasured) V>(!!0 item) cil managed
+  {
+    ldarg.0
     ret
   }
   .method private hidebysig static int32 Main(string[] words) cil managed
@@ -116,6 +179,15 @@
     ldflda valuetype [parts]Parts.Pair Tables.Program/Box::pair
     ldfld int32 [parts]Parts.Pair::left
     call void [mscorlib]System.Console::WriteLine(int32)
+    ldloc.1
+    call !0 class Tables.Ring`1<class Tables.Screw>::Turn(!0)
+    call !!0 Tables.Program::Twist<class Tables.Screw>(!!0)
+    callvirt instance int32 Tables.IScaled::get_Scale()
+    call void [mscorlib]System.Console::WriteLine(int32)
+    ldnull
+    call void Tables.Gong::add_Struck(class [parts]Parts.Listener)
+    ldsfld int64 Tables.Program::big
+    call void [mscorlib]System.Console::WriteLine(int64)
     ldsfld int32[] [parts]Parts.Tools::Table
     ldc.i4.1
     ldelem.i4
