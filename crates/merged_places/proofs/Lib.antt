@@ -1,3 +1,5 @@
 pub mod Ranks
 pub mod Rows
 pub mod Kept
+pub mod Numbers
+pub mod Worlds
