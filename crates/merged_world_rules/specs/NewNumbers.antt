@@ -1,12 +1,11 @@
 -- The new numbers and places of types, methods and fields of a merge.
 use Rattle.world_model.specs.Worlds.{types_in}
 use Rattle.link_rules.specs.Members.{methods_in, fields_in}
-use Rattle.view_rules.specs.Layouts.{field_number}
 use Rattle.merge_rules.specs.Numbers.{kept_types, kept_methods, kept_fields}
 use Rattle.change_rules.specs.Change.{Rho, Keep, Undone, Change}
-use Rattle.world_change_rules.specs.Places.{Places, type_number, method_number}
+use Rattle.world_change_rules.specs.Places.{Places}
 use Rattle.merged_world_rules.specs.Merge.{Merge, before, after}
-use Rattle.merged_world_rules.specs.Numbering.{new_number, old_number, place_numbered}
+use Rattle.merged_world_rules.specs.Numbering.{new_number, old_number, new_place}
 
 abbrev pub rho_of : Merge → Rho
 rho_of m = record {
@@ -27,7 +26,7 @@ change_of m undone keep = record { rho = rho_of m; back = back_of m; undone = un
 
 abbrev pub places_of : Merge → Places
 places_of m = record {
-  typ = λ at. place_numbered types_in (after m) ((rho_of m).typ (type_number (before m) at));
-  method = λ at. place_numbered methods_in (after m) ((rho_of m).method (method_number (before m) at));
-  field = λ at. place_numbered fields_in (after m) ((rho_of m).field (field_number (before m) at));
+  typ = new_place types_in (after m) (before m) (kept_types (before m) m.kept);
+  method = new_place methods_in (after m) (before m) (kept_methods (before m) m.kept);
+  field = new_place fields_in (after m) (before m) (kept_fields (before m) m.kept);
 }

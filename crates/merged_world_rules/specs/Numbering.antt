@@ -1,11 +1,13 @@
 -- New numbers of the rows of one kind, types, methods or fields. Kept rows of inputs are counted in their order, behind them the rows
 -- of the core library, which stay in theirs. Any other number goes behind all rows, so that no two numbers become one.
-use Rattle.std.specs.Prelude.{ℕ, ◌+◌, ◌-◌, List, length, Option, slice_get, nat_le, nat_lt, ◌&&◌, unwrap_or, if◌then◌else◌}
+use Rattle.std.specs.Prelude.{ℕ, suc, ◌+◌, ◌-◌, List, length, Option, Bool, slice_get, nat_le, nat_lt, ◌==◌, ◌&&◌, unwrap_or, if◌then◌else◌}
+use Rattle.std.specs.List.{list_any}
 use Rattle.std.specs.Option.{option_map, option_and_then}
 use Rattle.world_model.specs.declared.record.AsmRec.{AsmRec}
 use Rattle.world_model.specs.Worlds.{rows_before}
 use Rattle.link_rules.specs.declared.row_at.RowAt.{RowAt}
 use Rattle.link_rules.specs.Types.{at_row}
+use Rattle.link_rules.specs.Cycles.{listed}
 use Rattle.link_rules.specs.Members.{home_from}
 use Rattle.merge_rules.specs.Numbers.{new_row}
 
@@ -40,3 +42,19 @@ old_number count recs kept n =
 -- the row with a number; where there is none, one that would have it
 abbrev pub place_numbered : (AsmRec → ℕ) → List AsmRec → ℕ → RowAt
 place_numbered count recs n = unwrap_or (home_from count 0 recs n) (at_row 0 n)
+
+-- whether a row is there
+abbrev pub has_row : (AsmRec → ℕ) → List AsmRec → RowAt → Bool
+has_row count recs at = list_any (λ (rec : AsmRec). nat_lt at.row (count rec)) (listed (slice_get recs at.asm))
+
+-- where a row that isn't there has no row either: of the core library, of an input, of no assembly
+abbrev pub place_of_none : (AsmRec → ℕ) → List AsmRec → List AsmRec → RowAt → RowAt
+place_of_none count after before at =
+    if suc at.asm == length before then at_row (length after - 1) at.row
+    else if nat_lt at.asm (length before) then at_row 0 (in_all count after + at.row)
+    else at_row (length after) 0
+
+-- where a row stands in the other world
+abbrev pub new_place : (AsmRec → ℕ) → List AsmRec → List AsmRec → List RowAt → RowAt → RowAt
+new_place count after before kept at =
+    if has_row count before at then place_numbered count after (new_number count before kept (number_at count before at)) else place_of_none count after before at
