@@ -19,7 +19,7 @@ use Rattle.world_model.specs.Worlds.{known_map}
 use Rattle.link_rules.specs.declared.row_at.RowAt.{RowAt}
 use Rattle.link_rules.specs.Members.{type_home, param_count}
 use Rattle.link_rules.specs.Cycles.{listed, is_value_type}
-use Rattle.type_rules.specs.Rows.{rec_at, fields_of_type, is_instance_field, is_enum}
+use Rattle.type_rules.specs.Rows.{rec_at, field_row_at, fields_of_type, is_instance_field, is_enum}
 use Rattle.cil_values.specs.declared.definition.FieldDef.{FieldDef}
 use Rattle.cil_values.specs.declared.layout.Layout.{Layout}
 use Rattle.cil_values.specs.declared.layout.Cell.TheVariants.{Field as of_field}
@@ -206,9 +206,24 @@ module _ (k : Change) (kept : RowAt → Bool) (p : Places) (after before : List 
 
   module _ (later earlier : TypeExpr → Shape) (alike : (e : TypeExpr) → IsTrue (keeps_expr k.keep e) → later (move_expr k.rho e) ≡ move_shape k.rho (earlier e))
       (args : List TypeExpr) (ts : IsTrue (list_all (shows_expr k.keep) args)) where
-    laid_by : (f : RowAt) → IsTrue (keeps_field_row k.keep before f) → (e : TypeExpr) → IsTrue (keeps_expr k.keep e)
+    -- a field with a type is a row
+    typed_by : (f : RowAt) (e : TypeExpr) (o : Option AsmRec) → rec_at before f ≡ o
+        → option_and_then (λ (rec : AsmRec). option_and_then (λ (d : FieldRow). option_and_then (closed_cell_by (head_query before) args []) (view.own_field_type before f rec d)) (slice_get rec.field f.row)) o ≡ Some e
+        → (d : FieldRow) × (field_row_at before f ≡ Some d)
+    typed_by f e None s is = absurd (cc)
+    typed_by f e (Some rec) s is = by_row (slice_get rec.field f.row) refl is
+      where
+        by_row : (o : Option FieldRow) → slice_get rec.field f.row ≡ o
+            → option_and_then (λ (d : FieldRow). option_and_then (closed_cell_by (head_query before) args []) (view.own_field_type before f rec d)) o ≡ Some e → (d : FieldRow) × (field_row_at before f ≡ Some d)
+        by_row None g is = absurd (cc)
+        by_row (Some d) g is = (d, ap (option_and_then (λ (x : AsmRec). slice_get x.field f.row)) s ∙ g)
+
+    typed_there : (f : RowAt) (e : TypeExpr) → view.cell_type before args f ≡ Some e → (d : FieldRow) × (field_row_at before f ≡ Some d)
+    typed_there f e is = typed_by f e (rec_at before f) refl is
+
+    laid_by : (f : RowAt) → IsTrue (keeps_field_row k.keep before f) → (e : TypeExpr) → IsTrue (keeps_expr k.keep e) → (d : FieldRow) × (field_row_at before f ≡ Some d)
         → view.layout_by after later (p.field f) (move_expr k.rho e) ≡ option_map (move_layout k.rho) (view.layout_by before earlier f e)
-    laid_by f h e g =
+    laid_by f h e g is =
         ap (λ (s : Shape). option_map (made after (p.field f) (move_expr k.rho e)) (zero_shape (move_expr k.rho e) s)) (alike e g)
         ∙ ap (option_map (made after (p.field f) (move_expr k.rho e))) (zero_moved k.rho e (earlier e)) ∙ by_zero (zero_shape e (earlier e))
       where
@@ -217,18 +232,18 @@ module _ (k : Change) (kept : RowAt → Bool) (p : Places) (after before : List 
 
         by_zero : (o : Option Value) → option_map (made after (p.field f) (move_expr k.rho e)) (option_map (move_value k.rho) o) ≡ option_map (move_layout k.rho) (option_map (made before f e) o)
         by_zero None = refl
-        by_zero (Some v) = ap (λ (n : ℕ). Some (record { cell = of_field n; typ = move_expr k.rho e; zero = move_value k.rho v })) (r.places.fields f h)
+        by_zero (Some v) = ap (λ (n : ℕ). Some (record { cell = of_field n; typ = move_expr k.rho e; zero = move_value k.rho v })) (r.places.fields f is.0 is.1 h)
 
-    layout_of_by : (f : RowAt) → IsTrue (keeps_field_row k.keep before f) → (o : Option TypeExpr) → ((e : TypeExpr) → o ≡ Some e → IsTrue (keeps_expr k.keep e))
+    layout_of_by : (f : RowAt) → IsTrue (keeps_field_row k.keep before f) → (o : Option TypeExpr) → view.cell_type before args f ≡ o → ((e : TypeExpr) → o ≡ Some e → IsTrue (keeps_expr k.keep e))
         → option_and_then (view.layout_by after later (p.field f)) (option_map (move_expr k.rho) o) ≡ option_map (move_layout k.rho) (option_and_then (view.layout_by before earlier f) o)
-    layout_of_by f h None g = refl
-    layout_of_by f h (Some e) g = laid_by f h e (g e refl)
+    layout_of_by f h None is g = refl
+    layout_of_by f h (Some e) is g = laid_by f h e (g e refl) (typed_there f e is)
 
     pub layout_moved : (f : RowAt) → IsTrue (keeps_field_row k.keep before f)
         → view.layout_of after later (move_exprs k.rho args) (p.field f) ≡ option_map (move_layout k.rho) (view.layout_of before earlier args f)
     layout_moved f h =
         ap (option_and_then (view.layout_by after later (p.field f))) (cell_moved args ts f h)
-        ∙ layout_of_by f h (view.cell_type before args f) (λ e is. cell_kept args ts f e h is)
+        ∙ layout_of_by f h (view.cell_type before args f) refl (λ e is. cell_kept args ts f e h is)
 
     layouts_moved : (fs : List RowAt) → IsTrue (list_all (keeps_field_row k.keep before) fs)
         → map (view.layout_of after later (move_exprs k.rho args)) (map p.field fs) ≡ map (option_map (move_layout k.rho)) (map (view.layout_of before earlier args) fs)
