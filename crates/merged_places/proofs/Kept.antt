@@ -1,9 +1,9 @@
 -- Kept rows of inputs by their numbers: a kept row's place among them is how many kept numbers are below its own.
-use Rattle.std.proofs.Common.{◌≡◌, ◌<◌, ◌≤◌, ℕ, zero, suc, ◌+◌, ◌-◌, Bool, true, false, cond, nat_eq, nat_lt, List, [], ◌∷◌, ◌++◌, length, map, Option, Some, None, ◌⊎◌, inl, inr, refl, sym, ap, subst, ◌∙◌, arith, length-map}
+use Rattle.std.proofs.Common.{◌≡◌, ◌<◌, ◌≤◌, ℕ, zero, suc, ◌+◌, ◌-◌, Bool, true, false, cond, nat_eq, nat_lt, List, [], ◌∷◌, ◌++◌, length, map, Option, Some, None, ◌⊎◌, inl, inr, refl, sym, ap, subst, ◌∙◌, arith}
 use Rattle.std.specs.Prelude.{if◌then◌else◌, slice_get, ◌==◌, ◌&&◌, ◌||◌}
 use Rattle.std.specs.List.{flat_map, filter, position_from, range_with_len}
 use Rattle.std.proofs.lemmas.Bool.{lt-ltb, le-ltb, ltb-true, ltb-false, eqb-true, eq-eqb, ne_eqb, cases_eq, cases_lt}
-use Rattle.std.proofs.lemmas.List.{map-append}
+use Rattle.std.proofs.lemmas.List.{map-append, length-map}
 use Rattle.std.proofs.lemmas.Iterator.Adapters.{position_from-zero}
 use Rattle.il_base.specs.declared.ids.Item.{Item}
 use Rattle.world_model.specs.declared.record.AsmRec.{AsmRec}
@@ -53,9 +53,14 @@ map_filter q f [] = refl
 map_filter q f (x ∷ xs) = mapped_by q f (q (f x)) x (filter (λ x. q (f x)) xs) ∙ ap (λ (ys : List ℕ). cond (q (f x)) (f x ∷ ys) ys) (map_filter q f xs)
 
 range_split : (s n m : ℕ) → range_with_len s (n + m) ≡ range_with_len s n ++ range_with_len (s + n) m
-range_split s zero m = ap (λ (k : ℕ). range_with_len k m) (omega arith)
+range_split s zero m =
+    let a : s ≡ s + 0 = omega arith in
+    let b : 0 + m ≡ m = omega arith in
+    λ i. range_with_len (a i) (b i)
 range_split s (suc n) m =
-    ap (λ (xs : List ℕ). s ∷ xs) (range_split (s + 1) n m ∙ ap (λ (k : ℕ). range_with_len (s + 1) n ++ range_with_len k m) (omega arith))
+    let a : suc n + m ≡ suc (n + m) = omega arith in
+    let b : s + 1 + n ≡ s + suc n = omega arith in
+    ap (range_with_len s) a ∙ ap (λ (xs : List ℕ). s ∷ xs) (range_split (s + 1) n m ∙ ap (λ (k : ℕ). range_with_len (s + 1) n ++ range_with_len k m) b)
 
 module _ (count : AsmRec → ℕ) (recs : List AsmRec) where
   -- ---- the rows of all inputs
@@ -63,7 +68,8 @@ module _ (count : AsmRec → ℕ) (recs : List AsmRec) where
   stretch_numbers : (a s n : ℕ) → map (number_at count recs) (map (at_row a) (range_with_len s n)) ≡ range_with_len (rows_before count recs a + s) n
   stretch_numbers a s zero = refl
   stretch_numbers a s (suc n) =
-      ap (λ (xs : List ℕ). rows_before count recs a + s ∷ xs) (stretch_numbers a (s + 1) n ∙ ap (λ (k : ℕ). range_with_len k n) (omega arith))
+      let z : rows_before count recs a + (s + 1) ≡ rows_before count recs a + s + 1 = omega arith in
+      ap (λ (xs : List ℕ). (rows_before count recs a + s) ∷ xs) (stretch_numbers a (s + 1) n ∙ ap (λ (k : ℕ). range_with_len k n) z)
 
   abbrev rows_in : ℕ × AsmRec → List RowAt
   rows_in x = map (at_row x.0) (range_with_len 0 (count x.1))
@@ -77,10 +83,11 @@ module _ (count : AsmRec → ℕ) (recs : List AsmRec) where
   numbers_from (rec ∷ []) a before (suc m) h long = absurd (omega (arith, long))
   numbers_from (rec ∷ next ∷ rest) a before zero h long = absurd (omega (arith, long))
   numbers_from (rec ∷ next ∷ rest) a before (suc m) h long =
-      let here : rows_before count recs a + 0 ≡ before = ap (λ (k : ℕ). rows_before count recs k + 0) (omega arith) ∙ plus (rows_before count recs (a + 0)) before (h 0) in
+      let a0 : a ≡ a + 0 = omega arith in
+      let here : rows_before count recs a + 0 ≡ before = ap (λ (k : ℕ). rows_before count recs k + 0) a0 ∙ plus (rows_before count recs (a + 0)) before (h 0) in
       let first : map (number_at count recs) (rows_in (a, rec)) ≡ range_with_len before (count rec) =
       stretch_numbers a 0 (count rec) ∙ ap (λ (k : ℕ). range_with_len k (count rec)) here in
-      let more = numbers_from (next ∷ rest) (suc a) (before + count rec) m (λ k. ap (rows_before count recs) (omega arith) ∙ h (suc k) ∙ omega arith) (omega (arith, long)) in
+      let more = numbers_from (next ∷ rest) (suc a) (before + count rec) m (λ k. let z : suc a + k ≡ a + suc k = omega arith in ap (rows_before count recs) z ∙ h (suc k) ∙ add_assoc before (count rec) (rows_before count (next ∷ rest) k)) (omega (arith, long)) in
       map-append (number_at count recs) (rows_in (a, rec)) (flat_map rows_in (inputs_from (suc a) (next ∷ rest)))
       ∙ (λ i. first i ++ more i)
       ∙ sym (range_split before (count rec) (rows_before count (next ∷ rest) m))
@@ -88,8 +95,14 @@ module _ (count : AsmRec → ℕ) (recs : List AsmRec) where
       plus : (n b : ℕ) → n ≡ b + 0 → n + 0 ≡ b
       plus n b e = omega (arith, e)
 
+      add_assoc : (a b c : ℕ) → a + (b + c) ≡ a + b + c
+      add_assoc a b c = omega arith
+
   pub all_numbers : map (number_at count recs) (rows_of_kind count recs) ≡ range_with_len 0 (in_inputs count recs)
-  all_numbers = numbers_from recs 0 0 (length recs - 1) (λ k. ap (rows_before count recs) (omega arith) ∙ omega arith) refl
+  all_numbers = numbers_from recs 0 0 (length recs - 1) (λ k. let z : 0 + k ≡ k = omega arith in ap (rows_before count recs) z ∙ plus_zero (rows_before count recs k)) refl
+    where
+      plus_zero : (n : ℕ) → n ≡ 0 + n
+      plus_zero n = omega arith
 
   -- a row of an input
   abbrev pub IsInput : RowAt → Type 0
@@ -105,10 +118,10 @@ module _ (count : AsmRec → ℕ) (recs : List AsmRec) where
   inputs_rows (rec ∷ next ∷ rest) a same long =
       every_append IsInput (rows_in (a, rec)) (flat_map rows_in (inputs_from (suc a) (next ∷ rest)))
       (stretch_rows a rec (let z : a ≡ a + 0 = omega arith in ap (slice_get recs) z ∙ sym (same 0)) (omega (arith, long)) 0 (count rec) (omega arith))
-      (inputs_rows (next ∷ rest) (suc a) (λ k. same (suc k) ∙ ap (slice_get recs) (omega arith)) (omega (arith, long)))
+      (inputs_rows (next ∷ rest) (suc a) (λ k. let z : a + suc k ≡ suc a + k = omega arith in same (suc k) ∙ ap (slice_get recs) z) (omega (arith, long)))
 
   pub all_inputs : Every IsInput (rows_of_kind count recs)
-  all_inputs = inputs_rows recs 0 (λ k. ap (slice_get recs) (omega arith)) (omega arith)
+  all_inputs = inputs_rows recs 0 (λ k. let z : k ≡ 0 + k = omega arith in ap (slice_get recs) z) (omega arith)
 
   -- ---- one row by its number
 
@@ -133,15 +146,13 @@ module _ (count : AsmRec → ℕ) (recs : List AsmRec) where
       (λ i. cond (number_tells at x is hs.0.0 i) (Some d) (first_by_number at is xs (d + 1) hs.1 i))
 
   -- a row of the core library is none of the inputs'
+  not_by : (at x : RowAt) (d : ℕ) (rest : Option ℕ) → suc at.asm ≡ length recs → suc x.asm < length recs → rest ≡ None → (b : Bool) → same_row at x ≡ b → cond b (Some d) rest ≡ None
+  not_by at x d rest e lt more false t = more
+  not_by at x d rest e lt more true t = let same : at.asm ≡ x.asm = ap (λ (r : RowAt). r.asm) (rows_one at x t) in absurd (omega (arith, same, lt, e))
+
   not_input : (at : RowAt) → suc at.asm ≡ length recs → (xs : List RowAt) (d : ℕ) → Every IsInput xs → position_from (same_row at) d xs ≡ None
   not_input at e [] d hs = refl
-  not_input at e (x ∷ xs) d hs = by_test (same_row at x) refl
-    where
-      by_test : (b : Bool) → same_row at x ≡ b → cond b (Some d) (position_from (same_row at) (d + 1) xs) ≡ None
-      by_test false t = not_input at e xs (d + 1) hs.1
-      by_test true t =
-          let same : at.asm ≡ x.asm = ap (λ (r : RowAt). r.asm) (rows_one at x t) in
-          let lt = hs.0.1 in absurd (omega (arith, same, lt))
+  not_input at e (x ∷ xs) d hs = not_by at x d (position_from (same_row at) (d + 1) xs) e hs.0.1 (not_input at e xs (d + 1) hs.1) (same_row at x) refl
 
 -- ---- the place of a number among those that pass a test
 
@@ -201,7 +212,7 @@ module _ (count : AsmRec → ℕ) (recs : List AsmRec) (number_item : ℕ → It
   kept_numbers = map_filter keeps (number_at count recs) (rows_of_kind count recs) ∙ ap (filter keeps) (all_numbers count recs)
 
   pub how_many : length those ≡ rank keeps (in_inputs count recs)
-  how_many = sym (length-map (number_at count recs) those) ∙ ap length kept_numbers ∙ all_is_rank keeps (in_inputs count recs)
+  how_many = sym (length-map those (number_at count recs)) ∙ ap length kept_numbers ∙ all_is_rank keeps (in_inputs count recs)
 
   -- a kept row of an input
   abbrev pub IsKept : RowAt → Type 0
@@ -220,12 +231,12 @@ module _ (count : AsmRec → ℕ) (recs : List AsmRec) (number_item : ℕ → It
   pub new_row_is : (at : RowAt) → IsThere count recs at → number_at count recs at < in_inputs count recs → keeps (number_at count recs at) ≡ true
       → new_row those at ≡ Some (rank keeps (number_at count recs at))
   new_row_is at is lt k =
-      sym (position_from-zero (same_row at) those) ∙ first_by_number count recs at is those 0 (kept_inputs those all_kept)
+      position_from-zero (same_row at) those ∙ first_by_number count recs at is those 0 (kept_inputs those all_kept)
       ∙ ap (position_from (nat_eq (number_at count recs at)) 0) kept_numbers
       ∙ placed_at_rank keeps (in_inputs count recs) (number_at count recs at) lt k
 
   pub new_row_core : (at : RowAt) → suc at.asm ≡ length recs → new_row those at ≡ None
-  new_row_core at e = sym (position_from-zero (same_row at) those) ∙ not_input count recs at e those 0 (kept_inputs those all_kept)
+  new_row_core at e = position_from-zero (same_row at) those ∙ not_input count recs at e those 0 (kept_inputs those all_kept)
 
   -- ---- rows before a place
 
@@ -281,7 +292,7 @@ module _ (count : AsmRec → ℕ) (recs : List AsmRec) (number_item : ℕ → It
   unfolding run_at
   run_is a row rec e lt le =
       let bound : rows_before count recs a + (row - 1) ≤ in_inputs count recs = stretch_before count recs a (length recs - 1) (row - 1) rec e le (omega (arith, lt)) in
-      ap suc (sym (length-map (number_at count recs) (filter (is_before a (row - 1)) those))
+      ap suc (sym (length-map (filter (is_before a (row - 1)) those) (number_at count recs))
       ∙ ap length (lower_rows a (row - 1) rec e le those (kept_inputs those all_kept))
       ∙ ap (λ (ns : List ℕ). length (filter (λ n. nat_lt n (rows_before count recs a + (row - 1))) ns)) kept_numbers
       ∙ below_is_rank keeps (in_inputs count recs) (rows_before count recs a + (row - 1)) bound)

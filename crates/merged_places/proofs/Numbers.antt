@@ -1,5 +1,5 @@
 -- New numbers of the rows of one kind, and the way back.
-use Rattle.std.proofs.Common.{◌≡◌, ◌<◌, ◌≤◌, ℕ, zero, suc, ◌+◌, ◌-◌, Bool, true, false, nat_lt, List, [], ◌∷◌, ◌++◌, length, Option, Some, None, refl, sym, ap, subst, ◌∙◌, arith}
+use Rattle.std.proofs.Common.{◌≡◌, ◌<◌, ◌≤◌, ℕ, zero, suc, ◌+◌, ◌-◌, Bool, true, false, cond, nat_lt, List, [], ◌∷◌, ◌++◌, length, Option, Some, None, refl, sym, ap, subst, ◌∙◌, arith}
 use Rattle.std.specs.Prelude.{if◌then◌else◌, slice_get, nat_le, ◌&&◌, unwrap_or}
 use Rattle.std.specs.Option.{option_map, option_and_then}
 use Rattle.std.specs.List.{position_from}
@@ -54,32 +54,30 @@ other_none kept below all n ge =
 
 -- ---- what is found is at its place
 
-found_by : (at : RowAt) (xs : List RowAt) (d j : ℕ) → position_from (same_row at) d xs ≡ Some (d + j) → slice_get xs j ≡ Some at
-found_by at [] d j e = cc
-found_by at (x ∷ xs) d j e = by_test (same_row at x) refl j e
-  where
-    tail : (xs : List RowAt) (j : ℕ) → position_from (same_row at) (d + 1) xs ≡ Some (d + j) → slice_get (x ∷ xs) j ≡ Some at
-    tail [] j h = cc
-    tail (y ∷ ys) zero h = absurd (too_low (y ∷ ys) (d + 1) d (omega arith) (h ∙ ap Some (omega arith)))
-      where
-        too_low : (zs : List RowAt) (e k : ℕ) → k < e → position_from (same_row at) e zs ≡ Some k → ⊥
-        too_low [] e k lt h = cc
-        too_low (z ∷ zs) e k lt h = low_by (same_row at z) h
-          where
-            low_by : (b : Bool) → (if b then Some e else position_from (same_row at) (e + 1) zs) ≡ Some k → ⊥
-            low_by true h = let same : e ≡ k = cc in absurd (omega (arith, same, lt))
-            low_by false h = too_low zs (e + 1) k (omega (arith, lt)) h
-    tail (y ∷ ys) (suc j) h = found_by at (y ∷ ys) (d + 1) j (h ∙ ap Some (omega arith))
+low_by : (e k : ℕ) (rest : Option ℕ) (b : Bool) → (rest ≡ Some k → e + 1 ≤ k) → cond b (Some e) rest ≡ Some k → e ≤ k
+low_by e k rest true more h = let same : e ≡ k = cc in omega (arith, same)
+low_by e k rest false more h = let le = more h in omega (arith, le)
 
-    by_test : (b : Bool) → same_row at x ≡ b → (j : ℕ) → (if b then Some d else position_from (same_row at) (d + 1) xs) ≡ Some (d + j) → slice_get (x ∷ xs) j ≡ Some at
-    by_test true t j h =
-        let same : d ≡ d + j = cc in
-        let none : j ≡ 0 = omega (arith, same) in
-        ap (slice_get (x ∷ xs)) none ∙ ap Some (sym (rows_one at x t))
-    by_test false t j h = tail xs j h
+low : (t : RowAt → Bool) (e k : ℕ) (zs : List RowAt) → position_from t e zs ≡ Some k → e ≤ k
+low t e k [] h = absurd (cc)
+low t e k (z ∷ zs) h = low_by e k (position_from t (e + 1) zs) (t z) (low t (e + 1) k zs) h
+
+found_case : (at x : RowAt) (xs : List RowAt) (d j : ℕ) (b : Bool) → same_row at x ≡ b
+    → ((i : ℕ) → position_from (same_row at) (d + 1) xs ≡ Some (d + 1 + i) → slice_get xs i ≡ Some at)
+    → cond b (Some d) (position_from (same_row at) (d + 1) xs) ≡ Some (d + j) → slice_get (x ∷ xs) j ≡ Some at
+found_case at x xs d j true t more h =
+    let same : d ≡ d + j = cc in
+    let none : j ≡ 0 = omega (arith, same) in
+    ap (slice_get (x ∷ xs)) none ∙ ap Some (sym (rows_one at x t))
+found_case at x xs d zero false t more h = let le = low (same_row at) (d + 1) (d + 0) xs h in absurd (omega (arith, le))
+found_case at x xs d (suc i) false t more h = let z : d + suc i ≡ d + 1 + i = omega arith in more i (h ∙ ap Some z)
+
+found_by : (at : RowAt) (xs : List RowAt) (d j : ℕ) → position_from (same_row at) d xs ≡ Some (d + j) → slice_get xs j ≡ Some at
+found_by at [] d j e = absurd (cc)
+found_by at (x ∷ xs) d j e = found_case at x xs d j (same_row at x) refl (λ i h. found_by at xs (d + 1) i h) e
 
 pub new_row_at : (rows : List RowAt) (at : RowAt) (j : ℕ) → new_row rows at ≡ Some j → slice_get rows j ≡ Some at
-new_row_at rows at j e = found_by at rows 0 j (position_from-zero (same_row at) rows ∙ e ∙ ap Some (omega arith))
+new_row_at rows at j e = let z : j ≡ 0 + j = omega arith in found_by at rows 0 j (sym (position_from-zero (same_row at) rows) ∙ e ∙ ap Some z)
 
 -- ---- each number is led back, whatever rows are kept
 

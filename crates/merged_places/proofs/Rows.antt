@@ -183,18 +183,23 @@ module _ (count : AsmRec → ℕ) where
   pub one_by_number : (recs : List AsmRec) (x y : RowAt) → IsThere recs x → IsThere recs y → number_at count recs x ≡ number_at count recs y → x ≡ y
   one_by_number recs x y p q e = same_some x y (sym (there_home recs x p) ∙ ap (home_from count 0 recs) e ∙ there_home recs y q)
 
+  at_first : (recs : List AsmRec) (n : ℕ) → rows_before count recs 0 + n ≡ n
+  unfolding rows_before
+  at_first recs n = omega arith
+
   pub place_number : (recs : List AsmRec) (n : ℕ) → number_at count recs (place_numbered count recs n) ≡ n
   place_number recs n = by_home (home_from count 0 recs n) refl
     where
-      at_first : (n : ℕ) → rows_before count recs 0 + n ≡ n
-      unfolding rows_before
-      at_first n = omega arith
-
       by_home : (o : Option RowAt) → home_from count 0 recs n ≡ o → number_at count recs (unwrap_or o (at_row 0 n)) ≡ n
-      by_home None e = at_first n
+      by_home None e = at_first recs n
       by_home (Some at) e = home_number recs n at e
 
   -- ---- inputs and the core library behind them
+
+  last : (xs : List AsmRec) (c : AsmRec) → rows_before count (xs ++ c ∷ []) (suc (length xs)) ≡ rows_before count (xs ++ c ∷ []) (length xs) + count c
+  unfolding rows_before
+  last [] c = omega arith
+  last (x ∷ xs) c = let more = last xs c in omega (arith, more)
 
   pub all_is : (xs : List AsmRec) (c : AsmRec) → in_all count (xs ++ c ∷ []) ≡ in_inputs count (xs ++ c ∷ []) + count c
   all_is xs c =
@@ -202,11 +207,6 @@ module _ (count : AsmRec → ℕ) where
       let one : length (xs ++ c ∷ []) ≡ suc (length xs) = omega (arith, long) in
       let less : length (xs ++ c ∷ []) - 1 ≡ length xs = omega (arith, long) in
       ap (rows_before count (xs ++ c ∷ [])) one ∙ last xs c ∙ ap (λ (k : ℕ). rows_before count (xs ++ c ∷ []) k + count c) (sym less)
-    where
-      last : (xs : List AsmRec) (c : AsmRec) → rows_before count (xs ++ c ∷ []) (suc (length xs)) ≡ rows_before count (xs ++ c ∷ []) (length xs) + count c
-      unfolding rows_before
-      last [] c = omega arith
-      last (x ∷ xs) c = let more = last xs c in omega (arith, more)
 
   pub input_below : (recs : List AsmRec) (at : RowAt) → IsThere recs at → suc at.asm < length recs → number_at count recs at < in_inputs count recs
   input_below recs at is lt = number_before recs at (length recs - 1) is (omega arith)

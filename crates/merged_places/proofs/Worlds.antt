@@ -1,9 +1,9 @@
 -- The two worlds of a merge, and the tables of what is left.
-use Rattle.std.proofs.Common.{◌≡◌, ◌<◌, ◌≤◌, ℕ, zero, suc, ◌+◌, ◌-◌, List, [], ◌∷◌, ◌++◌, length, map, Option, Some, None, refl, sym, ap, subst, ◌∙◌, arith, length-append, length-map}
+use Rattle.std.proofs.Common.{◌≡◌, ◌<◌, ◌≤◌, ℕ, zero, suc, ◌+◌, ◌-◌, List, [], ◌∷◌, ◌++◌, length, map, Option, Some, None, refl, sym, ap, subst, ◌∙◌, arith, length-append}
 use Rattle.std.specs.Prelude.{slice_get}
 use Rattle.std.specs.List.{flat_map}
 use Rattle.std.specs.Option.{option_map}
-use Rattle.std.proofs.lemmas.List.{append-nil}
+use Rattle.std.proofs.lemmas.List.{length-map}
 use Rattle.il_base.specs.declared.body.Body.{Body}
 use Rattle.world_model.specs.declared.known.Known.{Known}
 use Rattle.world_model.specs.declared.members.MethodDefRow.{MethodDefRow}
@@ -76,7 +76,7 @@ with_get (rva ∷ rvas) (x ∷ ms) zero m e is = let same : x ≡ m = cc in (rva
 with_get (rva ∷ rvas) (x ∷ ms) (suc j) m e is = with_get rvas ms j m (omega (arith, e)) is
 
 rvas_fit : (ms : List MethodDefRow) → length (rvas_behind [] (bodies_of ms)) ≡ length ms
-rvas_fit ms = rvas_length [] (bodies_of ms) ∙ length-map (λ (m : MethodDefRow). m.body) ms
+rvas_fit ms = rvas_length [] (bodies_of ms) ∙ length-map ms (λ (m : MethodDefRow). m.body)
 
 pub placed_length : (ms : List MethodDefRow) → length (placed_methods ms) ≡ length ms
 placed_length ms = with_length (rvas_behind [] (bodies_of ms)) ms (rvas_fit ms)
