@@ -4,4 +4,6 @@ pub mod Kept
 pub mod Numbers
 pub mod Worlds
 pub mod Moving
+pub mod Situations
 pub mod Tables
+pub mod Whole
