@@ -196,7 +196,10 @@ module _ (p : ℕ → Bool) where
 
   pub placed_at_rank : (all n : ℕ) → n < all → p n ≡ true → position_from (nat_eq n) 0 (filter p (range_with_len 0 all)) ≡ Some (rank p n)
   unfolding rank
-  placed_at_rank all n lt h = placed_from 0 all n 0 (omega arith) (omega arith) h ∙ ap (λ (k : ℕ). Some (0 + rank_from p 0 k)) (omega arith) ∙ ap Some (omega arith)
+  placed_at_rank all n lt h =
+      let z : n - 0 ≡ n = omega arith in
+      let y : 0 + rank_from p 0 n ≡ rank_from p 0 n = omega arith in
+      placed_from 0 all n 0 (omega arith) (omega (arith, lt)) h ∙ ap (λ (k : ℕ). Some (0 + rank_from p 0 k)) z ∙ ap Some y
 
 -- ---- kept rows
 

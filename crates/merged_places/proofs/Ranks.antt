@@ -163,7 +163,7 @@ module _ (p : ℕ → Bool) where
 
   pub below_is_rank : (all bound : ℕ) → bound ≤ all → length (filter (λ x. nat_lt x bound) (filter p (range_with_len 0 all))) ≡ rank bound
   unfolding rank
-  below_is_rank all bound le = below_from 0 all bound le
+  below_is_rank all bound le = let z : bound - 0 ≡ bound = omega arith in below_from 0 all bound (omega (arith, le)) ∙ ap (rank_from 0) z
 
   pub all_is_rank : (all : ℕ) → length (filter p (range_with_len 0 all)) ≡ rank all
   unfolding rank rank_from

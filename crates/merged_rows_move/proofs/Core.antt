@@ -26,6 +26,7 @@ use Rattle.link_rules.specs.Types.{at_row}
 use Rattle.link_rules.specs.CoreNames.{missing_names, added_row, core_with}
 use Rattle.link_rules.specs.Members.{home_from, array_type, methods_in}
 use Rattle.merge_rules.specs.Numbers.{kept_types, kept_methods}
+use Rattle.cil_values.specs.declared.core_call.CoreCall.{CoreCall}
 use Rattle.view_rules.specs.Members.{core_call, call_of, core_type_row, is_type_named, is_name, names_of, object_method}
 use Rattle.view_rules.specs.Answers.{core_type_id, core_method_id}
 use Rattle.change_rules.specs.Change.{Keep, Undone}
@@ -254,7 +255,7 @@ module _ (m : Merge) (is : IsMerge m) where
       let b = bound_after in
       ap (λ (recs : List AsmRec). core_row recs n) (after_is m is) ∙ row_high (m.left ∷ []) (core_of m) n (omega (arith, ge, b)) ∙ ap (λ (k : ℕ). Some (n - k)) b
 
-  abbrev called : Option ℕ → Option _
+  abbrev called : Option ℕ → Option CoreCall
   called o = option_and_then call_of (option_and_then (member_in TYPES) o)
 
   past_is : (r : ℕ) → methods_in (core_of m) ≤ r → member_in TYPES r ≡ None
@@ -302,7 +303,7 @@ module _ (m : Merge) (is : IsMerge m) where
     call_by n (Some at) e h = ap called (called_there n at e h (cases_lt (suc at.asm) (length (before m))))
 
     calls_move : (n : ℕ) → IsTrue (k.method n) → core_call (after m) ((rho_of m).method n) ≡ core_call (before m) n
-    unfolding core_call kept_methods
+    unfolding kept_methods
     calls_move n h = call_by n (home_from methods_in 0 (before m) n) refl h
 
     pub core_moves : (undone : Undone (back_of m) (rho_of m)) → CoreMoves (change_of m undone k) (after m) (before m)
