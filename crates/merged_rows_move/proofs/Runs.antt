@@ -100,7 +100,7 @@ module _ {R : Type 0} (m : Merge) (is : IsMerge m) (rows : AsmRec → List R) (n
   core_row a s len false e h here more = absurd (cc)
 
   pub core_stretch : (a : ℕ) (rec : AsmRec) → slice_get (before m) a ≡ Some rec → suc a ≡ length (before m) → ((at : RowAt) → IsThere count (before m) at → suc at.asm ≡ length (before m) → flag at ≡ true)
-      → ((at : RowAt) → suc at.asm ≡ length (before m) → moved at ≡ at_row 1 at.row) → (s len : ℕ) → s + len ≤ count rec
+      → ((at : RowAt) → suc at.asm ≡ length (before m) → moved at ≡ at_row 1 at.row) → (s len : ℕ) → len ≤ count rec - s
       → map moved (filter flag (map (at_row a) (range_with_len s len))) ≡ map (at_row 1) (range_with_len s len)
   core_stretch a rec e last flags moves s zero le = refl
   core_stretch a rec e last flags moves s (suc len) le =
