@@ -3,6 +3,7 @@ use Rattle.std.proofs.Common.{◌≡◌, ◌<◌, ◌≤◌, ℕ, zero, suc, ◌
 use Rattle.std.specs.Prelude.{slice_get}
 use Rattle.std.specs.List.{flat_map, filter}
 use Rattle.std.proofs.lemmas.List.{append-nil}
+use Rattle.il_base.specs.declared.ids.Item.{Item}
 use Rattle.il_base.specs.declared.table.TheConstants.{FIELD, METHOD_DEF}
 use Rattle.world_model.specs.declared.types.TypeDefRow.{TypeDefRow}
 use Rattle.world_model.specs.declared.members.FieldRow.{FieldRow}
@@ -23,7 +24,7 @@ use Rattle.merged_world_rules.specs.Merge.{Merge, before, after, output, IsMerge
 use Rattle.merged_world_rules.specs.Numbering.{number_at}
 use Rattle.merged_places.proofs.Ranks.{rank}
 use Rattle.merged_places.proofs.Rows.{IsThere, place_within, place_has, place_past, same_some}
-use Rattle.merged_places.proofs.Kept.{keeps}
+use Rattle.merged_places.proofs.Kept.{keeps, those}
 use Rattle.merged_places.proofs.Worlds.{core_of, after_is, before_length, before_core, before_input}
 use Rattle.merged_places.proofs.Situations.{place, situation, Input, Core, Gone, HasNone}
 use Rattle.merged_places.proofs.Tables.{number_type, number_method, number_field, method_rows, field_rows, types_counted, methods_counted, fields_counted, type_left}
@@ -84,6 +85,15 @@ none_past (x ∷ rows) zero e = absurd (cc)
 none_past (x ∷ rows) (suc k) e = let le = none_past rows k e in omega (arith, le)
 
 -- ---- in a merge
+
+-- a row of the core library, there or not, keeps its row
+pub core_place : (m : Merge) (is : IsMerge m) (count : AsmRec → ℕ) (number_item : ℕ → Item) (counted : count m.left ≡ length (those count (before m) number_item m.kept)) (at : RowAt)
+    → suc at.asm ≡ length (before m) → place m is count number_item counted at ≡ at_row 1 at.row
+core_place m is count number_item counted at last =
+    elim (situation m is count number_item counted at (λ h lt. absurd (omega (arith, lt, last)))) [
+      | inl h ↦ let lt = h.earlier in absurd (omega (arith, lt, last))
+      | inr other ↦ elim other [ inl h ↦ h.moved | inr h ↦ absurd (h.apart last) ]
+    ]
 
 module _ (m : Merge) (is : IsMerge m) where
   abbrev type_place : RowAt → RowAt
