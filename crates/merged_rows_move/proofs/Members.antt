@@ -105,10 +105,10 @@ module _ (m : Merge) (is : IsMerge m) where
   abbrev field_place : RowAt → RowAt
   field_place at = place m is fields_in number_field (fields_counted m is) at
 
-  record_of : (a : ℕ) (rec : AsmRec) → slice_get (before m) a ≡ Some rec → suc a < length (before m) → IsRecord rec
+  pub record_of : (a : ℕ) (rec : AsmRec) → slice_get (before m) a ≡ Some rec → suc a < length (before m) → IsRecord rec
   record_of a rec e lt = is.records a rec (sym (before_input m a lt) ∙ e)
 
-  method_size : (rec : AsmRec) → rows_in rec METHOD_DEF ≡ length rec.method_def
+  pub method_size : (rec : AsmRec) → rows_in rec METHOD_DEF ≡ length rec.method_def
   unfolding table_sizes
   method_size rec = refl
 
@@ -116,13 +116,13 @@ module _ (m : Merge) (is : IsMerge m) where
   unfolding table_sizes
   field_size rec = refl
 
-  left_here : slice_get (after m) 0 ≡ Some m.left
+  pub left_here : slice_get (after m) 0 ≡ Some m.left
   left_here = ap (λ (recs : List AsmRec). slice_get recs 0) (after_is m is)
 
-  core_here : slice_get (after m) 1 ≡ Some (core_of m)
+  pub core_here : slice_get (after m) 1 ≡ Some (core_of m)
   core_here = ap (λ (recs : List AsmRec). slice_get recs 1) (after_is m is)
 
-  core_before : (at : RowAt) → suc at.asm ≡ length (before m) → slice_get (before m) at.asm ≡ Some (core_of m)
+  pub core_before : (at : RowAt) → suc at.asm ≡ length (before m) → slice_get (before m) at.asm ≡ Some (core_of m)
   core_before at last = let long = before_length m in ap (slice_get (before m)) (omega (arith, long, last)) ∙ before_core m
 
   none_there : (recs : List AsmRec) (at : RowAt) (rec : AsmRec) → slice_get recs at.asm ≡ Some rec → types_in rec ≤ at.row → HasNone types_in recs at
