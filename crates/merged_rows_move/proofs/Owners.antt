@@ -237,6 +237,31 @@ module _ (m : Merge) (is : IsMerge m) where
       ∙ and_same _ _ _ _ (suc_le (rank methods (start x.asm + (t.row.method_list_first - 1))) (rank methods n) ∙ rank_le methods (start x.asm + (t.row.method_list_first - 1)) n k)
       (suc_lt (rank methods n) (rank methods (start x.asm + (t.row.method_list_end - 1))) ∙ rank_lt methods n (start x.asm + (t.row.method_list_end - 1)) k)
 
+  -- each row of what is left is that of a kept type
+  record LeftRow (i : ℕ) (t : TypeDefRow) : Type 0 where
+    of : RowAt
+    of_row : TypeRow of
+    rank_is : rank types (number_at types_in (before m) of) ≡ i
+    is_moved : t ≡ new_row_of of of_row
+
+  left_row : (i : ℕ) (t : TypeDefRow) → slice_get m.left.type_def i ≡ Some t → LeftRow i t
+  left_row i t e =
+      let counted = types_counted m is in
+      let lt = place_within m.left.type_def i t e in
+      let x = place_has (type_rows m is) i (omega (arith, lt, counted)) in
+      let kept_row = kept_at types_in (before m) number_type m.kept i x.0 x.1 in
+      let r = type_row x.0 kept_row.0.0 kept_row.0.1 in
+      let j : ℕ = number_at types_in (before m) x.0 in
+      let numbered : slice_get (map (number_at types_in (before m)) (type_rows m is)) i ≡ Some j = mapped (number_at types_in (before m)) (type_rows m is) i x.0 x.1 in
+      let place = place_is_rank types (in_inputs types_in (before m)) i j (ap (λ (ns : List ℕ). slice_get ns i) (sym (kept_numbers types_in (before m) number_type m.kept)) ∙ numbered) in
+      let found = type_left m is x.0 r.rec r.row kept_row.0.0 kept_row.0.1 kept_row.1 r.here r.is_row in
+      record { of = x.0; of_row = r; rank_is = place; is_moved = same_some t (new_row_of x.0 r) (sym e ∙ ap (slice_get m.left.type_def) (sym place) ∙ found) }
+    where
+      mapped : (f : RowAt → ℕ) (xs : List RowAt) (i : ℕ) (x : RowAt) → slice_get xs i ≡ Some x → slice_get (map f xs) i ≡ Some (f x)
+      mapped f [] i x e = absurd (cc)
+      mapped f (y ∷ xs) zero x e = let same : y ≡ x = cc in ap (λ (z : RowAt). Some (f z)) same
+      mapped f (y ∷ xs) (suc i) x e = mapped f xs i x e
+
   -- a type owns a method of its own assembly that is in its run, and no other
   module _ (at : RowAt) (there : IsThere methods_in (before m) at) (k : methods (number_at methods_in (before m) at) ≡ true) where
     abbrev n : ℕ
@@ -282,34 +307,6 @@ module _ (m : Merge) (is : IsMerge m) where
 
     -- ---- the first type of what is left that owns it
 
-    -- each row of what is left is that of a kept type
-    record LeftRow (i : ℕ) (t : TypeDefRow) : Type 0 where
-      of : RowAt
-      of_row : TypeRow of
-      rank_is : rank types (number_at types_in (before m) of) ≡ i
-      is_moved : t ≡ new_row_of of of_row
-
-    left_row : (i : ℕ) (t : TypeDefRow) → slice_get m.left.type_def i ≡ Some t → LeftRow i t
-    left_row i t e =
-        let counted = types_counted m is in
-        let lt = place_within m.left.type_def i t e in
-        let x = place_has (type_rows m is) i (omega (arith, lt, counted)) in
-        let kept_row = kept_at types_in (before m) number_type m.kept i x.0 x.1 in
-        let r = type_row x.0 kept_row.0.0 kept_row.0.1 in
-        let j : ℕ = number_at types_in (before m) x.0 in
-        let numbered : slice_get (map (number_at types_in (before m)) (type_rows m is)) i ≡ Some j = mapped (number_at types_in (before m)) (type_rows m is) i x.0 x.1 in
-        let place = place_is_rank types (in_inputs types_in (before m)) i j (ap (λ (ns : List ℕ). slice_get ns i) (sym (kept_numbers types_in (before m) number_type m.kept)) ∙ numbered) in
-        let found = type_left m is x.0 r.rec r.row kept_row.0.0 kept_row.0.1 kept_row.1 r.here r.is_row in
-        record { of = x.0; of_row = r; rank_is = place; is_moved = same_some t (new_row_of x.0 r) (sym e ∙ ap (slice_get m.left.type_def) (sym place) ∙ found) }
-      where
-        mapped : (f : RowAt → ℕ) (xs : List RowAt) (i : ℕ) (x : RowAt) → slice_get xs i ≡ Some x → slice_get (map f xs) i ≡ Some (f x)
-        mapped f [] i x e = absurd (cc)
-        mapped f (y ∷ xs) zero x e = let same : y ≡ x = cc in ap (λ (z : RowAt). Some (f z)) same
-        mapped f (y ∷ xs) (suc i) x e = mapped f xs i x e
-
-    rec : AsmRec
-    rec = there.rec
-
     -- what another type of the assembly doesn't own
     none_owns : (lt : suc at.asm < length (before m)) → position_from (owns_method (suc at.row)) 0 there.rec.type_def ≡ None → position_from (owns_method (suc (rank methods n))) 0 m.left.type_def ≡ None
     none_owns lt e = no_place (owns_method (suc (rank methods n))) m.left.type_def 0 (λ i t g. by_case (left_row i t g))
@@ -323,3 +320,141 @@ module _ (m : Merge) (is : IsMerge m) where
                 let one : l.of_row.rec ≡ there.rec = same_some l.of_row.rec there.rec (sym l.of_row.here ∙ ap (slice_get (before m)) same ∙ there.here) in
                 owns_same l.of l.of_row same
                 ∙ none_passes (owns_method (suc at.row)) there.rec.type_def l.of.row l.of_row.row e (ap (λ (r : AsmRec). slice_get r.type_def l.of.row) (sym one) ∙ l.of_row.is_row)
+
+    some_owns : (lt : suc at.asm < length (before m)) (q : ℕ) → position_from (owns_method (suc at.row)) 0 there.rec.type_def ≡ Some q
+        → m.kept (number_type (number_at types_in (before m) (at_row at.asm q))) ≡ true
+        → position_from (owns_method (suc (rank methods n))) 0 m.left.type_def ≡ Some (rank types (number_at types_in (before m) (at_row at.asm q)))
+    some_owns lt q e kept_owner =
+        let f = first_is (owns_method (suc at.row)) there.rec.type_def q e in
+        let x : RowAt = at_row at.asm q in
+        let h : IsThere types_in (before m) (at_row at.asm q) = record { rec = there.rec; here = there.here; below = place_within there.rec.type_def q f.item f.there } in
+        let r = type_row (at_row at.asm q) h lt in
+        let found = type_left m is (at_row at.asm q) r.rec r.row h lt kept_owner r.here r.is_row in
+        let one : r.rec ≡ there.rec = same_some r.rec there.rec (sym r.here ∙ there.here) in
+        let row_is : r.row ≡ f.item = same_some r.row f.item (sym r.is_row ∙ ap (λ (y : AsmRec). slice_get y.type_def q) one ∙ f.there) in
+        let zero_more : 0 + rank types (number_at types_in (before m) (at_row at.asm q)) ≡ rank types (number_at types_in (before m) (at_row at.asm q)) = omega arith in
+        at_place (owns_method (suc (rank methods n))) m.left.type_def 0 (rank types (number_at types_in (before m) (at_row at.asm q))) (new_row_of (at_row at.asm q) r) found
+        (owns_same (at_row at.asm q) r refl ∙ ap (owns_method (suc at.row)) row_is ∙ f.passes)
+        (λ i t less g. earlier_none lt q f i t less (left_row i t g)) ∙ ap Some zero_more
+      where
+        earlier_none : (lt : suc at.asm < length (before m)) (q : ℕ) (f : First (owns_method (suc at.row)) there.rec.type_def q) (i : ℕ) (t : TypeDefRow)
+            → i < rank types (number_at types_in (before m) (at_row at.asm q)) → LeftRow i t → owns_method (suc (rank methods n)) t ≡ false
+        earlier_none lt q f i t less l = ap (owns_method (suc (rank methods n))) l.is_moved ∙ by_asm (cases_eq l.of.asm at.asm)
+          where
+            lower : number_at types_in (before m) l.of < number_at types_in (before m) (at_row at.asm q)
+            lower = elim (cases_lt (number_at types_in (before m) l.of) (number_at types_in (before m) (at_row at.asm q))) [
+              | inl low ↦ low
+              | inr high ↦
+                let up = rank_rises types (number_at types_in (before m) (at_row at.asm q)) (number_at types_in (before m) l.of) high in
+                let place = l.rank_is in
+                absurd (omega (arith, up, place, less))
+            ]
+
+            by_asm : (l.of.asm ≡ at.asm) ⊎ (l.of.asm ≡ at.asm → ⊥) → owns_method (suc (rank methods n)) (new_row_of l.of l.of_row) ≡ false
+            by_asm (inr apart) = owns_other l.of l.of_row apart
+            by_asm (inl same) =
+                let one : l.of_row.rec ≡ there.rec = same_some l.of_row.rec there.rec (sym l.of_row.here ∙ ap (slice_get (before m)) same ∙ there.here) in
+                let s : rows_before types_in (before m) l.of.asm ≡ rows_before types_in (before m) at.asm = ap (rows_before types_in (before m)) same in
+                let low = lower in
+                owns_same l.of l.of_row same
+                ∙ f.earlier l.of.row l.of_row.row (omega (arith, low, s)) (ap (λ (r : AsmRec). slice_get r.type_def l.of.row) (sym one) ∙ l.of_row.is_row)
+
+  -- ---- the owner
+
+  abbrev type_place : RowAt → RowAt
+  type_place at = place m is types_in number_type (types_counted m is) at
+
+  abbrev method_place : RowAt → RowAt
+  method_place at = place m is methods_in number_method (methods_counted m is) at
+
+  owner_at : (recs : List AsmRec) (at : RowAt) (rec : AsmRec) → slice_get recs at.asm ≡ Some rec → type_of_method recs at ≡ option_map (at_row at.asm) (position_from (owns_method (suc at.row)) 0 rec.type_def)
+  owner_at recs at rec e = ap (option_and_then (λ (rec : AsmRec). option_map (at_row at.asm) (position_from (owns_method (suc at.row)) 0 rec.type_def))) e
+
+  -- no run reaches past the table
+  past_end : (row : ℕ) (t : TypeDefRow) → t.method_list_end ≤ suc row → owns_method (suc row) t ≡ false
+  past_end row t le = and_right (nat_le t.method_list_first (suc row)) (nat_lt (suc row) t.method_list_end) (le-ltb (suc row) t.method_list_end le)
+
+  input_none : (at : RowAt) (rec : AsmRec) → slice_get (before m) at.asm ≡ Some rec → suc at.asm < length (before m) → methods_in rec ≤ at.row → position_from (owns_method (suc at.row)) 0 rec.type_def ≡ None
+  input_none at rec e lt past = no_place (owns_method (suc at.row)) rec.type_def 0 (λ j t g. ends_early j t g)
+    where
+      ends_early : (j : ℕ) (t : TypeDefRow) → slice_get rec.type_def j ≡ Some t → owns_method (suc at.row) t ≡ false
+      ends_early j t g =
+          let whole = record_of m is at.asm rec e lt in
+          let within = whole.runs.methods.within j t g in
+          let size = method_size m is rec in
+          past_end at.row t (omega (arith, within, size, past))
+
+  left_none : (row : ℕ) → methods_in m.left ≤ row → position_from (owns_method (suc row)) 0 m.left.type_def ≡ None
+  left_none row past = no_place (owns_method (suc row)) m.left.type_def 0 (λ j t g. ends_early t (left_row j t g))
+    where
+      ends_early : {j : ℕ} (t : TypeDefRow) → LeftRow j t → owns_method (suc row) t ≡ false
+      ends_early t l =
+          let within = l.of_row.within in
+          let earlier = l.of_row.earlier in
+          let bound = stretch_before methods_in (before m) l.of.asm (length (before m) - 1) (l.of_row.row.method_list_end - 1) l.of_row.rec l.of_row.here (omega (arith, within)) (omega (arith, earlier)) in
+          let up = rank_rises methods (start l.of.asm + (l.of_row.row.method_list_end - 1)) (in_inputs methods_in (before m)) bound in
+          let all = how_many methods_in (before m) number_method m.kept in
+          let counted = methods_counted m is in
+          let last = ends l.of l.of_row in
+          ap (owns_method (suc row)) l.is_moved ∙ past_end row (new_row_of l.of l.of_row) (omega (arith, last, up, all, counted, past))
+
+  -- the owner of a row in the output
+  module _ (at : RowAt) (stays : IsThere methods_in (before m) at → suc at.asm < length (before m) → m.kept (number_method (number_at methods_in (before m) at)) ≡ true)
+      (owner_stays : (x : RowAt) → type_of_method (before m) at ≡ Some x → IsThere types_in (before m) x → m.kept (number_type (number_at types_in (before m) x)) ≡ true) where
+    by_place : (h : Input m is methods_in number_method (methods_counted m is) at) (o : Option ℕ) → position_from (owns_method (suc at.row)) 0 h.there.rec.type_def ≡ o
+        → option_map (at_row 0) (position_from (owns_method (suc (rank methods (number_at methods_in (before m) at)))) 0 m.left.type_def) ≡ option_map type_place (option_map (at_row at.asm) o)
+    by_place h None e = ap (option_map (at_row 0)) (none_owns at h.there h.keeps_it h.earlier e)
+    by_place h (Some q) e =
+        let f = first_is (owns_method (suc at.row)) h.there.rec.type_def q e in
+        let x : IsThere types_in (before m) (at_row at.asm q) = record { rec = h.there.rec; here = h.there.here; below = place_within h.there.rec.type_def q f.item f.there } in
+        let owner : type_of_method (before m) at ≡ Some (at_row at.asm q) = owner_at (before m) at h.there.rec h.there.here ∙ ap (option_map (at_row at.asm)) e in
+        let kept_owner = owner_stays (at_row at.asm q) owner x in
+        ap (option_map (at_row 0)) (some_owns at h.there h.keeps_it h.earlier q e kept_owner)
+        ∙ ap Some (sym (place_there m is types_in number_type (types_counted m is) (at_row at.asm q) x ∙ place_kept m is types_in number_type (types_counted m is) (at_row at.asm q) x h.earlier kept_owner))
+
+    input_owner : Input m is methods_in number_method (methods_counted m is) at → type_of_method (after m) (method_place at) ≡ option_map type_place (type_of_method (before m) at)
+    input_owner h =
+        ap (type_of_method (after m)) h.moved
+        ∙ owner_at (after m) (at_row 0 (rank methods (number_at methods_in (before m) at))) m.left (left_here m is)
+        ∙ by_place h (position_from (owns_method (suc at.row)) 0 h.there.rec.type_def) refl
+        ∙ ap (option_map type_place) (sym (owner_at (before m) at h.there.rec h.there.here))
+
+    core_by : suc at.asm ≡ length (before m) → (o : Option ℕ) → option_map (at_row 1) o ≡ option_map type_place (option_map (at_row at.asm) o)
+    core_by last None = refl
+    core_by last (Some q) = ap Some (sym (core_place m is types_in number_type (types_counted m is) (at_row at.asm q) last))
+
+    core_owner : Core m is methods_in number_method (methods_counted m is) at → type_of_method (after m) (method_place at) ≡ option_map type_place (type_of_method (before m) at)
+    core_owner h =
+        ap (type_of_method (after m)) h.moved ∙ owner_at (after m) (at_row 1 at.row) (core_of m) (core_here m is)
+        ∙ core_by h.last (position_from (owns_method (suc at.row)) 0 (core_of m).type_def)
+        ∙ ap (option_map type_place) (sym (owner_at (before m) at (core_of m) (core_before m is at h.last)))
+
+    -- a row that isn't there has no owner
+    before_none : (o : Option AsmRec) → slice_get (before m) at.asm ≡ o → Gone m is methods_in number_method (methods_counted m is) at → type_of_method (before m) at ≡ None
+    before_none None e h = ap (option_and_then (λ (rec : AsmRec). option_map (at_row at.asm) (position_from (owns_method (suc at.row)) 0 rec.type_def))) e
+    before_none (Some rec) e h =
+        let asm = place_within (before m) at.asm rec e in
+        let lt : suc at.asm < length (before m) = elim (cases_lt (suc at.asm) (length (before m))) [ inl lt ↦ lt | inr ge ↦ absurd (h.apart (omega (arith, ge, asm))) ] in
+        owner_at (before m) at rec e ∙ ap (option_map (at_row at.asm)) (input_none at rec e lt (h.none_before rec e))
+
+    after_none : (x : RowAt) → HasNone methods_in (after m) x → (x.asm ≡ 1 → ⊥) → (o : Option AsmRec) → slice_get (after m) x.asm ≡ o → type_of_method (after m) x ≡ None
+    after_none x none apart None e = ap (option_and_then (λ (rec : AsmRec). option_map (at_row x.asm) (position_from (owns_method (suc x.row)) 0 rec.type_def))) e
+    after_none x none apart (Some rec) e =
+        let two : length (after m) ≡ 2 = ap length (after_is m is) in
+        let asm = place_within (after m) x.asm rec e in
+        let first : x.asm ≡ 0 = elim (cases_lt x.asm 1) [ inl lt ↦ omega (arith, lt) | inr ge ↦ absurd (apart (omega (arith, ge, asm, two))) ] in
+        let one : rec ≡ m.left = same_some rec m.left (sym e ∙ ap (slice_get (after m)) first ∙ left_here m is) in
+        owner_at (after m) x rec e
+        ∙ ap (λ (r : AsmRec). option_map (at_row x.asm) (position_from (owns_method (suc x.row)) 0 r.type_def)) one
+        ∙ ap (option_map (at_row x.asm)) (left_none x.row (subst (λ (r : AsmRec). methods_in r ≤ x.row) one (none rec e)))
+
+    gone_owner : Gone m is methods_in number_method (methods_counted m is) at → type_of_method (after m) (method_place at) ≡ option_map type_place (type_of_method (before m) at)
+    gone_owner h =
+        after_none (method_place at) h.none_after h.not_core (slice_get (after m) (method_place at).asm) refl
+        ∙ sym (ap (option_map type_place) (before_none (slice_get (before m) at.asm) refl h))
+
+    pub owner_moved : type_of_method (after m) (method_place at) ≡ option_map type_place (type_of_method (before m) at)
+    owner_moved = elim (situation m is methods_in number_method (methods_counted m is) at stays) [
+      | inl h ↦ input_owner h
+      | inr other ↦ elim other [ inl h ↦ core_owner h | inr h ↦ gone_owner h ]
+    ]
