@@ -27,7 +27,7 @@ module _ {R B : Type 0} (recs : List AsmRec) (rows : AsmRec → List R) (f : Row
   abbrev RowsThere : List RowAt → Type 0
   RowsThere places = Every (IsThere (λ rec. length (rows rec)) recs) places
 
-  made : (at : RowAt) (rec : AsmRec) (row : R) → slice_get recs at.asm ≡ Some rec → slice_get (rows rec) at.row ≡ Some row
+  pub made : (at : RowAt) (rec : AsmRec) (row : R) → slice_get recs at.asm ≡ Some rec → slice_get (rows rec) at.row ≡ Some row
       → flat_map (λ (rec : AsmRec). map (f at rec) (listed (slice_get (rows rec) at.row))) (listed (rec_at recs at)) ≡ f at rec row ∷ []
   made at rec row here is =
       ap (λ (o : Option AsmRec). flat_map (λ (rec : AsmRec). map (f at rec) (listed (slice_get (rows rec) at.row))) (listed o)) here

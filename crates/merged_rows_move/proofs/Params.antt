@@ -29,7 +29,7 @@ use Rattle.merged_places.proofs.Kept.{keeps, those}
 use Rattle.merged_places.proofs.Rows.{row_itself, rows_one, input_below}
 use Rattle.merged_places.proofs.Kept.{Every, new_row_is}
 use Rattle.merged_places.proofs.Numbers.{new_row_at, rank_below}
-use Rattle.merged_places.proofs.Worlds.{left_is, each_length, before_input}
+use Rattle.merged_places.proofs.Worlds.{left_is, made, before_input}
 use Rattle.merged_places.proofs.Tables.{number_type, number_method, type_rows, method_rows, types_are, methods_are, types_counted, methods_counted}
 use Rattle.merged_places.proofs.Situations.{Input}
 
@@ -303,3 +303,84 @@ module _ (m : Merge) (is : IsMerge m) (at : RowAt) (h : Input m is types_in numb
     where
       zero_more : (n : ℕ) → n ≡ 0 + n
       zero_more n = omega arith
+
+-- ---- the rows of what is left
+
+abbrev All : {A : Type 0} → (A → Type 0) → List A → Type 0
+All P [] = Unit {0}
+All P (x ∷ xs) = P x × All P xs
+
+module _ {A : Type 0} (P : A → Type 0) where
+  all_append : (xs ys : List A) → All P xs → All P ys → All P (xs ++ ys)
+  all_append [] ys hs gs = gs
+  all_append (x ∷ xs) ys hs gs = (hs.0, all_append xs ys hs.1 gs)
+
+  put_if : (key : A → ℕ) (x y : A) (ys : List A) (b : Bool) → P x → P y → All P ys → All P (put key x ys) → All P (if b then x ∷ y ∷ ys else y ∷ put key x ys)
+  put_if key x y ys true h g gs more = (h, (g, gs))
+  put_if key x y ys false h g gs more = (g, more)
+
+  all_put : (key : A → ℕ) (x : A) (xs : List A) → P x → All P xs → All P (put key x xs)
+  all_put key x [] h hs = (h, hs)
+  all_put key x (y ∷ ys) h hs = put_if key x y ys (nat_lt (key x) (key y)) h hs.0 hs.1 (all_put key x ys h hs.1)
+
+  all_in : (key : A → ℕ) (sorted xs : List A) → All P sorted → All P xs → All P (put_all key sorted xs)
+  unfolding put_all
+  all_in key sorted [] gs hs = gs
+  all_in key sorted (x ∷ xs) gs hs = all_in key (put key x sorted) xs (all_put key x sorted hs.0 gs) hs.1
+
+module _ (recs : List AsmRec) (kept : Kept) where
+  abbrev Stands : SortedRow → Type 0
+  Stands x = IsThere (λ rec. length rec.generic_param) recs x.at
+
+  option_stands : (a k : ℕ) (key : ℕ → ℕ) (o : Option ℕ) → IsThere (λ rec. length rec.generic_param) recs (at_row a k) → All Stands (sorted_at a k key o)
+  option_stands a k key None h = tt
+  option_stands a k key (Some n) h = (h, tt)
+
+  each_stand : (a : ℕ) (rec : AsmRec) → slice_get recs a ≡ Some rec → (k : ℕ) (rows : List GenericParamRow) → k + length rows ≤ length rec.generic_param → All Stands (each_from (sorted_param recs kept a rec) k rows)
+  each_stand a rec e k [] le = tt
+  each_stand a rec e k (row ∷ rows) le =
+      all_append Stands (sorted_param recs kept a rec k row) (each_from (sorted_param recs kept a rec) (suc k) rows)
+      (option_stands a k (param_key row.number) (owner_token recs kept a row.owner) (record { rec = rec; here = e; below = omega (arith, le) }))
+      (each_stand a rec e (suc k) rows (omega (arith, le)))
+
+  inputs_stand : (rest : List AsmRec) (a : ℕ) → ((k : ℕ) → slice_get rest k ≡ slice_get recs (a + k))
+      → All Stands (flat_map (λ (x : ℕ × AsmRec). each_row (sorted_param recs kept x.0 x.1) x.1.generic_param) (inputs_from a rest))
+  inputs_stand [] a same = tt
+  inputs_stand (rec ∷ []) a same = tt
+  inputs_stand (rec ∷ next ∷ rest) a same =
+      let z : a ≡ a + 0 = omega arith in
+      all_append Stands (each_row (sorted_param recs kept a rec) rec.generic_param) (flat_map (λ (x : ℕ × AsmRec). each_row (sorted_param recs kept x.0 x.1) x.1.generic_param) (inputs_from (suc a) (next ∷ rest)))
+      (each_stand a rec (ap (slice_get recs) z ∙ sym (same 0)) 0 rec.generic_param (omega arith))
+      (inputs_stand (next ∷ rest) (suc a) (λ k. let y : a + suc k ≡ suc a + k = omega arith in same (suc k) ∙ ap (slice_get recs) y))
+
+  params_stand : All Stands (kept_generic_params recs kept)
+  unfolding kept_generic_params
+  params_stand =
+      all_in Stands (λ (x : SortedRow). x.key) [] (all_rows (λ rec. rec.generic_param) (sorted_param recs kept) recs) tt
+      (inputs_stand recs 0 (λ k. let z : k ≡ 0 + k = omega arith in ap (slice_get recs) z))
+
+  each_count : (token : ℕ) (xs : List SortedRow) → All Stands xs → how_many (is_param_of token) (each_sorted recs (λ rec. rec.generic_param) new_generic_param xs) ≡ how_many (is_owned_by token) xs
+  each_count token [] hs = many_none (is_param_of token) ∙ sym (many_none (is_owned_by token))
+  each_count token (x ∷ xs) hs =
+      let h = hs.0 in
+      let row = place_has h.rec.generic_param x.at.row h.below in
+      let one = made recs (λ rec. rec.generic_param) (λ (at : RowAt) (rec : AsmRec) (row : GenericParamRow). new_generic_param x.owner at.asm rec row) x.at h.rec row.0 h.here row.1 in
+      let more = each_count token xs hs.1 in
+      let rest : List GenericParamRow = each_sorted recs (λ rec. rec.generic_param) new_generic_param xs in
+      ap (λ (rows : List GenericParamRow). how_many (is_param_of token) ((rows ++ []) ++ each_sorted recs (λ rec. rec.generic_param) new_generic_param xs)) one
+      ∙ many_cons (is_param_of token) (new_generic_param x.owner x.at.asm h.rec row.0) (each_sorted recs (λ rec. rec.generic_param) new_generic_param xs)
+      ∙ ap (λ (k : ℕ). cond (x.owner == token) 1 0 + k) more ∙ sym (many_cons (is_owned_by token) x xs)
+
+module _ (m : Merge) (is : IsMerge m) (at : RowAt) (h : Input m is types_in number_type (types_counted m is) at) where
+  left_params : m.left.generic_param ≡ each_sorted (before m) (λ rec. rec.generic_param) new_generic_param (kept_generic_params (before m) m.kept)
+  unfolding output_of
+  left_params = ap (λ (rec : AsmRec). rec.generic_param) (left_is m is).is
+
+  pub params_move : param_count m.left (rank (keeps types_in (before m) number_type m.kept) (number_at types_in (before m) at)) ≡ param_count h.there.rec at.row
+  unfolding param_count how_many
+  params_move =
+      sym (length-filter (is_param_of (token_of TYPE_DEF (suc (rank (keeps types_in (before m) number_type m.kept) (number_at types_in (before m) at))))) m.left.generic_param)
+      ∙ ap (how_many (is_param_of (token_of TYPE_DEF (suc (rank (keeps types_in (before m) number_type m.kept) (number_at types_in (before m) at)))))) left_params
+      ∙ each_count (before m) m.kept (token_of TYPE_DEF (suc (rank (keeps types_in (before m) number_type m.kept) (number_at types_in (before m) at)))) (kept_generic_params (before m) m.kept) (params_stand (before m) m.kept)
+      ∙ sorted_count m is at h
+      ∙ length-filter (is_param_of (token_of TYPE_DEF (suc at.row))) h.there.rec.generic_param

@@ -13,13 +13,14 @@ use Rattle.world_model.specs.declared.known.Known.TheVariants.{Good, Bad}
 use Rattle.world_model.specs.declared.expr.TypeExpr.{TypeExpr, out-TypeExpr}
 use Rattle.world_model.specs.declared.expr.TypeExpr.TheFolds.{map-TypeExpr}
 use Rattle.world_model.specs.declared.expr.TypeExpr.TheOpen.{TypeExpr-F}
+use Rattle.world_model.specs.declared.types.TypeDefRow.{TypeDefRow}
 use Rattle.world_model.specs.declared.members.FieldRow.{FieldRow}
 use Rattle.world_model.specs.declared.record.AsmRec.{AsmRec}
 use Rattle.world_model.specs.Worlds.{known_map}
 use Rattle.link_rules.specs.declared.row_at.RowAt.{RowAt}
 use Rattle.link_rules.specs.Members.{type_home, param_count}
 use Rattle.link_rules.specs.Cycles.{listed, is_value_type}
-use Rattle.type_rules.specs.Rows.{rec_at, field_row_at, fields_of_type, is_instance_field, is_enum}
+use Rattle.type_rules.specs.Rows.{rec_at, type_row_at, field_row_at, fields_of_type, is_instance_field, is_enum}
 use Rattle.cil_values.specs.declared.definition.FieldDef.{FieldDef}
 use Rattle.cil_values.specs.declared.layout.Layout.{Layout}
 use Rattle.cil_values.specs.declared.layout.Cell.TheVariants.{Field as of_field}
@@ -42,6 +43,7 @@ use Rattle.lock_words.proofs.Fits.{number_moved}
 use Rattle.world_change_rules.specs.Places.{Places, type_numbered, keeps_type_row, keeps_field_row}
 use Rattle.world_change_rules.specs.Rows.{RowsMove}
 use Rattle.world_change_rules.specs.Kept.{KeepsRows}
+use Rattle.query_laws.proofs.Ids.{home_row}
 use Rattle.query_laws.proofs.Homes.{names_out, args_in_shown}
 use Rattle.query_laws.proofs.Wholes.{extends_moved, value_type_moved}
 use Rattle.query_laws.proofs.Lookups.{head_moved, type_row_kept}
@@ -328,26 +330,26 @@ module _ (k : Change) (kept : RowAt → Bool) (p : Places) (after before : List 
     row_by false true at h is = refl
     row_by true true at h is = value_row at h is
 
-    fits_moved : (at : RowAt) → IsTrue (keeps_type_row k.keep before at) → view.fits_params after (p.typ at) (move_exprs k.rho args) ≡ view.fits_params before at args
-    fits_moved at h = (r.types at h).params (move_exprs k.rho args) ∙ ap (λ (n : ℕ). list_any (λ (rec : AsmRec). param_count rec at.row == n) (listed (rec_at before at))) (length-map args (move_expr k.rho))
+    fits_moved : (at : RowAt) → IsTrue (keeps_type_row k.keep before at) → (t : TypeDefRow) → type_row_at before at ≡ Some t → view.fits_params after (p.typ at) (move_exprs k.rho args) ≡ view.fits_params before at args
+    fits_moved at h t is = (r.types at h).params t is (move_exprs k.rho args) ∙ ap (λ (n : ℕ). list_any (λ (rec : AsmRec). param_count rec at.row == n) (listed (rec_at before at))) (length-map args (move_expr k.rho))
 
-    row_moved : (at : RowAt) → IsTrue (keeps_type_row k.keep before at)
+    row_moved : (at : RowAt) → IsTrue (keeps_type_row k.keep before at) → (t : TypeDefRow) → type_row_at before at ≡ Some t
         → view.row_shape after later (move_exprs k.rho args) (p.typ at) ≡ move_shape k.rho (view.row_shape before earlier args at)
-    row_moved at h =
-        (λ i. if not (value_type_moved k kept p after before r keeps at h i) then reference else if not (fits_moved at h i) then no_value
+    row_moved at h t is =
+        (λ i. if not (value_type_moved k kept p after before r keeps at h i) then reference else if not (fits_moved at h t is i) then no_value
         else view.or_shape (if is_enum after (p.typ at) then view.enum_shape after (move_exprs k.rho args) (p.typ at) else None) (view.value_shape after later (move_exprs k.rho args) (p.typ at)))
         ∙ row_by (view.fits_params before at args) (is_value_type before at) at h refl
 
-    home_by : (o : Option RowAt) → ((at : RowAt) → o ≡ Some at → IsTrue (keeps_type_row k.keep before at))
+    home_by : (o : Option RowAt) → ((at : RowAt) → o ≡ Some at → IsTrue (keeps_type_row k.keep before at)) → ((at : RowAt) → o ≡ Some at → (t : TypeDefRow) × (type_row_at before at ≡ Some t))
         → view.home_shape after later (move_exprs k.rho args) (option_map p.typ o) ≡ move_shape k.rho (view.home_shape before earlier args o)
-    home_by None h = refl
-    home_by (Some at) h = row_moved at (h at refl)
+    home_by None h there = refl
+    home_by (Some at) h there = let row = there at refl in row_moved at (h at refl) row.0 row.1
 
     pub home_shape_moved : (t : ℕ) → IsTrue (k.keep.typ t)
         → view.home_shape after later (move_exprs k.rho args) (type_home after (type_numbered (k.rho.typ t))) ≡ move_shape k.rho (view.home_shape before earlier args (type_home before (type_numbered t)))
     home_shape_moved t h =
         ap (view.home_shape after later (move_exprs k.rho args)) (r.places.type_homes t h)
-        ∙ home_by (type_home before (type_numbered t)) (λ at is. type_row_kept k kept p after before r t at h is)
+        ∙ home_by (type_home before (type_numbered t)) (λ at is. type_row_kept k kept p after before r t at h is) (λ at is. home_row before t at is)
 
   -- ---- a type
 
