@@ -2,5 +2,8 @@ pub mod Flags
 pub mod Runs
 pub mod Members
 pub mod RowsOf
+pub mod Owners
+pub mod Params
+pub mod Heads
 pub mod Core
 pub mod Whole

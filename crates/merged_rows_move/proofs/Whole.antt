@@ -37,9 +37,11 @@ use Rattle.merged_places.proofs.Rows.{IsThere}
 use Rattle.merged_places.proofs.Worlds.{after_is}
 use Rattle.merged_places.proofs.Situations.{place, situation, Input, Core, Gone}
 use Rattle.merged_places.proofs.Tables.{number_type, number_method, number_field, types_counted, methods_counted, fields_counted}
-use Rattle.merged_places.proofs.Whole.{there_row, type_stays, method_stays, field_stays}
+use Rattle.merged_places.proofs.Whole.{row_there, there_row, type_stays, method_stays, field_stays}
 use Rattle.merged_rows_move.specs.Laws.{MembersMove, TypeMarks, MethodMarks, MarksMove}
 use Rattle.merged_rows_move.proofs.Members.{methods_move, fields_move, core_place}
+use Rattle.merged_rows_move.proofs.Owners.{owner_moved}
+use Rattle.merged_rows_move.proofs.Heads.{head_moved, fits_moved}
 use Rattle.merged_rows_move.proofs.RowsOf.{LikeMethod, interface_moved, explicit_moved, method_row_moved, method_row_absent, instance_moved}
 
 module _ (m : Merge) (k : Keep) (kept : RowAt → Bool) (is : IsMerge m) (flags : HasFlags m k kept) where
@@ -120,6 +122,8 @@ module _ (m : Merge) (k : Keep) (kept : RowAt → Bool) (is : IsMerge m) (flags 
   type_marks : (at : RowAt) → IsTrue (keeps_type_row k (before m) at) → TypeMarks m at
   unfolding kept_types
   type_marks at keeps = record {
+    head = head_moved m is at (λ h lt. type_stays m k kept flags at h keeps);
+    params = λ t e args. fits_moved m is at (λ h lt. type_stays m k kept flags at h keeps) (row_there (λ rec. rec.type_def) (before m) at t e) args;
     interface = interface_moved m is at (λ h lt. type_stays m k kept flags at h keeps);
     explicit = ap (λ (b : Bool). b || false) (explicit_moved m is at (λ h lt. type_stays m k kept flags at h keeps));
     core_row = λ token. core_test at keeps (λ r. nat_eq (token_of TYPE_DEF (suc r)) token);
@@ -134,10 +138,11 @@ module _ (m : Merge) (k : Keep) (kept : RowAt → Bool) (is : IsMerge m) (flags 
   same_method r s l = record { name = l.name; virtual = l.virtual; static = l.static; new_slot = l.new_slot; public = l.public }
 
   method_marks : (at : RowAt) → IsTrue (keeps_method_row k (before m) at) → MethodMarks m at
-  unfolding kept_methods
+  unfolding kept_types kept_methods
   method_marks at keeps = record {
     there = λ r e. let got = method_row_moved m is at r (λ h lt. method_stays m k kept flags at h keeps) e in (got.0, got.1, same_method got.0 r got.2);
     absent = λ e. method_row_absent m is at (λ h lt. method_stays m k kept flags at h keeps) e;
+    owner = owner_moved m is at (λ h lt. method_stays m k kept flags at h keeps) (λ x e h. type_stays m k kept flags x h (flags.keeps.owners at x keeps e));
   }
 
   field_instance : (at : RowAt) → IsTrue (keeps_field_row k (before m) at) → is_instance_field (after m) ((places_of m).field at) ≡ is_instance_field (before m) at
