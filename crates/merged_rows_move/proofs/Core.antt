@@ -157,15 +157,15 @@ module _ (m : Merge) (is : IsMerge m) where
   methods_same : methods_in (core_of m) ≡ length core_record.method_def
   methods_same = ap methods_in core_is ∙ ap length (methods_are names)
 
-  before_types : core_types (before m) ≡ (core_of m).type_def
+  pub before_types : core_types (before m) ≡ (core_of m).type_def
   before_types = ap core_types (before_is m) ∙ types_behind m.inputs (core_of m)
 
-  after_types : core_types (after m) ≡ (core_of m).type_def
+  pub after_types : core_types (after m) ≡ (core_of m).type_def
   after_types = ap core_types (after_is m is) ∙ types_behind (m.left ∷ []) (core_of m)
 
   -- ---- places behind the rows of inputs
 
-  last_before : length (before m) - 1 ≡ length m.inputs
+  pub last_before : length (before m) - 1 ≡ length m.inputs
   last_before = let long = before_length m in omega (arith, long)
 
   last_there : slice_get (before m) (length (before m) - 1) ≡ Some (core_of m)
@@ -185,7 +185,7 @@ module _ (m : Merge) (is : IsMerge m) where
   core_type_there : (r : ℕ) → r < types_in (core_of m) → IsThere types_in (before m) (at_row (length (before m) - 1) r)
   core_type_there r lt = record { rec = core_of m; here = last_there; below = lt }
 
-  type_moved : (r : ℕ) → r < types_in (core_of m) → (type_id (after m) (length (after m) - 1) r).0 ≡ (rho_of m).typ (type_id (before m) (length (before m) - 1) r).0
+  pub type_moved : (r : ℕ) → r < types_in (core_of m) → (type_id (after m) (length (after m) - 1) r).0 ≡ (rho_of m).typ (type_id (before m) (length (before m) - 1) r).0
   unfolding kept_types
   type_moved r lt =
       let long = before_length m in
