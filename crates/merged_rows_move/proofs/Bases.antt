@@ -14,6 +14,7 @@ use Rattle.world_model.specs.declared.expr.TypeExpr.{TypeExpr, out-TypeExpr}
 use Rattle.world_model.specs.declared.expr.TypeExpr.TheOpen.{TypeExpr-F}
 use Rattle.world_model.specs.declared.expr.TypeExpr as expr
 use Rattle.world_model.specs.declared.types.TypeDefRow.{TypeDefRow}
+use Rattle.world_model.specs.declared.types.TypeRefRow.{TypeRefRow}
 use Rattle.world_model.specs.declared.types.TypeSpecRow.{TypeSpecRow}
 use Rattle.world_model.specs.declared.record.AsmRec.{AsmRec}
 use Rattle.world_model.specs.Tokens.{table_of, index_in}
@@ -123,10 +124,14 @@ module _ (m : Merge) (is : IsMerge m) where
   base_met at h t row some k key =
       Contains-append_left (met_by_types (before m) m.kept) (met_by_attributes (before m) m.kept) (met_type k)
       (in_flat (met_in_type (before m) m.kept) (type_rows m is) (new at) at (met_type k) (those_at types_in (before m) number_type m.kept at h.there h.earlier h.keeps_it)
-      (front (met_extends (before m) at) _ (met_type k) (extends_met (before m) at h.there.rec t h.there.here row k some key)))
+      (first_of_nine (extends_met (before m) at h.there.rec t h.there.here row k some key)))
     where
-      front : (xs ys : List Met) (x : Met) → Contains xs x → Contains (xs ++ ys) x
-      front xs ys x c = Contains-append_left xs ys x c
+      -- the base is met before interfaces, fields, methods, constraints, properties, events and MethodImpl rows
+      first_of_nine : {a b c d e f g i j : List Met} {x : Met} → Contains a x → Contains (a ++ b ++ c ++ d ++ e ++ f ++ g ++ i ++ j) x
+      first_of_nine {a} {b} {c} {d} {e} {f} {g} {i} {j} {x} h =
+          Contains-append_left (a ++ b ++ c ++ d ++ e ++ f ++ g ++ i) j x (Contains-append_left (a ++ b ++ c ++ d ++ e ++ f ++ g) i x (Contains-append_left (a ++ b ++ c ++ d ++ e ++ f) g x
+          (Contains-append_left (a ++ b ++ c ++ d ++ e) f x (Contains-append_left (a ++ b ++ c ++ d) e x (Contains-append_left (a ++ b ++ c) d x
+          (Contains-append_left (a ++ b) c x (Contains-append_left a b x h)))))))
 
   -- ---- of an input
 
@@ -183,7 +188,7 @@ module _ (m : Merge) (is : IsMerge m) where
 
   ref_none : (recs : List AsmRec) (a k : ℕ) → ref_definition recs a (core_of m) k ≡ None
   unfolding ref_definition ref_type
-  ref_none recs a k = ap (λ (refs : List _). option_and_then (listed_at recs) (ref_type recs a (core_of m) (length refs) k)) no_refs
+  ref_none recs a k = ap (λ (refs : List TypeRefRow). option_and_then (listed_at recs) (ref_type recs a (core_of m) (length refs) k)) no_refs
 
   two : length (after m) ≡ 2
   two = ap length (after_is m is)

@@ -31,6 +31,7 @@ use Rattle.view_rules.specs.Members.{core_call, call_of, core_type_row, is_type_
 use Rattle.view_rules.specs.Answers.{core_type_id, core_method_id}
 use Rattle.change_rules.specs.Change.{Keep, Undone}
 use Rattle.change_rules.specs.Moves.{move_type}
+use Rattle.world_change_rules.specs.Places.{type_numbered}
 use Rattle.world_change_rules.specs.Rows.{CoreMoves}
 use Rattle.merged_world_rules.specs.Merge.{Merge, IsMerge, before, after}
 use Rattle.merged_world_rules.specs.Numbering.{in_inputs, in_all, number_at}
@@ -81,9 +82,12 @@ method_below n = let lt = position_below (is_name n) (flat_map names_of TYPES) (
 array_index : index_in TYPE_DEF ARRAY ≡ Some 21
 array_index = refl
 
-array_below : 21 < length core_record.type_def
+array_test : nat_lt 21 (length core_record.type_def) ≡ true
 unfolding core_record record_with type_rows
-array_below = omega arith
+array_test = refl
+
+array_below : 21 < length core_record.type_def
+array_below = ltb-true 21 (length core_record.type_def) array_test
 
 -- no member stands behind the last
 member_past : (ts : List CoreType) (at : ℕ) → length (all_methods ts) ≤ at → member_in ts at ≡ None
@@ -92,8 +96,9 @@ member_past [] at le = refl
 member_past (t ∷ ts) at le =
     let split = length-append (method_rows (methods_of t.members)) (all_methods ts) in
     let long = length-map (methods_of t.members) method_row in
-    ap (λ (b : Bool). if b then owned t.name (slice_get (methods_of t.members) at) else member_in ts (at - length (methods_of t.members))) (le-ltb at (length (methods_of t.members)) (omega (arith, split, long, le)))
-    ∙ member_past ts (at - length (methods_of t.members)) (omega (arith, split, long, le))
+    let whole : length (method_rows (methods_of t.members) ++ all_methods ts) ≤ at = le in
+    ap (λ (b : Bool). if b then owned t.name (slice_get (methods_of t.members) at) else member_in ts (at - length (methods_of t.members))) (le-ltb at (length (methods_of t.members)) (omega (arith, split, long, whole)))
+    ∙ member_past ts (at - length (methods_of t.members)) (omega (arith, split, long, whole))
 
 record_methods : length core_record.method_def ≡ length (all_methods TYPES)
 unfolding core_record record_with
@@ -120,9 +125,13 @@ types_behind (x ∷ y ∷ xs) c = types_behind (y ∷ xs) c
 -- a method by its number: of an input, or of the core library
 row_low : (xs : List AsmRec) (c : AsmRec) (n : ℕ) → n < rows_before methods_in (xs ++ c ∷ []) (length xs) → core_row (xs ++ c ∷ []) n ≡ None
 unfolding core_row rows_before
-row_low [] c n lt = absurd (omega arith)
-row_low (x ∷ []) c n lt = ap (λ (b : Bool). if b then None else Some (n - length x.method_def)) (lt-ltb n (length x.method_def) (omega arith))
-row_low (x ∷ y ∷ xs) c n lt = by_case (cases_lt n (length x.method_def)) (λ ge. row_low (y ∷ xs) c (n - length x.method_def) (omega (arith, ge)))
+row_low [] c n lt = let z : n < 0 = lt in absurd (omega (arith, z))
+row_low (x ∷ []) c n lt =
+    let z : n < length x.method_def + 0 = lt in
+    ap (λ (b : Bool). if b then None else Some (n - length x.method_def)) (lt-ltb n (length x.method_def) (omega (arith, z)))
+row_low (x ∷ y ∷ xs) c n lt =
+    let z : n < length x.method_def + rows_before methods_in (y ∷ xs ++ c ∷ []) (suc (length xs)) = lt in
+    by_case (cases_lt n (length x.method_def)) (λ ge. let less : n - length x.method_def < rows_before methods_in (y ∷ xs ++ c ∷ []) (suc (length xs)) = omega (arith, ge, z) in row_low (y ∷ xs) c (n - length x.method_def) less)
   where
     by_case : (n < length x.method_def) ⊎ (length x.method_def ≤ n) → (length x.method_def ≤ n → core_row (y ∷ xs ++ c ∷ []) (n - length x.method_def) ≡ None)
         → (if nat_lt n (length x.method_def) then None else core_row (y ∷ xs ++ c ∷ []) (n - length x.method_def)) ≡ None
@@ -131,12 +140,17 @@ row_low (x ∷ y ∷ xs) c n lt = by_case (cases_lt n (length x.method_def)) (λ
 
 row_high : (xs : List AsmRec) (c : AsmRec) (n : ℕ) → rows_before methods_in (xs ++ c ∷ []) (length xs) ≤ n → core_row (xs ++ c ∷ []) n ≡ Some (n - rows_before methods_in (xs ++ c ∷ []) (length xs))
 unfolding core_row rows_before
-row_high [] c n ge = ap Some (omega arith)
+row_high [] c n ge = let z : n ≡ n - 0 = omega arith in ap Some z
 row_high (x ∷ []) c n ge =
-    ap (λ (b : Bool). if b then None else Some (n - length x.method_def)) (le-ltb n (length x.method_def) (omega arith)) ∙ ap Some (omega arith)
+    let z : length x.method_def + 0 ≤ n = ge in
+    let less : n - length x.method_def ≡ n - (length x.method_def + 0) = omega arith in
+    ap (λ (b : Bool). if b then None else Some (n - length x.method_def)) (le-ltb n (length x.method_def) (omega (arith, z))) ∙ ap Some less
 row_high (x ∷ y ∷ xs) c n ge =
-    ap (λ (b : Bool). if b then None else core_row (y ∷ xs ++ c ∷ []) (n - length x.method_def)) (le-ltb n (length x.method_def) (omega arith))
-    ∙ row_high (y ∷ xs) c (n - length x.method_def) (omega arith) ∙ ap Some (omega arith)
+    let z : length x.method_def + rows_before methods_in (y ∷ xs ++ c ∷ []) (suc (length xs)) ≤ n = ge in
+    let rest : rows_before methods_in (y ∷ xs ++ c ∷ []) (suc (length xs)) ≤ n - length x.method_def = omega (arith, z) in
+    let less : n - length x.method_def - rows_before methods_in (y ∷ xs ++ c ∷ []) (suc (length xs)) ≡ n - (length x.method_def + rows_before methods_in (y ∷ xs ++ c ∷ []) (suc (length xs))) = omega arith in
+    ap (λ (b : Bool). if b then None else core_row (y ∷ xs ++ c ∷ []) (n - length x.method_def)) (le-ltb n (length x.method_def) (omega (arith, z)))
+    ∙ row_high (y ∷ xs) c (n - length x.method_def) rest ∙ ap Some less
 
 -- ---- in a merge
 
@@ -204,7 +218,7 @@ module _ (m : Merge) (is : IsMerge m) where
   typed_by : (o : Option ℕ) → ((r : ℕ) → o ≡ Some r → r < types_in (core_of m))
       → option_map (λ (r : ℕ). type_id (after m) (length (after m) - 1) r) o ≡ option_map (move_type (rho_of m)) (option_map (λ (r : ℕ). type_id (before m) (length (before m) - 1) r) o)
   typed_by None h = refl
-  typed_by (Some r) h = ap (λ (n : ℕ). Some (record { 0 = n })) (type_moved r (h r refl))
+  typed_by (Some r) h = ap (λ (n : ℕ). Some (type_numbered n)) (type_moved r (h r refl))
 
   prims_move : (n : ℕ) → prim_type (after m) n ≡ option_map (move_type (rho_of m)) (prim_type (before m) n)
   unfolding prim_type
@@ -248,12 +262,16 @@ module _ (m : Merge) (is : IsMerge m) where
   bound_after = one_row methods_in m.left (core_of m) ∙ methods_counted m is
 
   after_low : (n : ℕ) → n < length (kept_method_rows m is) → core_row (after m) n ≡ None
-  after_low n lt = let b = bound_after in ap (λ (recs : List AsmRec). core_row recs n) (after_is m is) ∙ row_low (m.left ∷ []) (core_of m) n (omega (arith, lt, b))
+  after_low n lt =
+      let b = bound_after in
+      let less : n < rows_before methods_in (m.left ∷ core_of m ∷ []) 1 = omega (arith, lt, b) in
+      ap (λ (recs : List AsmRec). core_row recs n) (after_is m is) ∙ row_low (m.left ∷ []) (core_of m) n less
 
   after_high : (n : ℕ) → length (kept_method_rows m is) ≤ n → core_row (after m) n ≡ Some (n - length (kept_method_rows m is))
   after_high n ge =
       let b = bound_after in
-      ap (λ (recs : List AsmRec). core_row recs n) (after_is m is) ∙ row_high (m.left ∷ []) (core_of m) n (omega (arith, ge, b)) ∙ ap (λ (k : ℕ). Some (n - k)) b
+      let more : rows_before methods_in (m.left ∷ core_of m ∷ []) 1 ≤ n = omega (arith, ge, b) in
+      ap (λ (recs : List AsmRec). core_row recs n) (after_is m is) ∙ row_high (m.left ∷ []) (core_of m) n more ∙ ap (λ (k : ℕ). Some (n - k)) b
 
   abbrev called : Option ℕ → Option CoreCall
   called o = option_and_then call_of (option_and_then (member_in TYPES) o)
@@ -295,7 +313,6 @@ module _ (m : Merge) (is : IsMerge m) where
         let past = none_past methods_in (before m) n e in
         let all = before_all in
         let new = new_none methods_in (before m) number_method m.kept n e in
-        let whole : ℕ = length (kept_method_rows m is) + in_all methods_in (before m) + n in
         ap (λ (i : ℕ). called (core_row (after m) i)) new
         ∙ ap called (after_high (length (kept_method_rows m is) + in_all methods_in (before m) + n) (omega arith))
         ∙ ap (option_and_then call_of) (past_is (length (kept_method_rows m is) + in_all methods_in (before m) + n - length (kept_method_rows m is)) (omega (arith, all)))

@@ -29,6 +29,9 @@ use Rattle.merged_rows_move.proofs.Members.{left_here, core_here, core_before}
 use Rattle.merged_rows_move.proofs.RowsOf.{type_like, TypeStays}
 use Rattle.merged_rows_move.proofs.Params.{params_move}
 
+abbrev head_with : ℕ → ℕ → Head
+head_with flags params = record { flags = flags; params = params }
+
 abbrev head_by : RowAt → AsmRec → TypeDefRow → Head
 head_by at rec t = record { flags = bit_and t.flags seen.TYPE; params = param_count rec at.row }
 
@@ -65,7 +68,7 @@ module _ (m : Merge) (is : IsMerge m) where
       let params = params_move m is at h in
       ap (head_at (after m)) h.moved ∙ head_of (after m) (at_row 0 (new at)) m.left (left_here m is)
       ∙ ap (option_map (head_by (at_row 0 (new at)) m.left)) left
-      ∙ (λ i. Some (record { flags = like.seen i; params = params i }))
+      ∙ (λ i. Some (head_with (like.seen i) (params i)))
       ∙ sym (head_of (before m) at h.there.rec h.there.here ∙ ap (option_map (head_by at h.there.rec)) row.1)
 
   core_head : (at : RowAt) → Core m is types_in number_type (types_counted m is) at → head_at (after m) (typ at) ≡ head_at (before m) at
