@@ -37,13 +37,15 @@ module _ (recs : List AsmRec) where
   has_by f slot None e h = absurd (cc)
   has_by f slot (Some s) e h = slot_there f s e
 
+  place_by : (a k : ℕ) (slot f : RowAt) (rest : Option ℕ) (b : Bool) → has_slot recs slot (at_row a k) ≡ b → (option_map (at_row a) rest ≡ Some f → IsMethodThere recs f)
+      → option_map (at_row a) (if b then Some k else rest) ≡ Some f → IsMethodThere recs f
+  place_by a k slot f rest true t more h = subst (IsMethodThere recs) (some_of (at_row a k) f h) (has_by (at_row a k) slot (slot_of recs (at_row a k)) refl t)
+  place_by a k slot f rest false t more h = more h
+
   placed_by : (a : ℕ) (slot f : RowAt) (ks : List ℕ) → option_map (at_row a) (place_that (λ k. has_slot recs slot (at_row a k)) ks) ≡ Some f → IsMethodThere recs f
   placed_by a slot f [] h = absurd (cc)
-  placed_by a slot f (k ∷ ks) h = by_test (has_slot recs slot (at_row a k)) refl h
-    where
-      by_test : (b : Bool) → has_slot recs slot (at_row a k) ≡ b → option_map (at_row a) (if b then Some k else place_that (λ k. has_slot recs slot (at_row a k)) ks) ≡ Some f → IsMethodThere recs f
-      by_test true t h = subst (IsMethodThere recs) (some_of (at_row a k) f h) (has_by (at_row a k) slot (slot_of recs (at_row a k)) refl t)
-      by_test false t h = placed_by a slot f ks h
+  placed_by a slot f (k ∷ ks) h =
+      place_by a k slot f (place_that (λ k. has_slot recs slot (at_row a k)) ks) (has_slot recs slot (at_row a k)) refl (placed_by a slot f ks) h
 
   in_slot_there : (slot : RowAt) (e : TypeExpr) (f : RowAt) → slot_in recs slot e ≡ Some f → IsMethodThere recs f
   unfolding slot_in
@@ -80,13 +82,15 @@ module _ (recs : List AsmRec) where
   row_there t declares at rec row f true h = uses_by t declares f (good_use (generic_method recs at.asm rec row.declaration)) (good_use (generic_method recs at.asm rec row.body)) h
   row_there t declares at rec row f false h = absurd (cc)
 
+  either_there : (f : RowAt) (first rest : Option RowAt) → (first ≡ Some f → IsMethodThere recs f) → (rest ≡ Some f → IsMethodThere recs f) → or_else first rest ≡ Some f → IsMethodThere recs f
+  either_there f None rest here more h = more h
+  either_there f (Some x) rest here more h = here h
+
   first_there : (t : TypeExpr) (declares : MethodUse → Bool) (at : RowAt) (rec : AsmRec) (rows : List MethodImplRow) (f : RowAt) → first_impl (impl_of_row recs t declares at rec) rows ≡ Some f → IsMethodThere recs f
   first_there t declares at rec [] f h = absurd (cc)
-  first_there t declares at rec (row ∷ rows) f h = by_first (impl_of_row recs t declares at rec row) refl h
-    where
-      by_first : (o : Option RowAt) → impl_of_row recs t declares at rec row ≡ o → or_else o (first_impl (impl_of_row recs t declares at rec) rows) ≡ Some f → IsMethodThere recs f
-      by_first None e h = first_there t declares at rec rows f h
-      by_first (Some x) e h = row_there t declares at rec row f (row.class == token_of TYPE_DEF (suc at.row)) (e ∙ h)
+  first_there t declares at rec (row ∷ rows) f h =
+      either_there f (impl_of_row recs t declares at rec row) (first_impl (impl_of_row recs t declares at rec) rows)
+      (λ e. row_there t declares at rec row f (row.class == token_of TYPE_DEF (suc at.row)) e) (first_there t declares at rec rows f) h
 
   in_impl_there : (declares : MethodUse → Bool) (t : TypeExpr) (f : RowAt) → impl_in recs declares t ≡ Some f → IsMethodThere recs f
   unfolding impl_in
@@ -96,15 +100,11 @@ module _ (recs : List AsmRec) where
 
   -- ---- a virtual call
 
-  class_by : (slot : RowAt) (t : TypeExpr) (f : RowAt) (o : Option RowAt) → impl_in recs (declares_slot recs slot) t ≡ o → or_else o (slot_in recs slot t) ≡ Some f → IsMethodThere recs f
-  class_by slot t f None e h = in_slot_there slot t f h
-  class_by slot t f (Some x) e h = in_impl_there (declares_slot recs slot) t f (e ∙ h)
-
   class_there : (e : TypeExpr) (slot f : RowAt) → class_dispatch recs e slot ≡ Some f → IsMethodThere recs f
   unfolding class_dispatch
   class_there e slot f h =
       let n = nearest_is (class_method_in recs slot) (with_bases recs e) f h in
-      class_by slot n.0 f (impl_in recs (declares_slot recs slot) n.0) refl n.2
+      either_there f (impl_in recs (declares_slot recs slot) n.0) (slot_in recs slot n.0) (in_impl_there (declares_slot recs slot) n.0 f) (in_slot_there slot n.0 f) n.2
 
   any_there : (e : TypeExpr) (o : Option RowAt) (f : RowAt) → option_and_then (class_dispatch recs e) o ≡ Some f → IsMethodThere recs f
   any_there e None f h = absurd (cc)

@@ -83,13 +83,13 @@ module _ (recs : List AsmRec) (at : RowAt) where
   initializer_is = by_rec (slice_get recs at.asm) refl
 
   -- an initializer is a row
+  first_by : (x m : RowAt) (rest : Option RowAt) (b : Bool) → starts_at recs x ≡ b → (rest ≡ Some m → starts_at recs m ≡ true) → (if b then Some x else rest) ≡ Some m → starts_at recs m ≡ true
+  first_by x m rest true t more h = let same : x ≡ m = cc in subst (λ (y : RowAt). starts_at recs y ≡ true) same t
+  first_by x m rest false t more h = more h
+
   first_starts : (xs : List RowAt) (m : RowAt) → first_at (starts_at recs) xs ≡ Some m → starts_at recs m ≡ true
   first_starts [] m e = absurd (cc)
-  first_starts (x ∷ xs) m e = by_test (starts_at recs x) refl e
-    where
-      by_test : (b : Bool) → starts_at recs x ≡ b → (if b then Some x else first_at (starts_at recs) xs) ≡ Some m → starts_at recs m ≡ true
-      by_test true t h = let same : x ≡ m = cc in subst (λ (y : RowAt). starts_at recs y ≡ true) same t
-      by_test false t h = first_starts xs m h
+  first_starts (x ∷ xs) m e = first_by x m (first_at (starts_at recs) xs) (starts_at recs x) refl (first_starts xs m) e
 
   row_of_start : (m : RowAt) (o : Option MethodDefRow) → method_row_at recs m ≡ o → (list_any named_so (listed o) && gives_nothing (type_of_row recs m)) ≡ true
       → (d : MethodDefRow) × (method_row_at recs m ≡ Some d)
