@@ -1,5 +1,5 @@
 -- What a virtual call finds is a row.
-use Rattle.std.proofs.Common.{◌≡◌, ℕ, suc, Bool, true, false, List, [], ◌∷◌, Option, Some, None, refl, ap, subst, ◌∙◌}
+use Rattle.std.proofs.Common.{◌≡◌, ℕ, suc, ◌-◌, Bool, true, false, List, [], ◌∷◌, length, Option, Some, None, refl, ap, subst, ◌∙◌}
 use Rattle.std.specs.Prelude.{slice_get, ◌&&◌, ◌==◌, if◌then◌else◌}
 use Rattle.std.specs.List.{list_any, range_with_len}
 use Rattle.std.specs.Option.{option_map, option_and_then}
@@ -51,7 +51,7 @@ module _ (recs : List AsmRec) where
   unfolding slot_in
   in_slot_there slot e f h =
       let d = defined recs (slot_in_run recs slot) e f h in
-      placed_by d.home.asm slot f (range_with_len _ _) d.found
+      placed_by d.home.asm slot f (range_with_len (d.row.method_list_first - 1) (length (run_of d.row.method_list_first d.row.method_list_end d.rec.method_def))) d.found
 
   -- ---- a body of a MethodImpl row
 
