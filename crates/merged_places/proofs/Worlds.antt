@@ -86,7 +86,7 @@ placed_get ms j m e = with_get (rvas_behind [] (bodies_of ms)) ms j m (rvas_fit 
 
 -- ---- the worlds
 
-pub core_of : Merge → AsmRec
+unfoldable pub core_of : Merge → AsmRec
 core_of m = core_with core_record (missing_names (m.inputs ++ core_record ∷ []))
 
 pub before_is : (m : Merge) → before m ≡ m.inputs ++ core_of m ∷ []
