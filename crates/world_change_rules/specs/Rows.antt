@@ -9,6 +9,7 @@ use Rattle.world_model.specs.declared.expr.TypeExpr.{TypeExpr}
 use Rattle.world_model.specs.declared.expr.MethodUse.{MethodUse}
 use Rattle.world_model.specs.declared.members.MethodDefRow.{MethodDefRow}
 use Rattle.world_model.specs.declared.members.MethodImplRow.{MethodImplRow}
+use Rattle.world_model.specs.declared.types.TypeDefRow.{TypeDefRow}
 use Rattle.world_model.specs.declared.types.InterfaceImplRow.{InterfaceImplRow}
 use Rattle.world_model.specs.declared.record.AsmRec.{AsmRec}
 use Rattle.world_model.specs.Tokens.{token_of}
@@ -18,7 +19,7 @@ use Rattle.link_rules.specs.declared.member_type.MethodType.{MethodType}
 use Rattle.link_rules.specs.Types.{at_row}
 use Rattle.link_rules.specs.Members.{array_type, base_at, generic_method}
 use Rattle.link_rules.specs.Cycles.{listed, interface_of, interfaces_at, is_interface_at, is_core_row_at}
-use Rattle.type_rules.specs.Rows.{each_row, methods_of_type, fields_of_type, is_instance_field}
+use Rattle.type_rules.specs.Rows.{type_row_at, each_row, methods_of_type, fields_of_type, is_instance_field}
 use Rattle.type_rules.specs.Slots.{is_static, is_virtual, is_new_slot, is_public, method_row_at, type_of_method, type_of_row}
 use Rattle.type_rules.specs.Dispatch.{good_use}
 use Rattle.type_rules.specs.Texts.{name_at}
@@ -98,7 +99,8 @@ pub record TypeMoves (k : Change) (kept : RowAt → Bool) (p : Places) (after be
   pub impls : impls_at after (p.typ at) ≡ map (move_impl k.rho) (filter (keeps_impl k.keep) (impls_at before at))
   pub core_row : (token : ℕ) → is_core_row_at after token (p.typ at) ≡ is_core_row_at before token at
   pub core_name : core_name_at after (p.typ at) ≡ core_name_at before at
-  pub params : (args : List TypeExpr) → fits_params after (p.typ at) args ≡ fits_params before at args
+  -- of a row that is there
+  pub params : (t : TypeDefRow) → type_row_at before at ≡ Some t → (args : List TypeExpr) → fits_params after (p.typ at) args ≡ fits_params before at args
   pub core_type : (name : CoreName) → is_core_type after name (p.typ at) ≡ is_core_type before name at
 
 -- ---- a method's row

@@ -1,0 +1,9 @@
+pub mod Ranks
+pub mod Rows
+pub mod Kept
+pub mod Numbers
+pub mod Worlds
+pub mod Moving
+pub mod Situations
+pub mod Tables
+pub mod Whole

@@ -1,0 +1,161 @@
+-- New numbers of the rows of one kind, and the way back.
+use Rattle.std.proofs.Common.{◌≡◌, ◌<◌, ◌≤◌, ℕ, zero, suc, ◌+◌, ◌-◌, Bool, true, false, cond, nat_lt, List, [], ◌∷◌, ◌++◌, length, Option, Some, None, refl, sym, ap, subst, ◌∙◌, arith}
+use Rattle.std.specs.Prelude.{if◌then◌else◌, slice_get, nat_le, ◌&&◌, unwrap_or}
+use Rattle.std.specs.Option.{option_map, option_and_then}
+use Rattle.std.specs.List.{position_from}
+use Rattle.std.proofs.lemmas.Bool.{lt-ltb, le-ltb, ltb-true, ltb-false, le-leb, lt-leb, leb-true, leb-false, and_parts, and_from, and_left, and_right}
+use Rattle.std.proofs.lemmas.Iterator.Adapters.{position_from-zero}
+use Rattle.il_base.specs.declared.ids.Item.{Item}
+use Rattle.world_model.specs.declared.record.AsmRec.{AsmRec}
+use Rattle.world_model.specs.Worlds.{rows_before}
+use Rattle.link_rules.specs.declared.row_at.RowAt.{RowAt}
+use Rattle.link_rules.specs.Types.{at_row}
+use Rattle.link_rules.specs.Cycles.{same_row}
+use Rattle.link_rules.specs.Members.{home_from}
+use Rattle.merge_rules.specs.Numbers.{Kept, new_row}
+use Rattle.merged_world_rules.specs.Numbering.{in_inputs, in_all, number_at, other_number, new_number, other_back, old_number, place_numbered}
+use Rattle.merged_places.proofs.Ranks.{rank, rank_kept, rank_rises}
+use Rattle.merged_places.proofs.Rows.{rows_one, place_past, place_within, IsThere, home_there, home_number, home_below, there_home, no_home, none_past, input_below, core_number}
+use Rattle.merged_places.proofs.Kept.{keeps, those, how_many, new_row_is, new_row_core}
+
+-- ---- numbers that aren't of kept rows
+
+other_by : (kept below all n : ℕ) (b : Bool) → (nat_le below n && nat_lt n all) ≡ b → other_back kept below all (if b then kept + (n - below) else kept + all + n) ≡ n
+other_by kept below all n true e =
+    let p = and_parts (nat_le below n) (nat_lt n all) e in
+    let ge : below ≤ n = leb-true below n p.0 in
+    let lt : n < all = ltb-true n all p.1 in
+    let t : nat_lt (kept + (n - below)) (kept + all) ≡ true = lt-ltb (kept + (n - below)) (kept + all) (omega (arith, ge, lt)) in
+    let back : kept + (n - below) - kept + below ≡ n = omega (arith, ge) in
+    ap (λ (c : Bool). if c then kept + (n - below) - kept + below else kept + (n - below) - (kept + all)) t ∙ back
+other_by kept below all n false e =
+    let t : nat_lt (kept + all + n) (kept + all) ≡ false = le-ltb (kept + all + n) (kept + all) (omega arith) in
+    let back : kept + all + n - (kept + all) ≡ n = omega arith in
+    ap (λ (c : Bool). if c then kept + all + n - kept + below else kept + all + n - (kept + all)) t ∙ back
+
+other_undone : (kept below all n : ℕ) → other_back kept below all (other_number kept below all n) ≡ n
+other_undone kept below all n = other_by kept below all n (nat_le below n && nat_lt n all) refl
+
+past_by : (kept below all n : ℕ) (b : Bool) → kept ≤ (if b then kept + (n - below) else kept + all + n)
+past_by kept below all n true = omega arith
+past_by kept below all n false = omega arith
+
+other_past : (kept below all n : ℕ) → kept ≤ other_number kept below all n
+other_past kept below all n = past_by kept below all n (nat_le below n && nat_lt n all)
+
+-- of the core library, and past all rows
+other_core : (kept below all n : ℕ) → below ≤ n → n < all → other_number kept below all n ≡ kept + (n - below)
+other_core kept below all n ge lt =
+    ap (λ (b : Bool). if b then kept + (n - below) else kept + all + n) (and_from (nat_le below n) (nat_lt n all) (le-leb below n ge) (lt-ltb n all lt))
+
+other_none : (kept below all n : ℕ) → all ≤ n → other_number kept below all n ≡ kept + all + n
+other_none kept below all n ge =
+    ap (λ (b : Bool). if b then kept + (n - below) else kept + all + n) (and_right (nat_le below n) (nat_lt n all) (le-ltb n all ge))
+
+-- ---- what is found is at its place
+
+low_by : (e k : ℕ) (rest : Option ℕ) (b : Bool) → (rest ≡ Some k → e + 1 ≤ k) → cond b (Some e) rest ≡ Some k → e ≤ k
+low_by e k rest true more h = let same : e ≡ k = cc in omega (arith, same)
+low_by e k rest false more h = let le = more h in omega (arith, le)
+
+low : (t : RowAt → Bool) (e k : ℕ) (zs : List RowAt) → position_from t e zs ≡ Some k → e ≤ k
+low t e k [] h = absurd (cc)
+low t e k (z ∷ zs) h = low_by e k (position_from t (e + 1) zs) (t z) (low t (e + 1) k zs) h
+
+found_case : (at x : RowAt) (xs : List RowAt) (d j : ℕ) (b : Bool) → same_row at x ≡ b
+    → ((i : ℕ) → position_from (same_row at) (d + 1) xs ≡ Some (d + 1 + i) → slice_get xs i ≡ Some at)
+    → cond b (Some d) (position_from (same_row at) (d + 1) xs) ≡ Some (d + j) → slice_get (x ∷ xs) j ≡ Some at
+found_case at x xs d j true t more h =
+    let same : d ≡ d + j = cc in
+    let none : j ≡ 0 = omega (arith, same) in
+    ap (slice_get (x ∷ xs)) none ∙ ap Some (sym (rows_one at x t))
+found_case at x xs d zero false t more h = let le = low (same_row at) (d + 1) (d + 0) xs h in absurd (omega (arith, le))
+found_case at x xs d (suc i) false t more h = let z : d + suc i ≡ d + 1 + i = omega arith in more i (h ∙ ap Some z)
+
+found_by : (at : RowAt) (xs : List RowAt) (d j : ℕ) → position_from (same_row at) d xs ≡ Some (d + j) → slice_get xs j ≡ Some at
+found_by at [] d j e = absurd (cc)
+found_by at (x ∷ xs) d j e = found_case at x xs d j (same_row at x) refl (λ i h. found_by at xs (d + 1) i h) e
+
+pub new_row_at : (rows : List RowAt) (at : RowAt) (j : ℕ) → new_row rows at ≡ Some j → slice_get rows j ≡ Some at
+new_row_at rows at j e = let z : j ≡ 0 + j = omega arith in found_by at rows 0 j (sym (position_from-zero (same_row at) rows) ∙ e ∙ ap Some z)
+
+-- ---- each number is led back, whatever rows are kept
+
+module _ (count : AsmRec → ℕ) (recs : List AsmRec) (rows : List RowAt) where
+  abbrev others : ℕ → ℕ
+  others n = other_number (length rows) (in_inputs count recs) (in_all count recs) n
+
+  back_found : (j n : ℕ) (at : RowAt) → slice_get rows j ≡ Some at → number_at count recs at ≡ n → old_number count recs rows j ≡ n
+  unfolding old_number
+  back_found j n at e is =
+      ap (λ (o : Option RowAt). unwrap_or (option_map (number_at count recs) o) (other_back (length rows) (in_inputs count recs) (in_all count recs) j)) e ∙ is
+
+  back_other : (m : ℕ) → length rows ≤ m → old_number count recs rows m ≡ other_back (length rows) (in_inputs count recs) (in_all count recs) m
+  unfolding old_number
+  back_other m past =
+      ap (λ (o : Option RowAt). unwrap_or (option_map (number_at count recs) o) (other_back (length rows) (in_inputs count recs) (in_all count recs) m)) (place_past rows m past)
+
+  others_back : (n : ℕ) → old_number count recs rows (others n) ≡ n
+  others_back n =
+      back_other (others n) (other_past (length rows) (in_inputs count recs) (in_all count recs) n)
+      ∙ other_undone (length rows) (in_inputs count recs) (in_all count recs) n
+
+  row_back : (n : ℕ) (at : RowAt) → number_at count recs at ≡ n → (o : Option ℕ) → new_row rows at ≡ o → old_number count recs rows (unwrap_or o (others n)) ≡ n
+  row_back n at is None e = others_back n
+  row_back n at is (Some j) e = back_found j n at (new_row_at rows at j e) is
+
+  home_back : (n : ℕ) (o : Option RowAt) → home_from count 0 recs n ≡ o → old_number count recs rows (unwrap_or (option_and_then (new_row rows) o) (others n)) ≡ n
+  home_back n None e = others_back n
+  home_back n (Some at) e = row_back n at (home_number count recs n at e) (new_row rows at) refl
+
+  pub led_back : (n : ℕ) → old_number count recs rows (new_number count recs rows n) ≡ n
+  unfolding new_number
+  led_back n = home_back n (home_from count 0 recs n) refl
+
+-- ---- what the new numbers of kept rows are
+
+module _ (count : AsmRec → ℕ) (recs : List AsmRec) (number_item : ℕ → Item) (kept : Kept) where
+  abbrev pub new_of : ℕ → ℕ
+  new_of n = new_number count recs (those count recs number_item kept) n
+
+  by_row : (n : ℕ) (at : RowAt) (o : Option ℕ) → home_from count 0 recs n ≡ Some at → new_row (those count recs number_item kept) at ≡ o
+      → new_of n ≡ unwrap_or o (other_number (length (those count recs number_item kept)) (in_inputs count recs) (in_all count recs) n)
+  unfolding new_number
+  by_row n at o e is =
+      ap (λ (h : Option RowAt). unwrap_or (option_and_then (new_row (those count recs number_item kept)) h) (other_number (length (those count recs number_item kept)) (in_inputs count recs) (in_all count recs) n)) e
+      ∙ ap (λ (x : Option ℕ). unwrap_or x (other_number (length (those count recs number_item kept)) (in_inputs count recs) (in_all count recs) n)) is
+
+  -- of a kept row of an input: how many kept ones are before it
+  pub new_kept : (at : RowAt) → IsThere count recs at → suc at.asm < length recs → kept (number_item (number_at count recs at)) ≡ true
+      → new_of (number_at count recs at) ≡ rank (keeps count recs number_item kept) (number_at count recs at)
+  new_kept at is lt k =
+      by_row (number_at count recs at) at (Some (rank (keeps count recs number_item kept) (number_at count recs at))) (there_home count recs at is)
+      (new_row_is count recs number_item kept at is (input_below count recs at is lt) k)
+
+  pub new_kept_row : (at : RowAt) (j : ℕ) → IsThere count recs at → new_row (those count recs number_item kept) at ≡ Some j → new_of (number_at count recs at) ≡ j
+  new_kept_row at j is e = by_row (number_at count recs at) at (Some j) (there_home count recs at is) e
+
+  -- of a row of the core library: in its place behind the kept rows
+  pub new_core : (at : RowAt) → IsThere count recs at → suc at.asm ≡ length recs
+      → new_of (number_at count recs at) ≡ length (those count recs number_item kept) + at.row
+  new_core at is last =
+      let lt = home_below count recs (number_at count recs at) at (there_home count recs at is) in
+      let number = core_number count recs at last in
+      by_row (number_at count recs at) at None (there_home count recs at is) (new_row_core count recs number_item kept at last)
+      ∙ other_core (length (those count recs number_item kept)) (in_inputs count recs) (in_all count recs) (number_at count recs at) (omega (arith, number)) lt
+      ∙ ap (λ (k : ℕ). length (those count recs number_item kept) + (k - in_inputs count recs)) number ∙ omega arith
+
+  -- of no row: behind all
+  pub new_none : (n : ℕ) → home_from count 0 recs n ≡ None → new_of n ≡ length (those count recs number_item kept) + in_all count recs + n
+  unfolding new_number
+  new_none n e =
+      ap (λ (h : Option RowAt). unwrap_or (option_and_then (new_row (those count recs number_item kept)) h) (other_number (length (those count recs number_item kept)) (in_inputs count recs) (in_all count recs) n)) e
+      ∙ other_none (length (those count recs number_item kept)) (in_inputs count recs) (in_all count recs) n (none_past count recs n e)
+
+  -- a kept row's rank is below how many are kept
+  pub rank_below : (n : ℕ) → n < in_inputs count recs → kept (number_item n) ≡ true → rank (keeps count recs number_item kept) n < length (those count recs number_item kept)
+  rank_below n lt k =
+      let one = rank_kept (keeps count recs number_item kept) n k in
+      let up = rank_rises (keeps count recs number_item kept) (suc n) (in_inputs count recs) lt in
+      let all = how_many count recs number_item kept in
+      omega (arith, one, up, all)

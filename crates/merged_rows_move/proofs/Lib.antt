@@ -1,0 +1,9 @@
+pub mod Flags
+pub mod Runs
+pub mod Members
+pub mod RowsOf
+pub mod Owners
+pub mod Params
+pub mod Heads
+pub mod Core
+pub mod Whole
