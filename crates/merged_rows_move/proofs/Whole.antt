@@ -126,7 +126,7 @@ module _ (m : Merge) (k : Keep) (kept : RowAt → Bool) (is : IsMerge m) (flags 
     params = λ t e args. fits_moved m is at (λ h lt. type_stays m k kept flags at h keeps) (row_there (λ rec. rec.type_def) (before m) at t e) args;
     interface = interface_moved m is at (λ h lt. type_stays m k kept flags at h keeps);
     explicit = ap (λ (b : Bool). b || false) (explicit_moved m is at (λ h lt. type_stays m k kept flags at h keeps));
-    core_row = λ token. core_test at keeps (λ r. nat_eq (token_of TYPE_DEF (suc r)) token);
+    core_row = λ token table. core_test at keeps (λ r. nat_eq (token_of TYPE_DEF (suc r)) token);
     core_name = ap (λ (b : Bool). if b then option_map (λ (t : CoreType). t.name) (slice_get TYPES (typ at).row) else None) (last_stays at keeps)
     ∙ name_by at (nat_eq (suc at.asm) (length (before m))) refl;
     core_type = λ name. core_test at keeps (λ r. nat_eq r (core_type_row name));

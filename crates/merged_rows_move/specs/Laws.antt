@@ -16,7 +16,7 @@ use Rattle.view_rules.specs.Layouts.{is_core_type, fits_params}
 use Rattle.view_rules.specs.Answers.{core_name_at}
 use Rattle.change_rules.specs.Change.{Keep, Undone}
 use Rattle.world_change_rules.specs.Places.{keeps_type_row, keeps_method_row, keeps_field_row}
-use Rattle.world_change_rules.specs.Rows.{SameMethod, CoreMoves}
+use Rattle.world_change_rules.specs.Rows.{is_table_type, SameMethod, CoreMoves}
 use Rattle.merged_world_rules.specs.Merge.{Merge, IsMerge, before, after}
 use Rattle.merged_world_rules.specs.NewNumbers.{rho_of, back_of, change_of, places_of}
 use Rattle.merged_world_rules.specs.Kept.{HasFlags}
@@ -41,7 +41,7 @@ pub record TypeMarks (m : Merge) (at : RowAt) : Type 0 where
   pub params : (t : TypeDefRow) → type_row_at (before m) at ≡ Some t → (args : List TypeExpr) → fits_params (after m) ((places_of m).typ at) args ≡ fits_params (before m) at args
   pub interface : is_interface_at (after m) ((places_of m).typ at) ≡ is_interface_at (before m) at
   pub explicit : view.has_explicit_layout (after m) (Some ((places_of m).typ at)) ≡ view.has_explicit_layout (before m) (Some at)
-  pub core_row : (token : ℕ) → is_core_row_at (after m) token ((places_of m).typ at) ≡ is_core_row_at (before m) token at
+  pub core_row : (token : ℕ) → IsTrue (is_table_type token) → is_core_row_at (after m) token ((places_of m).typ at) ≡ is_core_row_at (before m) token at
   pub core_name : core_name_at (after m) ((places_of m).typ at) ≡ core_name_at (before m) at
   pub core_type : (name : CoreName) → is_core_type (after m) name ((places_of m).typ at) ≡ is_core_type (before m) name at
 

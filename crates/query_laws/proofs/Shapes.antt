@@ -319,7 +319,7 @@ module _ (k : Change) (kept : RowAt → Bool) (p : Places) (after before : List 
         ≡ move_shape k.rho (view.or_shape (if is_enum before at then view.enum_shape before args at else None) (view.value_shape before earlier args at))
     value_row at h is =
         ap (λ (b : Bool). view.or_shape (if b then view.enum_shape after (move_exprs k.rho args) (p.typ at) else None) (view.value_shape after later (move_exprs k.rho args) (p.typ at)))
-        (extends_moved k kept p after before r keeps ENUM at h)
+        (extends_moved k kept p after before r keeps ENUM refl at h)
         ∙ ap (λ o. view.or_shape o (view.value_shape after later (move_exprs k.rho args) (p.typ at))) (enum_by (is_enum before at) _ _ (enum_moved at h is))
         ∙ or_moved (if is_enum before at then view.enum_shape before args at else None) _ _ (value_moved at h is)
 
