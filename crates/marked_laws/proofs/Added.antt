@@ -1,19 +1,15 @@
 -- Types that the core library's table has are no names that only modifiers use (II.7.1.1), and primitives are among them.
-use Rattle.std.proofs.Common.{◌≡◌, ℕ, suc, ◌+◌, ◌-◌, ◌<◌, Bool, true, false, cond, nat_lt, List, [], ◌∷◌, ◌++◌, length, map, Option, Some, None, refl, sym, ap, subst, ◌∙◌, arith}
-use Rattle.std.specs.Prelude.{codes, find, position, nat_le, ◌==◌, ◌&&◌, ◌||◌, not, if◌then◌else◌}
-use Rattle.std.specs.List.{list_all, list_any, position_or_len}
+use Rattle.std.proofs.Common.{◌≡◌, ℕ, suc, ◌-◌, ◌<◌, Bool, true, false, List, [], ◌∷◌, ◌++◌, length, map, Option, Some, None, refl, sym, ap, subst, ◌∙◌, arith}
+use Rattle.std.specs.Prelude.{position, nat_le, ◌==◌, ◌&&◌, ◌||◌}
+use Rattle.std.specs.List.{list_any}
 use Rattle.std.specs.Option.{option_map}
-use Rattle.std.specs.Cmp.{first_so, second_so}
-use Rattle.std.proofs.lemmas.Bool.{lt-leb, eqb-true}
-use Rattle.std.proofs.lemmas.Iterator.Adapters.{position_from-zero}
+use Rattle.std.proofs.lemmas.Bool.{lt-leb}
 use Rattle.il_base.specs.declared.ids.TypeId.{TypeId}
 use Rattle.il_base.specs.declared.ids.Item.TheVariants as item
 use Rattle.world_model.specs.declared.types.TypeDefRow.{TypeDefRow}
 use Rattle.world_model.specs.declared.record.AsmRec.{AsmRec}
-use Rattle.world_model.specs.Core.{same_name, is_code}
-use Rattle.world_model.specs.Worlds.{type_id, core_types, prims, prim_of, is_prim_name, is_code_of, prim_type}
-use Rattle.core_table.specs.Names.{text_of}
-use Rattle.core_table.specs.Record.{core_record, record_with, type_rows, type_row}
+use Rattle.world_model.specs.Worlds.{type_id, core_types, is_code_of, prim_type}
+use Rattle.core_table.specs.Record.{core_record, record_with, type_rows}
 use Rattle.core_table.specs.declared.types.TheConstants.{TYPES}
 use Rattle.link_rules.specs.declared.row_at.RowAt.{RowAt}
 use Rattle.link_rules.specs.declared.core_type_name.CoreTypeName.{CoreTypeName}
@@ -23,8 +19,8 @@ use Rattle.link_rules.specs.Members.{type_home}
 use Rattle.link_rules.specs.Cycles.{listed}
 use Rattle.link_rules.specs.Linked.{assemblies}
 use Rattle.type_laws.proofs.Places.{place_has}
-use Rattle.walk_laws.proofs.Finds.{found}
 use Rattle.mark_rules.specs.Facts.Fact.{marked}
+use Rattle.query_laws.proofs.Prims.{prim_first}
 use Rattle.marked_laws.specs.Flags.{is_added_row, is_added}
 use Rattle.marked_laws.proofs.Places.{type_home_of, last_row, position_below}
 
@@ -48,53 +44,7 @@ not_added recs k low lt t same =
     subst (λ (x : TypeId). list_any (is_added_row recs) (listed (type_home recs x)) ≡ false) same
     (added_by recs (at_row (length recs - 1) k) (type_home recs (type_id recs (length recs - 1) k)) (type_home_of recs (at_row (length recs - 1) k) l.rec l.there l.row l.has) (lt-leb (length TYPES) k low))
 
--- ---- each primitive has a row of the table
-
-all_prims : list_all (λ (p : ℕ × List ℕ). list_any (is_code_of p.0) core_record.type_def) prims ≡ true
-unfolding core_record record_with type_rows type_row text_of prim_of prims
-all_prims = refl
-
-module _ (rows : List TypeDefRow) (n : ℕ) where
-  code_by : (p : ℕ × List ℕ) (rest : Option (ℕ × List ℕ)) (b : Bool) → list_any (is_code_of p.0) rows ≡ true → (is_code n (option_map (λ (q : ℕ × List ℕ). q.0) rest) ≡ true → list_any (is_code_of n) rows ≡ true)
-      → is_code n (option_map (λ (q : ℕ × List ℕ). q.0) (cond b (Some p) rest)) ≡ true → list_any (is_code_of n) rows ≡ true
-  code_by p rest true here more h = subst (λ (m : ℕ). list_any (is_code_of m) rows ≡ true) (eqb-true p.0 n h) here
-  code_by p rest false here more h = more h
-
-  code_in : (test : ℕ × List ℕ → Bool) (ps : List (ℕ × List ℕ)) → list_all (λ (p : ℕ × List ℕ). list_any (is_code_of p.0) rows) ps ≡ true
-      → is_code n (option_map (λ (q : ℕ × List ℕ). q.0) (find test ps)) ≡ true → list_any (is_code_of n) rows ≡ true
-  code_in test [] all h = absurd (cc)
-  code_in test (p ∷ ps) all h =
-      code_by p (find test ps) (test p) (first_so (list_any (is_code_of p.0) rows) (list_all (λ (p : ℕ × List ℕ). list_any (is_code_of p.0) rows) ps) all)
-      (λ g. code_in test ps (second_so (list_any (is_code_of p.0) rows) (list_all (λ (p : ℕ × List ℕ). list_any (is_code_of p.0) rows) ps) all) g) h
-
-prim_is : (row : TypeDefRow) → prim_of row ≡ (if same_name row.namespace (codes "System") then option_map (λ (q : ℕ × List ℕ). q.0) (find (is_prim_name row.name) prims) else None)
-unfolding prim_of
-prim_is row = refl
-
-named_by : (n : ℕ) (row : TypeDefRow) (b : Bool) → is_code n (if b then option_map (λ (q : ℕ × List ℕ). q.0) (find (is_prim_name row.name) prims) else None) ≡ true → list_any (is_code_of n) core_record.type_def ≡ true
-named_by n row true h = code_in core_record.type_def n (is_prim_name row.name) prims all_prims h
-named_by n row false h = absurd (cc)
-
-known_code : (n : ℕ) (row : TypeDefRow) → is_code_of n row ≡ true → list_any (is_code_of n) core_record.type_def ≡ true
-known_code n row h = named_by n row (same_name row.namespace (codes "System")) (ap (is_code n) (sym (prim_is row)) ∙ h)
-
--- ---- so the first row of a primitive is one of the table
-
-module _ {A : Type 0} (p : A → Bool) where
-  front_by : (x : A) (xs ys : List A) (b : Bool) → p x ≡ b → (b || list_any p xs) ≡ true → (list_any p xs ≡ true → position_or_len p (xs ++ ys) < length xs) → cond (not (p x)) (1 + position_or_len p (xs ++ ys)) 0 < suc (length xs)
-  front_by x xs ys true e h more = subst (λ (c : Bool). cond (not c) (1 + position_or_len p (xs ++ ys)) 0 < suc (length xs)) (sym e) (omega arith)
-  front_by x xs ys false e h more = let lt = more h in subst (λ (c : Bool). cond (not c) (1 + position_or_len p (xs ++ ys)) 0 < suc (length xs)) (sym e) (omega (arith, lt))
-
-  front_first : (xs ys : List A) → list_any p xs ≡ true → position_or_len p (xs ++ ys) < length xs
-  front_first [] ys h = absurd (cc)
-  front_first (x ∷ xs) ys h = front_by x xs ys (p x) refl h (front_first xs ys)
-
-  first_by : (l n k : ℕ) (b : Bool) → nat_lt n l ≡ b → (if b then Some n else None) ≡ Some k → n ≡ k
-  first_by l n k true h e = cc
-  first_by l n k false h e = absurd (cc)
-
-  first_is : (xs : List A) (k : ℕ) → position p xs ≡ Some k → position_or_len p xs ≡ k
-  first_is xs k e = first_by (length xs) (position_or_len p xs) k (nat_lt (position_or_len p xs) (length xs)) refl e
+-- ---- primitives are among them
 
 table_count : length core_record.type_def ≡ length TYPES
 unfolding core_record record_with type_rows
@@ -102,11 +52,9 @@ table_count = refl
 
 prim_low : (added : List TypeDefRow) (n k : ℕ) → position (is_code_of n) (core_record.type_def ++ added) ≡ Some k → k < length TYPES
 prim_low added n k e =
-    let f = found (is_code_of n) 0 (core_record.type_def ++ added) k (sym (position_from-zero (is_code_of n) (core_record.type_def ++ added)) ∙ e) in
-    let lt = front_first (is_code_of n) core_record.type_def added (known_code n f.item f.passes) in
-    let place = first_is (is_code_of n) (core_record.type_def ++ added) k e in
+    let lt = position_below (is_code_of n) core_record.type_def k (sym (prim_first n added) ∙ e) in
     let count = table_count in
-    omega (arith, lt, place, count)
+    omega (arith, lt, count)
 
 -- ---- in the world of the inputs
 

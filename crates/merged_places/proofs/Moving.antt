@@ -10,18 +10,24 @@ use Rattle.link_rules.specs.declared.row_at.RowAt.{RowAt}
 use Rattle.link_rules.specs.Types.{at_row}
 use Rattle.link_rules.specs.Cycles.{same_row}
 use Rattle.link_rules.specs.Members.{home_from}
-use Rattle.merged_world_rules.specs.Merge.{Merge, before, after, IsMerge}
-use Rattle.merged_world_rules.specs.Numbering.{in_inputs, in_all, number_at, old_number, place_numbered}
+use Rattle.merged_world_rules.specs.Merge.{Merge, before, after}
+use Rattle.merged_world_rules.specs.Numbering.{in_all, number_at, CoreRows, IsFit, old_number, place_numbered}
 use Rattle.merged_places.proofs.Ranks.{rank}
-use Rattle.merged_places.proofs.Rows.{row_itself, rows_one, same_some, place_within, IsThere, there_home, home_there, home_number, has_home, no_home, one_by_number, place_number, all_is, input_below}
+use Rattle.merged_places.proofs.Rows.{row_itself, rows_one, place_within, IsThere, there_home, home_there, home_number, has_home, no_home, one_by_number, place_number, input_below}
 use Rattle.merged_places.proofs.Kept.{keeps, those}
 use Rattle.merged_places.proofs.Numbers.{led_back, new_of, new_kept, new_core, new_none, rank_below}
-use Rattle.merged_places.proofs.Worlds.{core_of, before_is, after_is, before_length, before_core}
+use Rattle.merged_places.proofs.Worlds.{left_core, after_is, after_left, after_core}
 
-module _ (m : Merge) (is : IsMerge m) (count : AsmRec → ℕ) (number_item : ℕ → Item)
-    (counted : count m.left ≡ length (those count (before m) number_item m.kept)) where
+-- a kind of rows, with how it goes on in what is left and in the core library
+pub record Kind (m : Merge) (count : AsmRec → ℕ) (number_item : ℕ → Item) : Type 0 where
+  pub core : CoreRows
+  pub counted : count m.left ≡ length (those count (before m) number_item m.kept)
+  pub fits : IsFit core
+  pub whole : core.count ≡ count (left_core m)
+
+module _ (m : Merge) (count : AsmRec → ℕ) (number_item : ℕ → Item) (kind : Kind m count number_item) where
   abbrev new : ℕ → ℕ
-  new n = new_of count (before m) number_item m.kept n
+  new n = new_of count kind.core (before m) number_item m.kept n
 
   abbrev old : RowAt → ℕ
   old at = number_at count (before m) at
@@ -30,9 +36,9 @@ module _ (m : Merge) (is : IsMerge m) (count : AsmRec → ℕ) (number_item : �
   abbrev pub place_of : RowAt → RowAt
   place_of at = place_numbered count (after m) (new (old at))
 
-  -- kept, if of an input
+  -- kept, if of an input, and one that the output's world has too, if of the core library
   abbrev pub Stays : RowAt → Type 0
-  Stays at = suc at.asm < length (before m) → m.kept (number_item (old at)) ≡ true
+  Stays at = (suc at.asm < length (before m) → m.kept (number_item (old at)) ≡ true) × (suc at.asm ≡ length (before m) → (s : ℕ) × (kind.core.to at.row ≡ Some s))
 
   -- ---- how many rows there are
 
@@ -48,49 +54,37 @@ module _ (m : Merge) (is : IsMerge m) (count : AsmRec → ℕ) (number_item : �
   unfolding rows_before
   none recs = refl
 
-  pub after_all : in_all count (after m) ≡ length (those count (before m) number_item m.kept) + count (core_of m)
-  after_all = ap (in_all count) (after_is m is) ∙ two m.left (core_of m) ∙ ap (λ (k : ℕ). k + count (core_of m)) counted
-
-  before_all : in_all count (before m) ≡ in_inputs count (before m) + count (core_of m)
-  before_all = subst (λ (recs : List AsmRec). in_all count recs ≡ in_inputs count recs + count (core_of m)) (sym (before_is m)) (all_is count m.inputs (core_of m))
-
-  -- ---- rows of the core library
-
-  pub core_rec : (at : RowAt) (h : IsThere count (before m) at) → suc at.asm ≡ length (before m) → h.rec ≡ core_of m
-  core_rec at h last =
-      let long = before_length m in
-      let asm : at.asm ≡ length m.inputs = omega (arith, long, last) in
-      same_some h.rec (core_of m) (sym h.here ∙ ap (slice_get (before m)) asm ∙ before_core m)
-
-  core_below : (at : RowAt) (h : IsThere count (before m) at) → suc at.asm ≡ length (before m) → at.row < count (core_of m)
-  core_below at h last = subst (λ (rec : AsmRec). at.row < count rec) (core_rec at h last) h.below
+  pub after_all : in_all count (after m) ≡ length (those count (before m) number_item m.kept) + count (left_core m)
+  after_all = ap (in_all count) (after_is m) ∙ two m.left (left_core m) ∙ ap (λ (k : ℕ). k + count (left_core m)) kind.counted
 
   -- ---- new numbers are those of rows of the output's world exactly where there was a row
 
   below_by : (at : RowAt) → IsThere count (before m) at → Stays at → (suc at.asm < length (before m)) ⊎ (length (before m) ≤ suc at.asm) → new (old at) < in_all count (after m)
   below_by at h stays (inl lt) =
-      let k = stays lt in
+      let k = stays.0 lt in
       let low = rank_below count (before m) number_item m.kept (old at) (input_below count (before m) at h lt) k in
-      let e = new_kept count (before m) number_item m.kept at h lt k in
+      let e = new_kept count kind.core (before m) number_item m.kept at h lt k in
       let all = after_all in
       omega (arith, low, e, all)
   below_by at h stays (inr ge) =
       let asm = place_within (before m) at.asm h.rec h.here in
       let last : suc at.asm ≡ length (before m) = omega (arith, asm, ge) in
-      let low = core_below at h last in
-      let e = new_core count (before m) number_item m.kept at h last in
+      let goes = stays.1 last in
+      let low = kind.fits.low at.row goes.0 goes.1 in
+      let e = new_core count kind.core (before m) number_item m.kept at goes.0 h last goes.1 in
       let all = after_all in
-      omega (arith, low, e, all)
+      let whole = kind.whole in
+      omega (arith, low, e, all, whole)
 
   new_below : (at : RowAt) → IsThere count (before m) at → Stays at → new (old at) < in_all count (after m)
   new_below at h stays = below_by at h stays (cases_lt (suc at.asm) (length (before m)))
 
   new_past : (n : ℕ) → home_from count 0 (before m) n ≡ None → in_all count (after m) ≤ new n
   new_past n e =
-      let number = new_none count (before m) number_item m.kept n e in
+      let number = new_none count kind.core (before m) number_item m.kept n e in
       let all = after_all in
-      let earlier = before_all in
-      omega (arith, number, all, earlier)
+      let whole = kind.whole in
+      omega (arith, number, all, whole)
 
   -- ---- places
 
@@ -124,8 +118,8 @@ module _ (m : Merge) (is : IsMerge m) (count : AsmRec → ℕ) (number_item : �
 
       numbers_one : place_of a ≡ place_of b → old a ≡ old b
       numbers_one e =
-          let back = led_back count (before m) (those count (before m) number_item m.kept) in
-          sym (back (old a)) ∙ ap (old_number count (before m) (those count (before m) number_item m.kept)) (sym (numbers_move a) ∙ ap (number_at count (after m)) e ∙ numbers_move b) ∙ back (old b)
+          let back = led_back count kind.core kind.fits (before m) (those count (before m) number_item m.kept) in
+          sym (back (old a)) ∙ ap (old_number count kind.core (before m) (those count (before m) number_item m.kept)) (sym (numbers_move a) ∙ ap (number_at count (after m)) e ∙ numbers_move b) ∙ back (old b)
 
       by_case : (old a ≡ old b) ⊎ (old a ≡ old b → ⊥) → same_row (place_of a) (place_of b) ≡ same_row a b
       by_case (inl e) =
@@ -139,25 +133,27 @@ module _ (m : Merge) (is : IsMerge m) (count : AsmRec → ℕ) (number_item : �
 
   left_there : (j : ℕ) → j < count m.left → home_from count 0 (after m) j ≡ Some (at_row 0 j)
   left_there j lt =
-      let here : slice_get (after m) 0 ≡ Some m.left = ap (λ (recs : List AsmRec). slice_get recs 0) (after_is m is) in
       let number : number_at count (after m) (at_row 0 j) ≡ j = ap (λ (k : ℕ). k + j) (none (after m)) ∙ omega arith in
-      ap (home_from count 0 (after m)) (sym number) ∙ there_home count (after m) (at_row 0 j) (record { rec = m.left; here = here; below = lt })
+      ap (home_from count 0 (after m)) (sym number) ∙ there_home count (after m) (at_row 0 j) (record { rec = m.left; here = after_left m; below = lt })
 
   pub place_kept : (at : RowAt) → IsThere count (before m) at → suc at.asm < length (before m) → m.kept (number_item (old at)) ≡ true
       → place_of at ≡ at_row 0 (rank (keeps count (before m) number_item m.kept) (old at))
   place_kept at h lt k =
       let low = rank_below count (before m) number_item m.kept (old at) (input_below count (before m) at h lt) k in
-      let e = new_kept count (before m) number_item m.kept at h lt k in
+      let e = new_kept count kind.core (before m) number_item m.kept at h lt k in
       let r : ℕ = rank (keeps count (before m) number_item m.kept) (old at) in
+      let counted = kind.counted in
       ap (place_numbered count (after m)) e
       ∙ ap (λ (o : Option RowAt). unwrap_or o (at_row 0 r)) (left_there r (omega (arith, low, counted)))
 
-  pub place_core : (at : RowAt) → IsThere count (before m) at → suc at.asm ≡ length (before m) → place_of at ≡ at_row 1 at.row
-  place_core at h last =
-      let e = new_core count (before m) number_item m.kept at h last in
-      let here : slice_get (after m) 1 ≡ Some (core_of m) = ap (λ (recs : List AsmRec). slice_get recs 1) (after_is m is) in
-      let first : rows_before count (after m) 1 ≡ count m.left = ap (λ (recs : List AsmRec). rows_before count recs 1) (after_is m is) ∙ one m.left (core_of m) in
-      let number : number_at count (after m) (at_row 1 at.row) ≡ new (old at) = omega (arith, first, counted, e) in
-      let found = there_home count (after m) (at_row 1 at.row) (record { rec = core_of m; here = here; below = core_below at h last }) in
-      let here_at : home_from count 0 (after m) (new (old at)) ≡ Some (at_row 1 at.row) = ap (home_from count 0 (after m)) (sym number) ∙ found in
+  pub place_core : (at : RowAt) (s : ℕ) → IsThere count (before m) at → suc at.asm ≡ length (before m) → kind.core.to at.row ≡ Some s → place_of at ≡ at_row 1 s
+  place_core at s h last goes =
+      let e = new_core count kind.core (before m) number_item m.kept at s h last goes in
+      let low = kind.fits.low at.row s goes in
+      let whole = kind.whole in
+      let counted = kind.counted in
+      let first : rows_before count (after m) 1 ≡ count m.left = ap (λ (recs : List AsmRec). rows_before count recs 1) (after_is m) ∙ one m.left (left_core m) in
+      let number : number_at count (after m) (at_row 1 s) ≡ new (old at) = omega (arith, first, counted, e) in
+      let found = there_home count (after m) (at_row 1 s) (record { rec = left_core m; here = after_core m; below = omega (arith, low, whole) }) in
+      let here_at : home_from count 0 (after m) (new (old at)) ≡ Some (at_row 1 s) = ap (home_from count 0 (after m)) (sym number) ∙ found in
       ap (λ (o : Option RowAt). unwrap_or o (at_row 0 (new (old at)))) here_at

@@ -13,44 +13,57 @@ use Rattle.link_rules.specs.Types.{at_row}
 use Rattle.link_rules.specs.Cycles.{same_row}
 use Rattle.link_rules.specs.Members.{home_from}
 use Rattle.merge_rules.specs.Numbers.{Kept, new_row}
-use Rattle.merged_world_rules.specs.Numbering.{in_inputs, in_all, number_at, other_number, new_number, other_back, old_number, place_numbered}
+use Rattle.merged_world_rules.specs.Numbering.{in_inputs, in_all, number_at, CoreRows, IsFit, core_to, other_number, new_number, other_back, old_number}
 use Rattle.merged_places.proofs.Ranks.{rank, rank_kept, rank_rises}
 use Rattle.merged_places.proofs.Rows.{rows_one, place_past, place_within, IsThere, home_there, home_number, home_below, there_home, no_home, none_past, input_below, core_number}
 use Rattle.merged_places.proofs.Kept.{keeps, those, how_many, new_row_is, new_row_core}
 
 -- ---- numbers that aren't of kept rows
 
-other_by : (kept below all n : ℕ) (b : Bool) → (nat_le below n && nat_lt n all) ≡ b → other_back kept below all (if b then kept + (n - below) else kept + all + n) ≡ n
-other_by kept below all n true e =
-    let p = and_parts (nat_le below n) (nat_lt n all) e in
-    let ge : below ≤ n = leb-true below n p.0 in
-    let lt : n < all = ltb-true n all p.1 in
-    let t : nat_lt (kept + (n - below)) (kept + all) ≡ true = lt-ltb (kept + (n - below)) (kept + all) (omega (arith, ge, lt)) in
-    let back : kept + (n - below) - kept + below ≡ n = omega (arith, ge) in
-    ap (λ (c : Bool). if c then kept + (n - below) - kept + below else kept + (n - below) - (kept + all)) t ∙ back
-other_by kept below all n false e =
-    let t : nat_lt (kept + all + n) (kept + all) ≡ false = le-ltb (kept + all + n) (kept + all) (omega arith) in
-    let back : kept + all + n - (kept + all) ≡ n = omega arith in
-    ap (λ (c : Bool). if c then kept + all + n - kept + below else kept + all + n - (kept + all)) t ∙ back
+module _ (c : CoreRows) (fits : IsFit c) where
+  past_back : (kept below n : ℕ) → other_back c kept below (kept + c.count + n) ≡ n
+  past_back kept below n =
+      let t : nat_lt (kept + c.count + n) (kept + c.count) ≡ false = le-ltb (kept + c.count + n) (kept + c.count) (omega arith) in
+      let back : kept + c.count + n - (kept + c.count) ≡ n = omega arith in
+      ap (λ (b : Bool). if b then c.back (kept + c.count + n - kept) + below else kept + c.count + n - (kept + c.count)) t ∙ back
 
-other_undone : (kept below all n : ℕ) → other_back kept below all (other_number kept below all n) ≡ n
-other_undone kept below all n = other_by kept below all n (nat_le below n && nat_lt n all) refl
+  core_back : (kept below n : ℕ) (o : Option ℕ) → c.to (n - below) ≡ o → below ≤ n → other_back c kept below (unwrap_or (option_map (λ (r : ℕ). kept + r) o) (kept + c.count + n)) ≡ n
+  core_back kept below n None e ge = past_back kept below n
+  core_back kept below n (Some s) e ge =
+      let lt = fits.low (n - below) s e in
+      let t : nat_lt (kept + s) (kept + c.count) ≡ true = lt-ltb (kept + s) (kept + c.count) (omega (arith, lt)) in
+      let row : kept + s - kept ≡ s = omega arith in
+      let whole : n - below + below ≡ n = omega (arith, ge) in
+      ap (λ (b : Bool). if b then c.back (kept + s - kept) + below else kept + s - (kept + c.count)) t
+      ∙ ap (λ (k : ℕ). c.back k + below) row ∙ ap (λ (k : ℕ). k + below) (fits.led_back (n - below) s e) ∙ whole
 
-past_by : (kept below all n : ℕ) (b : Bool) → kept ≤ (if b then kept + (n - below) else kept + all + n)
-past_by kept below all n true = omega arith
-past_by kept below all n false = omega arith
+  other_by : (kept below all n : ℕ) (b : Bool) → (nat_le below n && nat_lt n all) ≡ b
+      → other_back c kept below (unwrap_or (option_map (λ (r : ℕ). kept + r) (if b then c.to (n - below) else None)) (kept + c.count + n)) ≡ n
+  other_by kept below all n true e = core_back kept below n (c.to (n - below)) refl (leb-true below n (and_parts (nat_le below n) (nat_lt n all) e).0)
+  other_by kept below all n false e = past_back kept below n
 
-other_past : (kept below all n : ℕ) → kept ≤ other_number kept below all n
-other_past kept below all n = past_by kept below all n (nat_le below n && nat_lt n all)
+  other_undone : (kept below all n : ℕ) → other_back c kept below (other_number c kept below all n) ≡ n
+  other_undone kept below all n = other_by kept below all n (nat_le below n && nat_lt n all) refl
 
--- of the core library, and past all rows
-other_core : (kept below all n : ℕ) → below ≤ n → n < all → other_number kept below all n ≡ kept + (n - below)
-other_core kept below all n ge lt =
-    ap (λ (b : Bool). if b then kept + (n - below) else kept + all + n) (and_from (nat_le below n) (nat_lt n all) (le-leb below n ge) (lt-ltb n all lt))
+module _ (c : CoreRows) where
+  past_by : (kept n : ℕ) (o : Option ℕ) → kept ≤ unwrap_or (option_map (λ (r : ℕ). kept + r) o) (kept + c.count + n)
+  past_by kept n None = omega arith
+  past_by kept n (Some r) = omega arith
 
-other_none : (kept below all n : ℕ) → all ≤ n → other_number kept below all n ≡ kept + all + n
-other_none kept below all n ge =
-    ap (λ (b : Bool). if b then kept + (n - below) else kept + all + n) (and_right (nat_le below n) (nat_lt n all) (le-ltb n all ge))
+  other_past : (kept below all n : ℕ) → kept ≤ other_number c kept below all n
+  other_past kept below all n = past_by kept n (core_to c below all n)
+
+  -- of the core library, and past all rows
+  other_core : (kept below all n s : ℕ) → below ≤ n → n < all → c.to (n - below) ≡ Some s → other_number c kept below all n ≡ kept + s
+  other_core kept below all n s ge lt e =
+      ap (λ (b : Bool). unwrap_or (option_map (λ (r : ℕ). kept + r) (if b then c.to (n - below) else None)) (kept + c.count + n))
+      (and_from (nat_le below n) (nat_lt n all) (le-leb below n ge) (lt-ltb n all lt))
+      ∙ ap (λ (o : Option ℕ). unwrap_or (option_map (λ (r : ℕ). kept + r) o) (kept + c.count + n)) e
+
+  other_none : (kept below all n : ℕ) → all ≤ n → other_number c kept below all n ≡ kept + c.count + n
+  other_none kept below all n ge =
+      ap (λ (b : Bool). unwrap_or (option_map (λ (r : ℕ). kept + r) (if b then c.to (n - below) else None)) (kept + c.count + n))
+      (and_right (nat_le below n) (nat_lt n all) (le-ltb n all ge))
 
 -- ---- what is found is at its place
 
@@ -81,49 +94,48 @@ new_row_at rows at j e = let z : j ≡ 0 + j = omega arith in found_by at rows 0
 
 -- ---- each number is led back, whatever rows are kept
 
-module _ (count : AsmRec → ℕ) (recs : List AsmRec) (rows : List RowAt) where
+module _ (count : AsmRec → ℕ) (c : CoreRows) (fits : IsFit c) (recs : List AsmRec) (rows : List RowAt) where
   abbrev others : ℕ → ℕ
-  others n = other_number (length rows) (in_inputs count recs) (in_all count recs) n
+  others n = other_number c (length rows) (in_inputs count recs) (in_all count recs) n
 
-  back_found : (j n : ℕ) (at : RowAt) → slice_get rows j ≡ Some at → number_at count recs at ≡ n → old_number count recs rows j ≡ n
+  back_found : (j n : ℕ) (at : RowAt) → slice_get rows j ≡ Some at → number_at count recs at ≡ n → old_number count c recs rows j ≡ n
   unfolding old_number
   back_found j n at e is =
-      ap (λ (o : Option RowAt). unwrap_or (option_map (number_at count recs) o) (other_back (length rows) (in_inputs count recs) (in_all count recs) j)) e ∙ is
+      ap (λ (o : Option RowAt). unwrap_or (option_map (number_at count recs) o) (other_back c (length rows) (in_inputs count recs) j)) e ∙ is
 
-  back_other : (m : ℕ) → length rows ≤ m → old_number count recs rows m ≡ other_back (length rows) (in_inputs count recs) (in_all count recs) m
+  back_other : (m : ℕ) → length rows ≤ m → old_number count c recs rows m ≡ other_back c (length rows) (in_inputs count recs) m
   unfolding old_number
-  back_other m past =
-      ap (λ (o : Option RowAt). unwrap_or (option_map (number_at count recs) o) (other_back (length rows) (in_inputs count recs) (in_all count recs) m)) (place_past rows m past)
+  back_other m past = ap (λ (o : Option RowAt). unwrap_or (option_map (number_at count recs) o) (other_back c (length rows) (in_inputs count recs) m)) (place_past rows m past)
 
-  others_back : (n : ℕ) → old_number count recs rows (others n) ≡ n
+  others_back : (n : ℕ) → old_number count c recs rows (others n) ≡ n
   others_back n =
-      back_other (others n) (other_past (length rows) (in_inputs count recs) (in_all count recs) n)
-      ∙ other_undone (length rows) (in_inputs count recs) (in_all count recs) n
+      back_other (others n) (other_past c (length rows) (in_inputs count recs) (in_all count recs) n)
+      ∙ other_undone c fits (length rows) (in_inputs count recs) (in_all count recs) n
 
-  row_back : (n : ℕ) (at : RowAt) → number_at count recs at ≡ n → (o : Option ℕ) → new_row rows at ≡ o → old_number count recs rows (unwrap_or o (others n)) ≡ n
+  row_back : (n : ℕ) (at : RowAt) → number_at count recs at ≡ n → (o : Option ℕ) → new_row rows at ≡ o → old_number count c recs rows (unwrap_or o (others n)) ≡ n
   row_back n at is None e = others_back n
   row_back n at is (Some j) e = back_found j n at (new_row_at rows at j e) is
 
-  home_back : (n : ℕ) (o : Option RowAt) → home_from count 0 recs n ≡ o → old_number count recs rows (unwrap_or (option_and_then (new_row rows) o) (others n)) ≡ n
+  home_back : (n : ℕ) (o : Option RowAt) → home_from count 0 recs n ≡ o → old_number count c recs rows (unwrap_or (option_and_then (new_row rows) o) (others n)) ≡ n
   home_back n None e = others_back n
   home_back n (Some at) e = row_back n at (home_number count recs n at e) (new_row rows at) refl
 
-  pub led_back : (n : ℕ) → old_number count recs rows (new_number count recs rows n) ≡ n
+  pub led_back : (n : ℕ) → old_number count c recs rows (new_number count c recs rows n) ≡ n
   unfolding new_number
   led_back n = home_back n (home_from count 0 recs n) refl
 
 -- ---- what the new numbers of kept rows are
 
-module _ (count : AsmRec → ℕ) (recs : List AsmRec) (number_item : ℕ → Item) (kept : Kept) where
+module _ (count : AsmRec → ℕ) (c : CoreRows) (recs : List AsmRec) (number_item : ℕ → Item) (kept : Kept) where
   abbrev pub new_of : ℕ → ℕ
-  new_of n = new_number count recs (those count recs number_item kept) n
+  new_of n = new_number count c recs (those count recs number_item kept) n
 
   by_row : (n : ℕ) (at : RowAt) (o : Option ℕ) → home_from count 0 recs n ≡ Some at → new_row (those count recs number_item kept) at ≡ o
-      → new_of n ≡ unwrap_or o (other_number (length (those count recs number_item kept)) (in_inputs count recs) (in_all count recs) n)
+      → new_of n ≡ unwrap_or o (other_number c (length (those count recs number_item kept)) (in_inputs count recs) (in_all count recs) n)
   unfolding new_number
   by_row n at o e is =
-      ap (λ (h : Option RowAt). unwrap_or (option_and_then (new_row (those count recs number_item kept)) h) (other_number (length (those count recs number_item kept)) (in_inputs count recs) (in_all count recs) n)) e
-      ∙ ap (λ (x : Option ℕ). unwrap_or x (other_number (length (those count recs number_item kept)) (in_inputs count recs) (in_all count recs) n)) is
+      ap (λ (h : Option RowAt). unwrap_or (option_and_then (new_row (those count recs number_item kept)) h) (other_number c (length (those count recs number_item kept)) (in_inputs count recs) (in_all count recs) n)) e
+      ∙ ap (λ (x : Option ℕ). unwrap_or x (other_number c (length (those count recs number_item kept)) (in_inputs count recs) (in_all count recs) n)) is
 
   -- of a kept row of an input: how many kept ones are before it
   pub new_kept : (at : RowAt) → IsThere count recs at → suc at.asm < length recs → kept (number_item (number_at count recs at)) ≡ true
@@ -135,23 +147,24 @@ module _ (count : AsmRec → ℕ) (recs : List AsmRec) (number_item : ℕ → It
   pub new_kept_row : (at : RowAt) (j : ℕ) → IsThere count recs at → new_row (those count recs number_item kept) at ≡ Some j → new_of (number_at count recs at) ≡ j
   new_kept_row at j is e = by_row (number_at count recs at) at (Some j) (there_home count recs at is) e
 
-  -- of a row of the core library: in its place behind the kept rows
-  pub new_core : (at : RowAt) → IsThere count recs at → suc at.asm ≡ length recs
-      → new_of (number_at count recs at) ≡ length (those count recs number_item kept) + at.row
-  new_core at is last =
+  -- of a row of the core library: in its new place behind the kept rows
+  pub new_core : (at : RowAt) (s : ℕ) → IsThere count recs at → suc at.asm ≡ length recs → c.to at.row ≡ Some s
+      → new_of (number_at count recs at) ≡ length (those count recs number_item kept) + s
+  new_core at s is last goes =
       let lt = home_below count recs (number_at count recs at) at (there_home count recs at is) in
       let number = core_number count recs at last in
+      let row : number_at count recs at - in_inputs count recs ≡ at.row = omega (arith, number) in
       by_row (number_at count recs at) at None (there_home count recs at is) (new_row_core count recs number_item kept at last)
-      ∙ other_core (length (those count recs number_item kept)) (in_inputs count recs) (in_all count recs) (number_at count recs at) (omega (arith, number)) lt
-      ∙ ap (λ (k : ℕ). length (those count recs number_item kept) + (k - in_inputs count recs)) number ∙ omega arith
+      ∙ other_core c (length (those count recs number_item kept)) (in_inputs count recs) (in_all count recs) (number_at count recs at) s (omega (arith, number)) lt (ap c.to row ∙ goes)
 
   -- of no row: behind all
-  pub new_none : (n : ℕ) → home_from count 0 recs n ≡ None → new_of n ≡ length (those count recs number_item kept) + in_all count recs + n
+  pub new_none : (n : ℕ) → home_from count 0 recs n ≡ None → new_of n ≡ length (those count recs number_item kept) + c.count + n
   unfolding new_number
   new_none n e =
-      ap (λ (h : Option RowAt). unwrap_or (option_and_then (new_row (those count recs number_item kept)) h) (other_number (length (those count recs number_item kept)) (in_inputs count recs) (in_all count recs) n)) e
-      ∙ other_none (length (those count recs number_item kept)) (in_inputs count recs) (in_all count recs) n (none_past count recs n e)
+      ap (λ (h : Option RowAt). unwrap_or (option_and_then (new_row (those count recs number_item kept)) h) (other_number c (length (those count recs number_item kept)) (in_inputs count recs) (in_all count recs) n)) e
+      ∙ other_none c (length (those count recs number_item kept)) (in_inputs count recs) (in_all count recs) n (none_past count recs n e)
 
+module _ (count : AsmRec → ℕ) (recs : List AsmRec) (number_item : ℕ → Item) (kept : Kept) where
   -- a kept row's rank is below how many are kept
   pub rank_below : (n : ℕ) → n < in_inputs count recs → kept (number_item n) ≡ true → rank (keeps count recs number_item kept) n < length (those count recs number_item kept)
   rank_below n lt k =

@@ -8,6 +8,7 @@ use Rattle.world_model.specs.declared.members.FieldRow.{FieldRow}
 use Rattle.world_model.specs.declared.members.MethodDefRow.{MethodDefRow}
 use Rattle.world_model.specs.declared.record.AsmRec.{AsmRec}
 use Rattle.world_model.specs.Worlds.{types_in}
+use Rattle.core_table.specs.Record.{core_record}
 use Rattle.link_rules.specs.declared.row_at.RowAt.{RowAt}
 use Rattle.link_rules.specs.Members.{methods_in, fields_in}
 use Rattle.merge_rules.specs.Numbers.{Kept, kept_types, kept_methods, kept_fields}
@@ -15,11 +16,14 @@ use Rattle.merge_rules.specs.Moved.{moved_type_row, moved_method_row, moved_fiel
 use Rattle.merge_rules.specs.Restricted.{each_at, put_rva, placed_methods, moved_methods, output_of}
 use Rattle.merged_world_rules.specs.Merge.{Merge, before, output, IsMerge}
 use Rattle.merged_world_rules.specs.Numbering.{number_at}
+use Rattle.merged_world_rules.specs.NewNumbers.{type_core, method_core, field_core}
 use Rattle.merged_places.proofs.Ranks.{rank}
 use Rattle.merged_places.proofs.Rows.{IsThere, input_below}
 use Rattle.merged_places.proofs.Kept.{Every, keeps, those, IsKept, all_kept, new_row_is}
 use Rattle.merged_places.proofs.Numbers.{new_row_at}
-use Rattle.merged_places.proofs.Worlds.{each_length, each_get, placed_length, placed_get, left_is}
+use Rattle.merged_places.proofs.Worlds.{each_length, each_get, placed_length, placed_get, core_rec, core_types_counted, before_methods, left_methods, before_fields, left_fields, left_is}
+use Rattle.merged_places.proofs.CoreRows.{same_fits, same_goes, type_fits}
+use Rattle.merged_places.proofs.Moving.{Kind}
 
 -- ---- items by numbers
 
@@ -137,3 +141,29 @@ module _ (m : Merge) (is : IsMerge m) where
       (each_get (before m) (λ rec. rec.method_def) (moved_method_row (output m)) method_rows j at rec r (those_there methods_in (before m) number_method m.kept)
       (those_at methods_in (before m) number_method m.kept at h lt k) here row) in
       (got.0, ap (λ (ts : List MethodDefRow). slice_get ts j) method_table ∙ got.1)
+
+  -- ---- how each kind goes on
+
+  abbrev pub type_kind : Kind m types_in number_type
+  type_kind = record { core = type_core m; counted = types_counted; fits = type_fits m; whole = sym (core_types_counted m) }
+
+  abbrev pub method_kind : Kind m methods_in number_method
+  method_kind = record { core = method_core; counted = methods_counted; fits = same_fits (length core_record.method_def); whole = sym (ap length (left_methods m)) }
+
+  abbrev pub field_kind : Kind m fields_in number_field
+  field_kind = record { core = field_core; counted = fields_counted; fits = same_fits (length core_record.field); whole = sym (ap length (left_fields m)) }
+
+-- ---- rows of the core library that are there go on
+
+module _ (m : Merge) where
+  method_below : (at : RowAt) → IsThere methods_in (before m) at → suc at.asm ≡ length (before m) → at.row < length core_record.method_def
+  method_below at h last = subst (λ (n : ℕ). at.row < n) (ap length (before_methods m)) (subst (λ (rec : AsmRec). at.row < methods_in rec) (core_rec m at h.rec h.here last) h.below)
+
+  pub method_goes : (at : RowAt) → IsThere methods_in (before m) at → suc at.asm ≡ length (before m) → (s : ℕ) × (method_core.to at.row ≡ Some s)
+  method_goes at h last = (at.row, same_goes (length core_record.method_def) at.row (method_below at h last))
+
+  field_below : (at : RowAt) → IsThere fields_in (before m) at → suc at.asm ≡ length (before m) → at.row < length core_record.field
+  field_below at h last = subst (λ (n : ℕ). at.row < n) (ap length (before_fields m)) (subst (λ (rec : AsmRec). at.row < fields_in rec) (core_rec m at h.rec h.here last) h.below)
+
+  pub field_goes : (at : RowAt) → IsThere fields_in (before m) at → suc at.asm ≡ length (before m) → (s : ℕ) × (field_core.to at.row ≡ Some s)
+  field_goes at h last = (at.row, same_goes (length core_record.field) at.row (field_below at h last))

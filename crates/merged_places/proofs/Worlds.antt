@@ -12,12 +12,13 @@ use Rattle.core_table.specs.Record.{core_record}
 use Rattle.file_layout.specs.Bodies.{rvas_behind, behind, rva_at}
 use Rattle.link_rules.specs.declared.row_at.RowAt.{RowAt}
 use Rattle.link_rules.specs.Cycles.{listed}
-use Rattle.link_rules.specs.CoreNames.{missing_names, core_with}
+use Rattle.link_rules.specs.declared.core_type_name.CoreTypeName.{CoreTypeName}
+use Rattle.link_rules.specs.CoreNames.{added_row, core_with}
 use Rattle.link_rules.specs.Linked.{assemblies}
 use Rattle.type_rules.specs.Rows.{rec_at}
 use Rattle.merge_rules.specs.Refs.{Output}
 use Rattle.merge_rules.specs.Restricted.{each_at, put_rva, with_rvas, bodies_of, placed_methods, moved_methods, restricted_by, output_of, restricted}
-use Rattle.merged_world_rules.specs.Merge.{Merge, before, after, output, IsMerge}
+use Rattle.merged_world_rules.specs.Merge.{Merge, before, after, names_before, names_after, output, IsMerge}
 use Rattle.merged_places.proofs.Rows.{same_some, IsThere, place_within, place_has, get_front, get_behind}
 use Rattle.merged_places.proofs.Kept.{Every}
 
@@ -86,16 +87,20 @@ placed_get ms j m e = with_get (rvas_behind [] (bodies_of ms)) ms j m (rvas_fit 
 
 -- ---- the worlds
 
+-- the core library in either world
 unfoldable pub core_of : Merge → AsmRec
-core_of m = core_with core_record (missing_names (m.inputs ++ core_record ∷ []))
+core_of m = core_with core_record (names_before m)
+
+unfoldable pub left_core : Merge → AsmRec
+left_core m = core_with core_record (names_after m)
 
 pub before_is : (m : Merge) → before m ≡ m.inputs ++ core_of m ∷ []
 unfolding assemblies core_of
 before_is m = refl
 
-pub after_is : (m : Merge) → IsMerge m → after m ≡ m.left ∷ core_of m ∷ []
-unfolding assemblies core_of
-after_is m is = ap (λ (names : _). m.left ∷ core_with core_record names ∷ []) is.names
+pub after_is : (m : Merge) → after m ≡ m.left ∷ left_core m ∷ []
+unfolding assemblies left_core
+after_is m = refl
 
 pub before_length : (m : Merge) → length (before m) ≡ suc (length m.inputs)
 before_length m = ap length (before_is m) ∙ length-append m.inputs (core_of m ∷ []) ∙ omega arith
@@ -104,6 +109,77 @@ pub before_core : (m : Merge) → slice_get (before m) (length m.inputs) ≡ Som
 before_core m =
     ap (λ (recs : List AsmRec). slice_get recs (length m.inputs)) (before_is m)
     ∙ ap (slice_get (m.inputs ++ core_of m ∷ [])) (omega arith) ∙ get_behind m.inputs (core_of m ∷ []) 0
+
+pub after_core : (m : Merge) → slice_get (after m) 1 ≡ Some (left_core m)
+after_core m = ap (λ (recs : List AsmRec). slice_get recs 1) (after_is m)
+
+pub after_left : (m : Merge) → slice_get (after m) 0 ≡ Some m.left
+after_left m = ap (λ (recs : List AsmRec). slice_get recs 0) (after_is m)
+
+-- the row of the last assembly is the core library
+pub core_rec : (m : Merge) (at : RowAt) (rec : AsmRec) → slice_get (before m) at.asm ≡ Some rec → suc at.asm ≡ length (before m) → rec ≡ core_of m
+core_rec m at rec here last =
+    let long = before_length m in
+    let asm : at.asm ≡ length m.inputs = omega (arith, long, last) in
+    same_some rec (core_of m) (sym here ∙ ap (slice_get (before m)) asm ∙ before_core m)
+
+pub core_at : (m : Merge) (at : RowAt) → suc at.asm ≡ length (before m) → slice_get (before m) at.asm ≡ Some (core_of m)
+core_at m at last = let long = before_length m in ap (slice_get (before m)) (omega (arith, long, last)) ∙ before_core m
+
+-- its tables
+types_of : (names : List CoreTypeName) → (core_with core_record names).type_def ≡ core_record.type_def ++ map (added_row core_record) names
+unfolding core_with
+types_of names = refl
+
+methods_of : (names : List CoreTypeName) → (core_with core_record names).method_def ≡ core_record.method_def
+unfolding core_with
+methods_of names = refl
+
+fields_of : (names : List CoreTypeName) → (core_with core_record names).field ≡ core_record.field
+unfolding core_with
+fields_of names = refl
+
+params_of : (names : List CoreTypeName) → (core_with core_record names).generic_param ≡ core_record.generic_param
+unfolding core_with
+params_of names = refl
+
+module _ (m : Merge) where
+  pub before_types : (core_of m).type_def ≡ core_record.type_def ++ map (added_row core_record) (names_before m)
+  unfolding core_of
+  before_types = types_of (names_before m)
+
+  pub left_types : (left_core m).type_def ≡ core_record.type_def ++ map (added_row core_record) (names_after m)
+  unfolding left_core
+  left_types = types_of (names_after m)
+
+  pub before_methods : (core_of m).method_def ≡ core_record.method_def
+  unfolding core_of
+  before_methods = methods_of (names_before m)
+
+  pub left_methods : (left_core m).method_def ≡ core_record.method_def
+  unfolding left_core
+  left_methods = methods_of (names_after m)
+
+  pub before_fields : (core_of m).field ≡ core_record.field
+  unfolding core_of
+  before_fields = fields_of (names_before m)
+
+  pub left_fields : (left_core m).field ≡ core_record.field
+  unfolding left_core
+  left_fields = fields_of (names_after m)
+
+  pub before_params : (core_of m).generic_param ≡ core_record.generic_param
+  unfolding core_of
+  before_params = params_of (names_before m)
+
+  pub left_params : (left_core m).generic_param ≡ core_record.generic_param
+  unfolding left_core
+  left_params = params_of (names_after m)
+
+  pub core_types_counted : length (left_core m).type_def ≡ length core_record.type_def + length (names_after m)
+  core_types_counted =
+      ap length left_types ∙ length-append core_record.type_def (map (added_row core_record) (names_after m))
+      ∙ ap (λ (n : ℕ). length core_record.type_def + n) (length-map (names_after m) (added_row core_record))
 
 -- an assembly that isn't the last is an input
 pub before_input : (m : Merge) (a : ℕ) → suc a < length (before m) → slice_get (before m) a ≡ slice_get m.inputs a

@@ -21,9 +21,8 @@ use Rattle.core_table.specs.Kinds.{core_row, owned, member_in}
 use Rattle.core_table.specs.Members.{methods_of}
 use Rattle.core_table.specs.Record.{core_record, record_with, type_rows, method_row, method_rows, all_methods}
 use Rattle.link_rules.specs.declared.row_at.RowAt.{RowAt}
-use Rattle.link_rules.specs.declared.core_type_name.CoreTypeName.{CoreTypeName}
 use Rattle.link_rules.specs.Types.{at_row}
-use Rattle.link_rules.specs.CoreNames.{missing_names, added_row, core_with}
+use Rattle.link_rules.specs.CoreNames.{added_row}
 use Rattle.link_rules.specs.Members.{home_from, array_type, methods_in}
 use Rattle.merge_rules.specs.Numbers.{kept_types, kept_methods}
 use Rattle.cil_values.specs.declared.core_call.CoreCall.{CoreCall}
@@ -33,14 +32,16 @@ use Rattle.change_rules.specs.Change.{Keep, Undone}
 use Rattle.change_rules.specs.Moves.{move_type}
 use Rattle.world_change_rules.specs.Places.{type_numbered}
 use Rattle.world_change_rules.specs.Rows.{CoreMoves}
-use Rattle.merged_world_rules.specs.Merge.{Merge, IsMerge, before, after}
+use Rattle.query_laws.proofs.Prims.{prim_first}
+use Rattle.merged_world_rules.specs.Merge.{Merge, IsMerge, before, after, names_before, names_after}
 use Rattle.merged_world_rules.specs.Numbering.{in_inputs, in_all, number_at}
-use Rattle.merged_world_rules.specs.NewNumbers.{rho_of, back_of, change_of}
+use Rattle.merged_world_rules.specs.NewNumbers.{type_core, method_core, rho_of, back_of, change_of}
 use Rattle.merged_world_rules.specs.Kept.{HasFlags}
 use Rattle.merged_places.proofs.Rows.{IsThere, place_within, home_there, home_number, none_past, input_below, core_number, all_is}
 use Rattle.merged_places.proofs.Numbers.{new_of, new_kept, new_core, new_none, rank_below}
-use Rattle.merged_places.proofs.Worlds.{core_of, before_is, after_is, before_length, before_core}
-use Rattle.merged_places.proofs.Tables.{number_type, number_method, type_rows as kept_type_rows, method_rows as kept_method_rows, types_counted, methods_counted}
+use Rattle.merged_places.proofs.Worlds.{core_of, left_core, before_is, after_is, before_length, before_core, before_types, left_types, before_methods}
+use Rattle.merged_places.proofs.CoreRows.{same_goes, own_goes}
+use Rattle.merged_places.proofs.Tables.{number_type, number_method, type_rows as kept_type_rows, method_rows as kept_method_rows, types_counted, methods_counted, method_goes}
 use Rattle.merged_places.proofs.Whole.{method_stays}
 
 -- ---- the table of the core library
@@ -59,11 +60,11 @@ found_below l (Some k) some h = h k refl
 position_below : {A : Type 0} (p : A → Bool) (xs : List A) → 0 < length xs → unwrap_or (position p xs) 0 < length xs
 position_below p xs some = found_below (length xs) (position p xs) some (λ k e. found_at p xs k e)
 
-type_count : length core_record.type_def ≡ length TYPES
+pub type_count : length core_record.type_def ≡ length TYPES
 unfolding core_record record_with type_rows
 type_count = refl
 
-type_row_below : (n : CoreName) → core_type_row n < length core_record.type_def
+pub type_row_below : (n : CoreName) → core_type_row n < length core_record.type_def
 unfolding core_type_row
 type_row_below n = let lt = position_below (is_type_named n) TYPES (omega arith) in let same = type_count in omega (arith, lt, same)
 
@@ -103,16 +104,6 @@ member_past (t ∷ ts) at le =
 record_methods : length core_record.method_def ≡ length (all_methods TYPES)
 unfolding core_record record_with
 record_methods = refl
-
--- ---- with added names
-
-types_are : (names : List CoreTypeName) → (core_with core_record names).type_def ≡ core_record.type_def ++ map (added_row core_record) names
-unfolding core_with
-types_are names = refl
-
-methods_are : (names : List CoreTypeName) → (core_with core_record names).method_def ≡ core_record.method_def
-unfolding core_with
-methods_are names = refl
 
 -- ---- the last assembly
 
@@ -155,27 +146,17 @@ row_high (x ∷ y ∷ xs) c n ge =
 -- ---- in a merge
 
 module _ (m : Merge) (is : IsMerge m) where
-  abbrev names : List CoreTypeName
-  names = missing_names (m.inputs ++ core_record ∷ [])
-
-  core_is : core_of m ≡ core_with core_record names
-  unfolding core_of
-  core_is = refl
-
-  types_more : length core_record.type_def ≤ types_in (core_of m)
-  types_more =
-      let long = length-append core_record.type_def (map (added_row core_record) names) in
-      let whole : types_in (core_of m) ≡ length (core_record.type_def ++ map (added_row core_record) names) = ap types_in core_is ∙ ap length (types_are names) in
-      omega (arith, long, whole)
-
   methods_same : methods_in (core_of m) ≡ length core_record.method_def
-  methods_same = ap methods_in core_is ∙ ap length (methods_are names)
+  methods_same = ap length (before_methods m)
 
-  pub before_types : core_types (before m) ≡ (core_of m).type_def
-  before_types = ap core_types (before_is m) ∙ types_behind m.inputs (core_of m)
+  types_before : core_types (before m) ≡ core_record.type_def ++ map (added_row core_record) (names_before m)
+  types_before = ap core_types (before_is m) ∙ types_behind m.inputs (core_of m) ∙ before_types m
 
-  pub after_types : core_types (after m) ≡ (core_of m).type_def
-  after_types = ap core_types (after_is m is) ∙ types_behind (m.left ∷ []) (core_of m)
+  types_after : core_types (after m) ≡ core_record.type_def ++ map (added_row core_record) (names_after m)
+  types_after = ap core_types (after_is m) ∙ types_behind (m.left ∷ []) (left_core m) ∙ left_types m
+
+  pub types_more : length core_record.type_def ≤ types_in (core_of m)
+  types_more = let long = ap length (before_types m) ∙ length-append core_record.type_def (map (added_row core_record) (names_before m)) in omega (arith, long)
 
   -- ---- places behind the rows of inputs
 
@@ -191,31 +172,29 @@ module _ (m : Merge) (is : IsMerge m) where
 
   first_rows : (count : AsmRec → ℕ) → in_inputs count (after m) ≡ count m.left
   first_rows count =
-      let one : length (after m) - 1 ≡ 1 = ap (λ (recs : List AsmRec). length recs - 1) (after_is m is) in
-      ap (rows_before count (after m)) one ∙ ap (λ (recs : List AsmRec). rows_before count recs 1) (after_is m is) ∙ one_row count m.left (core_of m)
+      let one : length (after m) - 1 ≡ 1 = ap (λ (recs : List AsmRec). length recs - 1) (after_is m) in
+      ap (rows_before count (after m)) one ∙ ap (λ (recs : List AsmRec). rows_before count recs 1) (after_is m) ∙ one_row count m.left (left_core m)
 
   -- ---- types
 
-  core_type_there : (r : ℕ) → r < types_in (core_of m) → IsThere types_in (before m) (at_row (length (before m) - 1) r)
-  core_type_there r lt = record { rec = core_of m; here = last_there; below = lt }
+  core_type_there : (r : ℕ) → r < length core_record.type_def → IsThere types_in (before m) (at_row (length (before m) - 1) r)
+  core_type_there r lt = let more = types_more in record { rec = core_of m; here = last_there; below = omega (arith, lt, more) }
 
-  pub type_moved : (r : ℕ) → r < types_in (core_of m) → (type_id (after m) (length (after m) - 1) r).0 ≡ (rho_of m).typ (type_id (before m) (length (before m) - 1) r).0
+  pub type_moved : (r : ℕ) → r < length core_record.type_def → (type_id (after m) (length (after m) - 1) r).0 ≡ (rho_of m).typ (type_id (before m) (length (before m) - 1) r).0
   unfolding kept_types
   type_moved r lt =
       let long = before_length m in
-      let e = new_core types_in (before m) number_type m.kept (at_row (length (before m) - 1) r) (core_type_there r lt) (omega (arith, long)) in
+      let e = new_core types_in (type_core m) (before m) number_type m.kept (at_row (length (before m) - 1) r) r (core_type_there r lt) (omega (arith, long))
+      (own_goes (length core_record.type_def) (names_before m) (names_after m) r lt) in
       let f = first_rows types_in in
       let g = types_counted m is in
       let here : in_inputs types_in (after m) + r ≡ length (kept_type_rows m is) + r = omega (arith, f, g) in
       here ∙ sym e
 
   core_types_move : (n : CoreName) → core_type_id (after m) n ≡ (rho_of m).typ (core_type_id (before m) n)
-  core_types_move n =
-      let lt = type_row_below n in
-      let more = types_more in
-      type_moved (core_type_row n) (omega (arith, lt, more))
+  core_types_move n = type_moved (core_type_row n) (type_row_below n)
 
-  typed_by : (o : Option ℕ) → ((r : ℕ) → o ≡ Some r → r < types_in (core_of m))
+  typed_by : (o : Option ℕ) → ((r : ℕ) → o ≡ Some r → r < length core_record.type_def)
       → option_map (λ (r : ℕ). type_id (after m) (length (after m) - 1) r) o ≡ option_map (move_type (rho_of m)) (option_map (λ (r : ℕ). type_id (before m) (length (before m) - 1) r) o)
   typed_by None h = refl
   typed_by (Some r) h = ap (λ (n : ℕ). Some (type_numbered n)) (type_moved r (h r refl))
@@ -223,12 +202,13 @@ module _ (m : Merge) (is : IsMerge m) where
   prims_move : (n : ℕ) → prim_type (after m) n ≡ option_map (move_type (rho_of m)) (prim_type (before m) n)
   unfolding prim_type
   prims_move n =
-      ap (λ (ts : List TypeDefRow). option_map (λ (r : ℕ). type_id (after m) (length (after m) - 1) r) (position (is_code_of n) ts)) after_types
-      ∙ typed_by (position (is_code_of n) (core_of m).type_def) (λ r e. found_at (is_code_of n) (core_of m).type_def r e)
-      ∙ sym (ap (λ (ts : List TypeDefRow). option_map (move_type (rho_of m)) (option_map (λ (r : ℕ). type_id (before m) (length (before m) - 1) r) (position (is_code_of n) ts))) before_types)
+      ap (option_map (λ (r : ℕ). type_id (after m) (length (after m) - 1) r)) (ap (position (is_code_of n)) types_after ∙ prim_first n (map (added_row core_record) (names_after m)))
+      ∙ typed_by (position (is_code_of n) core_record.type_def) (λ r e. found_at (is_code_of n) core_record.type_def r e)
+      ∙ sym (ap (λ (o : Option ℕ). option_map (move_type (rho_of m)) (option_map (λ (r : ℕ). type_id (before m) (length (before m) - 1) r) o))
+      (ap (position (is_code_of n)) types_before ∙ prim_first n (map (added_row core_record) (names_before m))))
 
   array_moves : array_type (after m) ≡ option_map (move_type (rho_of m)) (array_type (before m))
-  array_moves = typed_by (Some 21) (λ r e. let same : 21 ≡ r = cc in let lt = array_below in let more = types_more in omega (arith, same, lt, more))
+  array_moves = typed_by (Some 21) (λ r e. let same : 21 ≡ r = cc in let lt = array_below in omega (arith, same, lt))
 
   -- ---- methods
 
@@ -239,7 +219,8 @@ module _ (m : Merge) (is : IsMerge m) where
       let lt = method_below n in
       let more = methods_same in
       let there : IsThere methods_in (before m) (at_row (length (before m) - 1) (object_method n)) = record { rec = core_of m; here = last_there; below = omega (arith, lt, more) } in
-      let e = new_core methods_in (before m) number_method m.kept (at_row (length (before m) - 1) (object_method n)) there (omega (arith, long)) in
+      let e = new_core methods_in method_core (before m) number_method m.kept (at_row (length (before m) - 1) (object_method n)) (object_method n) there (omega (arith, long))
+      (same_goes (length core_record.method_def) (object_method n) lt) in
       let f = first_rows methods_in in
       let g = methods_counted m is in
       let here : in_inputs methods_in (after m) + object_method n ≡ length (kept_method_rows m is) + object_method n = omega (arith, f, g) in
@@ -258,26 +239,26 @@ module _ (m : Merge) (is : IsMerge m) where
       let b = bound_before in
       ap (λ (recs : List AsmRec). core_row recs n) (before_is m) ∙ row_high m.inputs (core_of m) n (omega (arith, ge, b)) ∙ ap (λ (k : ℕ). Some (n - k)) b
 
-  bound_after : rows_before methods_in (m.left ∷ core_of m ∷ []) 1 ≡ length (kept_method_rows m is)
-  bound_after = one_row methods_in m.left (core_of m) ∙ methods_counted m is
+  bound_after : rows_before methods_in (m.left ∷ left_core m ∷ []) 1 ≡ length (kept_method_rows m is)
+  bound_after = one_row methods_in m.left (left_core m) ∙ methods_counted m is
 
   after_low : (n : ℕ) → n < length (kept_method_rows m is) → core_row (after m) n ≡ None
   after_low n lt =
       let b = bound_after in
-      let less : n < rows_before methods_in (m.left ∷ core_of m ∷ []) 1 = omega (arith, lt, b) in
-      ap (λ (recs : List AsmRec). core_row recs n) (after_is m is) ∙ row_low (m.left ∷ []) (core_of m) n less
+      let less : n < rows_before methods_in (m.left ∷ left_core m ∷ []) 1 = omega (arith, lt, b) in
+      ap (λ (recs : List AsmRec). core_row recs n) (after_is m) ∙ row_low (m.left ∷ []) (left_core m) n less
 
   after_high : (n : ℕ) → length (kept_method_rows m is) ≤ n → core_row (after m) n ≡ Some (n - length (kept_method_rows m is))
   after_high n ge =
       let b = bound_after in
-      let more : rows_before methods_in (m.left ∷ core_of m ∷ []) 1 ≤ n = omega (arith, ge, b) in
-      ap (λ (recs : List AsmRec). core_row recs n) (after_is m is) ∙ row_high (m.left ∷ []) (core_of m) n more ∙ ap (λ (k : ℕ). Some (n - k)) b
+      let more : rows_before methods_in (m.left ∷ left_core m ∷ []) 1 ≤ n = omega (arith, ge, b) in
+      ap (λ (recs : List AsmRec). core_row recs n) (after_is m) ∙ row_high (m.left ∷ []) (left_core m) n more ∙ ap (λ (k : ℕ). Some (n - k)) b
 
   abbrev called : Option ℕ → Option CoreCall
   called o = option_and_then call_of (option_and_then (member_in TYPES) o)
 
-  past_is : (r : ℕ) → methods_in (core_of m) ≤ r → member_in TYPES r ≡ None
-  past_is r le = let a = methods_same in let b = record_methods in member_past TYPES r (omega (arith, le, a, b))
+  past_is : (r : ℕ) → length core_record.method_def ≤ r → member_in TYPES r ≡ None
+  past_is r le = let b = record_methods in member_past TYPES r (omega (arith, le, b))
 
   before_all : in_all methods_in (before m) ≡ in_inputs methods_in (before m) + methods_in (core_of m)
   before_all = subst (λ (recs : List AsmRec). in_all methods_in recs ≡ in_inputs methods_in recs + methods_in (core_of m)) (sym (before_is m)) (all_is methods_in m.inputs (core_of m))
@@ -285,38 +266,39 @@ module _ (m : Merge) (is : IsMerge m) where
   module _ (k : Keep) (kept : RowAt → Bool) (flags : HasFlags m k kept) where
     -- of a row that is there
     called_there : (n : ℕ) (at : RowAt) → home_from methods_in 0 (before m) n ≡ Some at → IsTrue (k.method n) → (suc at.asm < length (before m)) ⊎ (length (before m) ≤ suc at.asm)
-        → core_row (after m) (new_of methods_in (before m) number_method m.kept n) ≡ core_row (before m) n
+        → core_row (after m) (new_of methods_in method_core (before m) number_method m.kept n) ≡ core_row (before m) n
     called_there n at e h (inl lt) =
         let there = home_there methods_in (before m) n at e in
         let number = home_number methods_in (before m) n at e in
-        let keeps = method_stays m k kept flags at there (subst (λ (i : ℕ). IsTrue (k.method i)) (sym number) h) in
+        let keeps = (method_stays m is k kept flags at (subst (λ (i : ℕ). IsTrue (k.method i)) (sym number) h) there).0 lt in
         let low = input_below methods_in (before m) at there lt in
         let rank_low = rank_below methods_in (before m) number_method m.kept (number_at methods_in (before m) at) low keeps in
-        let new = new_kept methods_in (before m) number_method m.kept at there lt keeps in
-        ap (λ (i : ℕ). core_row (after m) (new_of methods_in (before m) number_method m.kept i)) (sym number)
+        let new = new_kept methods_in method_core (before m) number_method m.kept at there lt keeps in
+        ap (λ (i : ℕ). core_row (after m) (new_of methods_in method_core (before m) number_method m.kept i)) (sym number)
         ∙ ap (core_row (after m)) new ∙ after_low _ rank_low ∙ sym (before_low n (omega (arith, low, number)))
     called_there n at e h (inr ge) =
         let there = home_there methods_in (before m) n at e in
         let number = home_number methods_in (before m) n at e in
         let asm = place_within (before m) at.asm there.rec there.here in
         let last : suc at.asm ≡ length (before m) = omega (arith, asm, ge) in
-        let new = new_core methods_in (before m) number_method m.kept at there last in
+        let new = new_core methods_in method_core (before m) number_method m.kept at at.row there last (method_goes m at there last).1 in
         let old = core_number methods_in (before m) at last in
         let up : length (kept_method_rows m is) + at.row - length (kept_method_rows m is) ≡ n - in_inputs methods_in (before m) = omega (arith, number, old) in
-        ap (λ (i : ℕ). core_row (after m) (new_of methods_in (before m) number_method m.kept i)) (sym number)
+        ap (λ (i : ℕ). core_row (after m) (new_of methods_in method_core (before m) number_method m.kept i)) (sym number)
         ∙ ap (core_row (after m)) new ∙ after_high (length (kept_method_rows m is) + at.row) (omega arith)
         ∙ ap Some up ∙ sym (before_high n (omega (arith, number, old)))
 
     call_by : (n : ℕ) (o : Option RowAt) → home_from methods_in 0 (before m) n ≡ o → IsTrue (k.method n)
-        → called (core_row (after m) (new_of methods_in (before m) number_method m.kept n)) ≡ called (core_row (before m) n)
+        → called (core_row (after m) (new_of methods_in method_core (before m) number_method m.kept n)) ≡ called (core_row (before m) n)
     call_by n None e h =
         let past = none_past methods_in (before m) n e in
         let all = before_all in
-        let new = new_none methods_in (before m) number_method m.kept n e in
+        let count = methods_same in
+        let new = new_none methods_in method_core (before m) number_method m.kept n e in
         ap (λ (i : ℕ). called (core_row (after m) i)) new
-        ∙ ap called (after_high (length (kept_method_rows m is) + in_all methods_in (before m) + n) (omega arith))
-        ∙ ap (option_and_then call_of) (past_is (length (kept_method_rows m is) + in_all methods_in (before m) + n - length (kept_method_rows m is)) (omega (arith, all)))
-        ∙ sym (ap called (before_high n (omega (arith, past, all))) ∙ ap (option_and_then call_of) (past_is (n - in_inputs methods_in (before m)) (omega (arith, past, all))))
+        ∙ ap called (after_high (length (kept_method_rows m is) + length core_record.method_def + n) (omega arith))
+        ∙ ap (option_and_then call_of) (past_is (length (kept_method_rows m is) + length core_record.method_def + n - length (kept_method_rows m is)) (omega arith))
+        ∙ sym (ap called (before_high n (omega (arith, past, all))) ∙ ap (option_and_then call_of) (past_is (n - in_inputs methods_in (before m)) (omega (arith, past, all, count))))
     call_by n (Some at) e h = ap called (called_there n at e h (cases_lt (suc at.asm) (length (before m))))
 
     calls_move : (n : ℕ) → IsTrue (k.method n) → core_call (after m) ((rho_of m).method n) ≡ core_call (before m) n

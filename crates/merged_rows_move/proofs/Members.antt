@@ -23,11 +23,13 @@ use Rattle.merge_rules.specs.Restricted.{output_of}
 use Rattle.merged_world_rules.specs.Merge.{Merge, before, after, output, IsMerge}
 use Rattle.merged_world_rules.specs.Numbering.{number_at}
 use Rattle.merged_places.proofs.Ranks.{rank}
-use Rattle.merged_places.proofs.Rows.{IsThere, place_within, place_has, place_past, same_some}
-use Rattle.merged_places.proofs.Kept.{keeps, those}
-use Rattle.merged_places.proofs.Worlds.{core_of, after_is, before_length, before_core, before_input}
-use Rattle.merged_places.proofs.Situations.{place, situation, Input, Core, Gone, HasNone}
-use Rattle.merged_places.proofs.Tables.{number_type, number_method, number_field, method_rows, field_rows, types_counted, methods_counted, fields_counted, type_left}
+use Rattle.merged_places.proofs.Rows.{IsThere, place_has, place_past}
+use Rattle.merged_places.proofs.Kept.{keeps}
+use Rattle.merged_places.proofs.Worlds.{core_of, left_core, after_left, after_core, core_rec, core_at, before_methods, left_methods, before_fields, left_fields, before_input}
+use Rattle.merged_places.proofs.CoreTables.{type_same}
+use Rattle.merged_places.proofs.Moving.{Stays, place_core}
+use Rattle.merged_places.proofs.Situations.{place, place_there, situation, Input, Core, Gone, HasNone}
+use Rattle.merged_places.proofs.Tables.{number_type, number_method, number_field, method_rows, field_rows, type_kind, method_kind, field_kind, method_goes, field_goes, type_left}
 use Rattle.merged_rows_move.proofs.Runs.{run_moved, core_stretch}
 
 -- ---- the members of a row
@@ -79,31 +81,17 @@ run_within first end rows =
     let taken = length-take (end - first) (drop (first - 1) rows) in
     omega (arith, rest, taken)
 
-none_past : {R : Type 0} (rows : List R) (k : ℕ) → slice_get rows k ≡ None → length rows ≤ k
-none_past [] k e = omega arith
-none_past (x ∷ rows) zero e = absurd (cc)
-none_past (x ∷ rows) (suc k) e = let le = none_past rows k e in omega (arith, le)
-
 -- ---- in a merge
-
--- a row of the core library, there or not, keeps its row
-pub core_place : (m : Merge) (is : IsMerge m) (count : AsmRec → ℕ) (number_item : ℕ → Item) (counted : count m.left ≡ length (those count (before m) number_item m.kept)) (at : RowAt)
-    → suc at.asm ≡ length (before m) → place m is count number_item counted at ≡ at_row 1 at.row
-core_place m is count number_item counted at last =
-    elim (situation m is count number_item counted at (λ h lt. absurd (omega (arith, lt, last)))) [
-      | inl h ↦ let lt = h.earlier in absurd (omega (arith, lt, last))
-      | inr other ↦ elim other [ inl h ↦ h.moved | inr h ↦ absurd (h.apart last) ]
-    ]
 
 module _ (m : Merge) (is : IsMerge m) where
   abbrev type_place : RowAt → RowAt
-  type_place at = place m is types_in number_type (types_counted m is) at
+  type_place at = place m types_in number_type (type_kind m is) at
 
   abbrev method_place : RowAt → RowAt
-  method_place at = place m is methods_in number_method (methods_counted m is) at
+  method_place at = place m methods_in number_method (method_kind m is) at
 
   abbrev field_place : RowAt → RowAt
-  field_place at = place m is fields_in number_field (fields_counted m is) at
+  field_place at = place m fields_in number_field (field_kind m is) at
 
   pub record_of : (a : ℕ) (rec : AsmRec) → slice_get (before m) a ≡ Some rec → suc a < length (before m) → IsRecord rec
   record_of a rec e lt = is.records a rec (sym (before_input m a lt) ∙ e)
@@ -116,19 +104,14 @@ module _ (m : Merge) (is : IsMerge m) where
   unfolding table_sizes
   field_size rec = refl
 
-  pub left_here : slice_get (after m) 0 ≡ Some m.left
-  left_here = ap (λ (recs : List AsmRec). slice_get recs 0) (after_is m is)
+  -- a member of the core library keeps its row
+  method_stays : (at : RowAt) → IsThere methods_in (before m) at → suc at.asm ≡ length (before m) → method_place at ≡ at_row 1 at.row
+  method_stays at h last =
+      place_there m methods_in number_method (method_kind m is) at h ∙ place_core m methods_in number_method (method_kind m is) at at.row h last (method_goes m at h last).1
 
-  pub core_here : slice_get (after m) 1 ≡ Some (core_of m)
-  core_here = ap (λ (recs : List AsmRec). slice_get recs 1) (after_is m is)
-
-  pub core_before : (at : RowAt) → suc at.asm ≡ length (before m) → slice_get (before m) at.asm ≡ Some (core_of m)
-  core_before at last = let long = before_length m in ap (slice_get (before m)) (omega (arith, long, last)) ∙ before_core m
-
-  none_there : (recs : List AsmRec) (at : RowAt) (rec : AsmRec) → slice_get recs at.asm ≡ Some rec → types_in rec ≤ at.row → HasNone types_in recs at
-  none_there recs at rec e le x f =
-      let same : rec ≡ x = same_some rec x (sym e ∙ f) in
-      subst (λ (y : AsmRec). types_in y ≤ at.row) same le
+  field_stays : (at : RowAt) → IsThere fields_in (before m) at → suc at.asm ≡ length (before m) → field_place at ≡ at_row 1 at.row
+  field_stays at h last =
+      place_there m fields_in number_field (field_kind m is) at h ∙ place_core m fields_in number_field (field_kind m is) at at.row h last (field_goes m at h last).1
 
   -- runs of a row of what is left
   method_runs : (at : RowAt) (rec : AsmRec) (t : TypeDefRow) → run_places (moved_type_row m.internal (output m) at rec t).method_list_first (moved_type_row m.internal (output m) at rec t).method_list_end m.left.method_def
@@ -142,9 +125,8 @@ module _ (m : Merge) (is : IsMerge m) where
   field_runs at rec t = refl
 
   module _ (flag : RowAt → Bool) (flagged : (at : RowAt) → IsThere methods_in (before m) at → flag at ≡ m.kept (number_method (number_at methods_in (before m) at)))
-      (core_kept : (at : RowAt) → IsThere methods_in (before m) at → suc at.asm ≡ length (before m) → flag at ≡ true)
-      (core_moves : (at : RowAt) → suc at.asm ≡ length (before m) → method_place at ≡ at_row 1 at.row) where
-    methods_input : (at : RowAt) → Input m is types_in number_type (types_counted m is) at → methods_of_type (after m) (type_place at) ≡ map method_place (filter flag (methods_of_type (before m) at))
+      (core_kept : (at : RowAt) → IsThere methods_in (before m) at → suc at.asm ≡ length (before m) → flag at ≡ true) where
+    methods_input : (at : RowAt) → Input m types_in number_type (type_kind m is) at → methods_of_type (after m) (type_place at) ≡ map method_place (filter flag (methods_of_type (before m) at))
     methods_input at h =
         let row = place_has h.there.rec.type_def at.row h.there.below in
         let whole = record_of at.asm h.there.rec h.there.here h.earlier in
@@ -154,42 +136,39 @@ module _ (m : Merge) (is : IsMerge m) where
         let size = method_size h.there.rec in
         let left = type_left m is at h.there.rec row.0 h.there h.earlier h.keeps_it h.there.here row.1 in
         ap (methods_of_type (after m)) h.moved
-        ∙ methods_at (after m) (at_row 0 (rank (keeps types_in (before m) number_type m.kept) (number_at types_in (before m) at))) m.left left_here (moved_type_row m.internal (output m) at h.there.rec row.0) left
+        ∙ methods_at (after m) (at_row 0 (rank (keeps types_in (before m) number_type m.kept) (number_at types_in (before m) at))) m.left (after_left m) (moved_type_row m.internal (output m) at h.there.rec row.0) left
         ∙ ap (map (at_row 0)) (method_runs at h.there.rec row.0)
-        ∙ run_moved m is (λ rec. rec.method_def) number_method (methods_counted m is) flag flagged at.asm h.there.rec row.0.method_list_first row.0.method_list_end h.there.here h.earlier some le
+        ∙ run_moved m (λ rec. rec.method_def) number_method (method_kind m is) flag flagged at.asm h.there.rec row.0.method_list_first row.0.method_list_end h.there.here h.earlier some le
         (omega (arith, within, size))
         ∙ ap (λ (xs : List RowAt). map method_place (filter flag xs)) (sym (methods_at (before m) at h.there.rec h.there.here row.0 row.1))
 
-    core_methods_by : (at : RowAt) → Core m is types_in number_type (types_counted m is) at → slice_get (before m) at.asm ≡ Some (core_of m) → (o : Option TypeDefRow) → slice_get (core_of m).type_def at.row ≡ o
-        → methods_of_type (after m) (at_row 1 at.row) ≡ map method_place (filter flag (methods_of_type (before m) at))
-    core_methods_by at h here None e =
-        no_methods (after m) (at_row 1 at.row) (none_there (after m) (at_row 1 at.row) (core_of m) core_here (none_past (core_of m).type_def at.row e))
-        ∙ sym (ap (λ (xs : List RowAt). map method_place (filter flag xs)) (no_methods (before m) at (none_there (before m) at (core_of m) here (none_past (core_of m).type_def at.row e))))
-    core_methods_by at h here (Some t) e =
-        methods_at (after m) (at_row 1 at.row) (core_of m) core_here t e
-        ∙ sym (core_stretch m is (λ rec. rec.method_def) number_method (methods_counted m is) flag flagged at.asm (core_of m) here h.last core_kept core_moves (t.method_list_first - 1)
-        (length (run_of t.method_list_first t.method_list_end (core_of m).method_def)) (run_within t.method_list_first t.method_list_end (core_of m).method_def))
-        ∙ ap (λ (xs : List RowAt). map method_place (filter flag xs)) (sym (methods_at (before m) at (core_of m) here t e))
-
-    core_methods : (at : RowAt) → Core m is types_in number_type (types_counted m is) at → methods_of_type (after m) (type_place at) ≡ map method_place (filter flag (methods_of_type (before m) at))
+    core_methods : (at : RowAt) → Core m types_in number_type (type_kind m is) at → methods_of_type (after m) (type_place at) ≡ map method_place (filter flag (methods_of_type (before m) at))
     core_methods at h =
-        ap (methods_of_type (after m)) h.moved ∙ core_methods_by at h (core_before at h.last) (slice_get (core_of m).type_def at.row) refl
+        let row = place_has h.there.rec.type_def at.row h.there.below in
+        let here = core_at m at h.last in
+        let e : slice_get (core_of m).type_def at.row ≡ Some row.0 = ap (λ (rec : AsmRec). slice_get rec.type_def at.row) (sym (core_rec m at h.there.rec h.there.here h.last)) ∙ row.1 in
+        let f : slice_get (left_core m).type_def h.row ≡ Some row.0 = type_same m at.row h.row h.goes ∙ e in
+        ap (methods_of_type (after m)) h.moved
+        ∙ methods_at (after m) (at_row 1 h.row) (left_core m) (after_core m) row.0 f
+        ∙ ap (λ (rows : List MethodDefRow). map (at_row 1) (run_places row.0.method_list_first row.0.method_list_end rows)) (left_methods m ∙ sym (before_methods m))
+        ∙ sym (core_stretch m (λ rec. rec.method_def) number_method (method_kind m is) flag flagged at.asm (core_of m) here h.last core_kept method_stays (row.0.method_list_first - 1)
+        (length (run_of row.0.method_list_first row.0.method_list_end (core_of m).method_def)) (run_within row.0.method_list_first row.0.method_list_end (core_of m).method_def))
+        ∙ ap (λ (xs : List RowAt). map method_place (filter flag xs)) (sym (methods_at (before m) at (core_of m) here row.0 e))
 
-    gone_methods : (at : RowAt) → Gone m is types_in number_type (types_counted m is) at → methods_of_type (after m) (type_place at) ≡ map method_place (filter flag (methods_of_type (before m) at))
+    gone_methods : (at : RowAt) → Gone m types_in number_type (type_kind m is) at → methods_of_type (after m) (type_place at) ≡ map method_place (filter flag (methods_of_type (before m) at))
     gone_methods at h =
         no_methods (after m) (type_place at) h.none_after ∙ sym (ap (λ (xs : List RowAt). map method_place (filter flag xs)) (no_methods (before m) at h.none_before))
 
-    pub methods_move : (at : RowAt) → (IsThere types_in (before m) at → suc at.asm < length (before m) → m.kept (number_type (number_at types_in (before m) at)) ≡ true)
+    pub methods_move : (at : RowAt) → (IsThere types_in (before m) at → Stays m types_in number_type (type_kind m is) at)
         → methods_of_type (after m) (type_place at) ≡ map method_place (filter flag (methods_of_type (before m) at))
-    methods_move at stays = elim (situation m is types_in number_type (types_counted m is) at stays) [
+    methods_move at stays = elim (situation m types_in number_type (type_kind m is) at stays) [
       | inl h ↦ methods_input at h
       | inr other ↦ elim other [ inl h ↦ core_methods at h | inr h ↦ gone_methods at h ]
     ]
 
   module _ (flag : RowAt → Bool) (flagged : (at : RowAt) → IsThere fields_in (before m) at → flag at ≡ m.kept (number_field (number_at fields_in (before m) at)))
-      (core_kept : (at : RowAt) → IsThere fields_in (before m) at → suc at.asm ≡ length (before m) → flag at ≡ true)
-      (core_moves : (at : RowAt) → suc at.asm ≡ length (before m) → field_place at ≡ at_row 1 at.row) where
-    fields_input : (at : RowAt) → Input m is types_in number_type (types_counted m is) at → fields_of_type (after m) (type_place at) ≡ map field_place (filter flag (fields_of_type (before m) at))
+      (core_kept : (at : RowAt) → IsThere fields_in (before m) at → suc at.asm ≡ length (before m) → flag at ≡ true) where
+    fields_input : (at : RowAt) → Input m types_in number_type (type_kind m is) at → fields_of_type (after m) (type_place at) ≡ map field_place (filter flag (fields_of_type (before m) at))
     fields_input at h =
         let row = place_has h.there.rec.type_def at.row h.there.below in
         let whole = record_of at.asm h.there.rec h.there.here h.earlier in
@@ -199,34 +178,32 @@ module _ (m : Merge) (is : IsMerge m) where
         let size = field_size h.there.rec in
         let left = type_left m is at h.there.rec row.0 h.there h.earlier h.keeps_it h.there.here row.1 in
         ap (fields_of_type (after m)) h.moved
-        ∙ fields_at (after m) (at_row 0 (rank (keeps types_in (before m) number_type m.kept) (number_at types_in (before m) at))) m.left left_here (moved_type_row m.internal (output m) at h.there.rec row.0) left
+        ∙ fields_at (after m) (at_row 0 (rank (keeps types_in (before m) number_type m.kept) (number_at types_in (before m) at))) m.left (after_left m) (moved_type_row m.internal (output m) at h.there.rec row.0) left
         ∙ ap (map (at_row 0)) (field_runs at h.there.rec row.0)
-        ∙ run_moved m is (λ rec. rec.field) number_field (fields_counted m is) flag flagged at.asm h.there.rec row.0.field_list_first row.0.field_list_end h.there.here h.earlier some le
+        ∙ run_moved m (λ rec. rec.field) number_field (field_kind m is) flag flagged at.asm h.there.rec row.0.field_list_first row.0.field_list_end h.there.here h.earlier some le
         (omega (arith, within, size))
         ∙ ap (λ (xs : List RowAt). map field_place (filter flag xs)) (sym (fields_at (before m) at h.there.rec h.there.here row.0 row.1))
 
-    core_fields_by : (at : RowAt) → Core m is types_in number_type (types_counted m is) at → slice_get (before m) at.asm ≡ Some (core_of m) → (o : Option TypeDefRow) → slice_get (core_of m).type_def at.row ≡ o
-        → fields_of_type (after m) (at_row 1 at.row) ≡ map field_place (filter flag (fields_of_type (before m) at))
-    core_fields_by at h here None e =
-        no_fields (after m) (at_row 1 at.row) (none_there (after m) (at_row 1 at.row) (core_of m) core_here (none_past (core_of m).type_def at.row e))
-        ∙ sym (ap (λ (xs : List RowAt). map field_place (filter flag xs)) (no_fields (before m) at (none_there (before m) at (core_of m) here (none_past (core_of m).type_def at.row e))))
-    core_fields_by at h here (Some t) e =
-        fields_at (after m) (at_row 1 at.row) (core_of m) core_here t e
-        ∙ sym (core_stretch m is (λ rec. rec.field) number_field (fields_counted m is) flag flagged at.asm (core_of m) here h.last core_kept core_moves (t.field_list_first - 1)
-        (length (run_of t.field_list_first t.field_list_end (core_of m).field)) (run_within t.field_list_first t.field_list_end (core_of m).field))
-        ∙ ap (λ (xs : List RowAt). map field_place (filter flag xs)) (sym (fields_at (before m) at (core_of m) here t e))
-
-    core_fields : (at : RowAt) → Core m is types_in number_type (types_counted m is) at → fields_of_type (after m) (type_place at) ≡ map field_place (filter flag (fields_of_type (before m) at))
+    core_fields : (at : RowAt) → Core m types_in number_type (type_kind m is) at → fields_of_type (after m) (type_place at) ≡ map field_place (filter flag (fields_of_type (before m) at))
     core_fields at h =
-        ap (fields_of_type (after m)) h.moved ∙ core_fields_by at h (core_before at h.last) (slice_get (core_of m).type_def at.row) refl
+        let row = place_has h.there.rec.type_def at.row h.there.below in
+        let here = core_at m at h.last in
+        let e : slice_get (core_of m).type_def at.row ≡ Some row.0 = ap (λ (rec : AsmRec). slice_get rec.type_def at.row) (sym (core_rec m at h.there.rec h.there.here h.last)) ∙ row.1 in
+        let f : slice_get (left_core m).type_def h.row ≡ Some row.0 = type_same m at.row h.row h.goes ∙ e in
+        ap (fields_of_type (after m)) h.moved
+        ∙ fields_at (after m) (at_row 1 h.row) (left_core m) (after_core m) row.0 f
+        ∙ ap (λ (rows : List FieldRow). map (at_row 1) (run_places row.0.field_list_first row.0.field_list_end rows)) (left_fields m ∙ sym (before_fields m))
+        ∙ sym (core_stretch m (λ rec. rec.field) number_field (field_kind m is) flag flagged at.asm (core_of m) here h.last core_kept field_stays (row.0.field_list_first - 1)
+        (length (run_of row.0.field_list_first row.0.field_list_end (core_of m).field)) (run_within row.0.field_list_first row.0.field_list_end (core_of m).field))
+        ∙ ap (λ (xs : List RowAt). map field_place (filter flag xs)) (sym (fields_at (before m) at (core_of m) here row.0 e))
 
-    gone_fields : (at : RowAt) → Gone m is types_in number_type (types_counted m is) at → fields_of_type (after m) (type_place at) ≡ map field_place (filter flag (fields_of_type (before m) at))
+    gone_fields : (at : RowAt) → Gone m types_in number_type (type_kind m is) at → fields_of_type (after m) (type_place at) ≡ map field_place (filter flag (fields_of_type (before m) at))
     gone_fields at h =
         no_fields (after m) (type_place at) h.none_after ∙ sym (ap (λ (xs : List RowAt). map field_place (filter flag xs)) (no_fields (before m) at h.none_before))
 
-    pub fields_move : (at : RowAt) → (IsThere types_in (before m) at → suc at.asm < length (before m) → m.kept (number_type (number_at types_in (before m) at)) ≡ true)
+    pub fields_move : (at : RowAt) → (IsThere types_in (before m) at → Stays m types_in number_type (type_kind m is) at)
         → fields_of_type (after m) (type_place at) ≡ map field_place (filter flag (fields_of_type (before m) at))
-    fields_move at stays = elim (situation m is types_in number_type (types_counted m is) at stays) [
+    fields_move at stays = elim (situation m types_in number_type (type_kind m is) at stays) [
       | inl h ↦ fields_input at h
       | inr other ↦ elim other [ inl h ↦ core_fields at h | inr h ↦ gone_fields at h ]
     ]

@@ -1,13 +1,18 @@
 -- The type that has a kept method is the one that it had: runs of methods stay apart.
 use Rattle.std.proofs.Common.{◌≡◌, ◌<◌, ◌≤◌, ℕ, zero, suc, ◌+◌, ◌-◌, Bool, true, false, cond, nat_eq, nat_le, nat_lt, List, [], ◌∷◌, ◌++◌, length, map, Option, Some, None, ◌⊎◌, inl, inr, refl, sym, ap, subst, ◌∙◌, arith}
 use Rattle.std.specs.Prelude.{slice_get, ◌&&◌}
-use Rattle.std.specs.List.{filter, position_from, range_with_len}
+use Rattle.std.specs.List.{list_all, filter, position_from, range_with_len}
 use Rattle.std.specs.Option.{option_map, option_and_then}
+use Rattle.std.proofs.lemmas.List.{length-append}
 use Rattle.std.proofs.lemmas.Bool.{lt-ltb, le-ltb, ltb-true, ltb-false, le-leb, lt-leb, leb-true, leb-false, eqb-true, eq-eqb, ne_eqb, cases_lt, cases_eq, and_parts, and_from, and_left, and_right}
 use Rattle.world_model.specs.declared.types.TypeDefRow.{TypeDefRow}
 use Rattle.world_model.specs.declared.record.AsmRec.{AsmRec}
 use Rattle.world_model.specs.Worlds.{rows_before, types_in}
+use Rattle.core_table.specs.Members.{methods_of}
+use Rattle.core_table.specs.Record.{core_record, record_with, type_rows as core_type_rows, type_row as core_type_row, all_methods}
 use Rattle.link_rules.specs.declared.row_at.RowAt.{RowAt}
+use Rattle.link_rules.specs.declared.core_type_name.CoreTypeName.{CoreTypeName}
+use Rattle.link_rules.specs.CoreNames.{added_row}
 use Rattle.link_rules.specs.Types.{at_row}
 use Rattle.link_rules.specs.Members.{methods_in, owns_method}
 use Rattle.type_rules.specs.Slots.{type_of_method}
@@ -15,16 +20,17 @@ use Rattle.merge_rules.specs.Moved.{moved_type_row}
 use Rattle.merge_rules.specs.Restricted.{output_of}
 use Rattle.merge_rules.specs.Numbers.{kept_methods}
 use Rattle.merge_rules.specs.Rows.{run_at}
-use Rattle.merged_world_rules.specs.Merge.{Merge, before, after, output, IsMerge}
+use Rattle.merged_world_rules.specs.Merge.{Merge, before, after, names_before, names_after, output, IsMerge}
 use Rattle.merged_world_rules.specs.Numbering.{in_inputs, number_at}
 use Rattle.merged_places.proofs.Ranks.{rank, rank_from, rank_step, rank_none, rank_is, rank_kept, rank_rises}
 use Rattle.merged_places.proofs.Rows.{IsThere, place_within, place_has, place_past, same_some, input_below, number_before, stretch_before}
 use Rattle.merged_places.proofs.Kept.{keeps, those, how_many, kept_numbers, kept_at, IsKept, run_is}
-use Rattle.merged_places.proofs.Worlds.{core_of, after_is, before_length, before_core, before_input}
-use Rattle.merged_places.proofs.Situations.{place, place_there, situation, Input, Core, Gone, HasNone}
-use Rattle.merged_places.proofs.Moving.{place_kept}
-use Rattle.merged_places.proofs.Tables.{number_type, number_method, type_rows, method_rows, types_counted, methods_counted, type_left, type_table, those_at}
-use Rattle.merged_rows_move.proofs.Members.{core_place, record_of, method_size, left_here, core_here, core_before}
+use Rattle.merged_places.proofs.Worlds.{core_of, left_core, after_is, after_left, after_core, core_rec, core_at, before_types, left_types, before_methods}
+use Rattle.merged_places.proofs.CoreRows.{same_is, own_goes}
+use Rattle.merged_places.proofs.Situations.{place, place_there, situation, Input, Core, Gone}
+use Rattle.merged_places.proofs.Moving.{Stays, place_kept, place_core}
+use Rattle.merged_places.proofs.Tables.{number_type, number_method, type_rows, method_rows, types_counted, methods_counted, type_kind, method_kind, type_left, type_table, those_at}
+use Rattle.merged_rows_move.proofs.Members.{record_of, method_size}
 
 -- ---- the first that passes
 
@@ -156,6 +162,56 @@ module _ (p : ℕ → Bool) where
       let up = rank_rises p y n ge in
       le-ltb (rank p n) (rank p y) up ∙ sym (le-ltb n y ge)
   ]
+
+-- ---- runs of the core library
+
+module _ {A : Type 0} (t : A → Bool) where
+  -- what none of the last ones passes
+  front_only : (xs ys : List A) (d : ℕ) → ((j : ℕ) (y : A) → slice_get ys j ≡ Some y → t y ≡ false) → position_from t d (xs ++ ys) ≡ position_from t d xs
+  front_only [] ys d none = no_place t ys d none
+  front_only (x ∷ xs) ys d none = ap (cond (t x) (Some d)) (front_only xs ys (d + 1) none)
+
+empty_run : (n at : ℕ) → (nat_le n at && nat_lt at n) ≡ false
+empty_run n at = elim (cases_lt at n) [
+  | inl lt ↦ and_left (nat_le n at) (nat_lt at n) (lt-leb n at lt)
+  | inr ge ↦ and_right (nat_le n at) (nat_lt at n) (le-ltb at n ge)
+]
+
+added_owns : (row : ℕ) (names : List CoreTypeName) (j : ℕ) (t : TypeDefRow) → slice_get (map (added_row core_record) names) j ≡ Some t → owns_method (suc row) t ≡ false
+added_owns row [] j t e = absurd (cc)
+added_owns row (x ∷ names) zero t e = let same : added_row core_record x ≡ t = cc in ap (owns_method (suc row)) (sym same) ∙ empty_run (length core_record.method_def + 1) (suc row)
+added_owns row (x ∷ names) (suc j) t e = added_owns row names j t e
+
+-- so names that only modifiers use own nothing
+owned_by : (row : ℕ) (names : List CoreTypeName) (ts : List TypeDefRow) → ts ≡ core_record.type_def ++ map (added_row core_record) names
+    → position_from (owns_method (suc row)) 0 ts ≡ position_from (owns_method (suc row)) 0 core_record.type_def
+owned_by row names ts e =
+    ap (position_from (owns_method (suc row)) 0) e
+    ∙ front_only (owns_method (suc row)) core_record.type_def (map (added_row core_record) names) 0 (λ j t f. added_owns row names j t f)
+
+abbrev ends_by : ℕ → TypeDefRow → Bool
+ends_by n t = nat_le t.method_list_end (suc n)
+
+core_ends : list_all (ends_by (length core_record.method_def)) core_record.type_def ≡ true
+unfolding core_record record_with core_type_rows core_type_row all_methods methods_of
+core_ends = refl
+
+all_at : {A : Type 0} (p : A → Bool) (xs : List A) (k : ℕ) (x : A) → list_all p xs ≡ true → slice_get xs k ≡ Some x → p x ≡ true
+all_at p [] k x h e = absurd (cc)
+all_at p (y ∷ xs) zero x h e = let same : y ≡ x = cc in ap p (sym same) ∙ (and_parts (p y) (list_all p xs) h).0
+all_at p (y ∷ xs) (suc k) x h e = all_at p xs k x (and_parts (p y) (list_all p xs) h).1 e
+
+-- no run reaches past the table
+past_end : (row : ℕ) (t : TypeDefRow) → t.method_list_end ≤ suc row → owns_method (suc row) t ≡ false
+past_end row t le = and_right (nat_le t.method_list_first (suc row)) (nat_lt (suc row) t.method_list_end) (le-ltb (suc row) t.method_list_end le)
+
+core_past : (row : ℕ) → length core_record.method_def ≤ row → position_from (owns_method (suc row)) 0 core_record.type_def ≡ None
+core_past row past = no_place (owns_method (suc row)) core_record.type_def 0 (λ j t g. ends_early j t g)
+  where
+    ends_early : (j : ℕ) (t : TypeDefRow) → slice_get core_record.type_def j ≡ Some t → owns_method (suc row) t ≡ false
+    ends_early j t g =
+        let le = leb-true t.method_list_end (suc (length core_record.method_def)) (all_at (ends_by (length core_record.method_def)) core_record.type_def j t core_ends g) in
+        past_end row t (omega (arith, le, past))
 
 -- ---- in a merge
 
@@ -362,17 +418,13 @@ module _ (m : Merge) (is : IsMerge m) where
   -- ---- the owner
 
   abbrev type_place : RowAt → RowAt
-  type_place at = place m is types_in number_type (types_counted m is) at
+  type_place at = place m types_in number_type (type_kind m is) at
 
   abbrev method_place : RowAt → RowAt
-  method_place at = place m is methods_in number_method (methods_counted m is) at
+  method_place at = place m methods_in number_method (method_kind m is) at
 
   owner_at : (recs : List AsmRec) (at : RowAt) (rec : AsmRec) → slice_get recs at.asm ≡ Some rec → type_of_method recs at ≡ option_map (at_row at.asm) (position_from (owns_method (suc at.row)) 0 rec.type_def)
   owner_at recs at rec e = ap (option_and_then (λ (rec : AsmRec). option_map (at_row at.asm) (position_from (owns_method (suc at.row)) 0 rec.type_def))) e
-
-  -- no run reaches past the table
-  past_end : (row : ℕ) (t : TypeDefRow) → t.method_list_end ≤ suc row → owns_method (suc row) t ≡ false
-  past_end row t le = and_right (nat_le t.method_list_first (suc row)) (nat_lt (suc row) t.method_list_end) (le-ltb (suc row) t.method_list_end le)
 
   input_none : (at : RowAt) (rec : AsmRec) → slice_get (before m) at.asm ≡ Some rec → suc at.asm < length (before m) → methods_in rec ≤ at.row → position_from (owns_method (suc at.row)) 0 rec.type_def ≡ None
   input_none at rec e lt past = no_place (owns_method (suc at.row)) rec.type_def 0 (λ j t g. ends_early j t g)
@@ -384,77 +436,75 @@ module _ (m : Merge) (is : IsMerge m) where
           let size = method_size m is rec in
           past_end at.row t (omega (arith, within, size, past))
 
-  left_none : (row : ℕ) → methods_in m.left ≤ row → position_from (owns_method (suc row)) 0 m.left.type_def ≡ None
-  left_none row past = no_place (owns_method (suc row)) m.left.type_def 0 (λ j t g. ends_early t (left_row j t g))
-    where
-      ends_early : {j : ℕ} (t : TypeDefRow) → LeftRow j t → owns_method (suc row) t ≡ false
-      ends_early t l =
-          let within = l.of_row.within in
-          let earlier = l.of_row.earlier in
-          let bound = stretch_before methods_in (before m) l.of.asm (length (before m) - 1) (l.of_row.row.method_list_end - 1) l.of_row.rec l.of_row.here (omega (arith, within)) (omega (arith, earlier)) in
-          let up = rank_rises methods (start l.of.asm + (l.of_row.row.method_list_end - 1)) (in_inputs methods_in (before m)) bound in
-          let all = how_many methods_in (before m) number_method m.kept in
-          let counted = methods_counted m is in
-          let last = ends l.of l.of_row in
-          ap (owns_method (suc row)) l.is_moved ∙ past_end row (new_row_of l.of l.of_row) (omega (arith, last, up, all, counted, past))
-
   -- the owner of a row in the output
-  module _ (at : RowAt) (stays : IsThere methods_in (before m) at → suc at.asm < length (before m) → m.kept (number_method (number_at methods_in (before m) at)) ≡ true)
-      (owner_stays : (x : RowAt) → type_of_method (before m) at ≡ Some x → IsThere types_in (before m) x → m.kept (number_type (number_at types_in (before m) x)) ≡ true) where
-    by_place : (h : Input m is methods_in number_method (methods_counted m is) at) (o : Option ℕ) → position_from (owns_method (suc at.row)) 0 h.there.rec.type_def ≡ o
+  module _ (at : RowAt) (stays : IsThere methods_in (before m) at → Stays m methods_in number_method (method_kind m is) at)
+      (owner_stays : (x : RowAt) → type_of_method (before m) at ≡ Some x → IsThere types_in (before m) x → Stays m types_in number_type (type_kind m is) x) where
+    by_place : (h : Input m methods_in number_method (method_kind m is) at) (o : Option ℕ) → position_from (owns_method (suc at.row)) 0 h.there.rec.type_def ≡ o
         → option_map (at_row 0) (position_from (owns_method (suc (rank methods (number_at methods_in (before m) at)))) 0 m.left.type_def) ≡ option_map type_place (option_map (at_row at.asm) o)
     by_place h None e = ap (option_map (at_row 0)) (none_owns at h.there h.keeps_it h.earlier e)
     by_place h (Some q) e =
         let f = first_is (owns_method (suc at.row)) h.there.rec.type_def q e in
         let x : IsThere types_in (before m) (at_row at.asm q) = record { rec = h.there.rec; here = h.there.here; below = place_within h.there.rec.type_def q f.item f.there } in
         let owner : type_of_method (before m) at ≡ Some (at_row at.asm q) = owner_at (before m) at h.there.rec h.there.here ∙ ap (option_map (at_row at.asm)) e in
-        let kept_owner = owner_stays (at_row at.asm q) owner x in
+        let kept_owner = (owner_stays (at_row at.asm q) owner x).0 h.earlier in
         ap (option_map (at_row 0)) (some_owns at h.there h.keeps_it h.earlier q e kept_owner)
-        ∙ ap Some (sym (place_there m is types_in number_type (types_counted m is) (at_row at.asm q) x ∙ place_kept m is types_in number_type (types_counted m is) (at_row at.asm q) x h.earlier kept_owner))
+        ∙ ap Some (sym (place_there m types_in number_type (type_kind m is) (at_row at.asm q) x ∙ place_kept m types_in number_type (type_kind m is) (at_row at.asm q) x h.earlier kept_owner))
 
-    input_owner : Input m is methods_in number_method (methods_counted m is) at → type_of_method (after m) (method_place at) ≡ option_map type_place (type_of_method (before m) at)
+    input_owner : Input m methods_in number_method (method_kind m is) at → type_of_method (after m) (method_place at) ≡ option_map type_place (type_of_method (before m) at)
     input_owner h =
         ap (type_of_method (after m)) h.moved
-        ∙ owner_at (after m) (at_row 0 (rank methods (number_at methods_in (before m) at))) m.left (left_here m is)
+        ∙ owner_at (after m) (at_row 0 (rank methods (number_at methods_in (before m) at))) m.left (after_left m)
         ∙ by_place h (position_from (owns_method (suc at.row)) 0 h.there.rec.type_def) refl
         ∙ ap (option_map type_place) (sym (owner_at (before m) at h.there.rec h.there.here))
 
-    core_by : suc at.asm ≡ length (before m) → (o : Option ℕ) → option_map (at_row 1) o ≡ option_map type_place (option_map (at_row at.asm) o)
-    core_by last None = refl
-    core_by last (Some q) = ap Some (sym (core_place m is types_in number_type (types_counted m is) (at_row at.asm q) last))
+    core_by : suc at.asm ≡ length (before m) → (t : TypeDefRow → Bool) (o : Option ℕ) → position_from t 0 core_record.type_def ≡ o → option_map (at_row 1) o ≡ option_map type_place (option_map (at_row at.asm) o)
+    core_by last t None e = refl
+    core_by last t (Some q) e =
+        let f = first_is t core_record.type_def q e in
+        let lt : q < length core_record.type_def = place_within core_record.type_def q f.item f.there in
+        let long = ap length (before_types m) ∙ length-append core_record.type_def (map (added_row core_record) (names_before m)) in
+        let x : IsThere types_in (before m) (at_row at.asm q) = record { rec = core_of m; here = core_at m at last; below = omega (arith, lt, long) } in
+        ap Some (sym (place_there m types_in number_type (type_kind m is) (at_row at.asm q) x
+        ∙ place_core m types_in number_type (type_kind m is) (at_row at.asm q) q x last (own_goes (length core_record.type_def) (names_before m) (names_after m) q lt)))
 
-    core_owner : Core m is methods_in number_method (methods_counted m is) at → type_of_method (after m) (method_place at) ≡ option_map type_place (type_of_method (before m) at)
+    core_owner : Core m methods_in number_method (method_kind m is) at → type_of_method (after m) (method_place at) ≡ option_map type_place (type_of_method (before m) at)
     core_owner h =
-        ap (type_of_method (after m)) h.moved ∙ owner_at (after m) (at_row 1 at.row) (core_of m) (core_here m is)
-        ∙ core_by h.last (position_from (owns_method (suc at.row)) 0 (core_of m).type_def)
-        ∙ ap (option_map type_place) (sym (owner_at (before m) at (core_of m) (core_before m is at h.last)))
+        let same : at.row ≡ h.row = (same_is (length core_record.method_def) at.row h.row h.goes).1 in
+        ap (type_of_method (after m)) h.moved ∙ ap (λ (r : ℕ). type_of_method (after m) (at_row 1 r)) (sym same)
+        ∙ owner_at (after m) (at_row 1 at.row) (left_core m) (after_core m)
+        ∙ ap (option_map (at_row 1)) (owned_by at.row (names_after m) (left_core m).type_def (left_types m))
+        ∙ core_by h.last (owns_method (suc at.row)) (position_from (owns_method (suc at.row)) 0 core_record.type_def) refl
+        ∙ ap (option_map type_place) (ap (option_map (at_row at.asm)) (sym (owned_by at.row (names_before m) (core_of m).type_def (before_types m)))
+        ∙ sym (owner_at (before m) at (core_of m) (core_at m at h.last)))
 
     -- a row that isn't there has no owner
-    before_none : (o : Option AsmRec) → slice_get (before m) at.asm ≡ o → Gone m is methods_in number_method (methods_counted m is) at → type_of_method (before m) at ≡ None
+    no_owner : (rec : AsmRec) → slice_get (before m) at.asm ≡ Some rec → methods_in rec ≤ at.row → (suc at.asm < length (before m)) ⊎ (length (before m) ≤ suc at.asm) → position_from (owns_method (suc at.row)) 0 rec.type_def ≡ None
+    no_owner rec e past (inl lt) = input_none at rec e lt past
+    no_owner rec e past (inr ge) =
+        let asm = place_within (before m) at.asm rec e in
+        let same : rec ≡ core_of m = core_rec m at rec e (omega (arith, ge, asm)) in
+        let few : length (core_of m).method_def ≤ at.row = subst (λ (r : AsmRec). methods_in r ≤ at.row) same past in
+        let count = ap length (before_methods m) in
+        ap (λ (r : AsmRec). position_from (owns_method (suc at.row)) 0 r.type_def) same
+        ∙ owned_by at.row (names_before m) (core_of m).type_def (before_types m) ∙ core_past at.row (omega (arith, few, count))
+
+    before_none : (o : Option AsmRec) → slice_get (before m) at.asm ≡ o → Gone m methods_in number_method (method_kind m is) at → type_of_method (before m) at ≡ None
     before_none None e h = ap (option_and_then (λ (rec : AsmRec). option_map (at_row at.asm) (position_from (owns_method (suc at.row)) 0 rec.type_def))) e
     before_none (Some rec) e h =
-        let asm = place_within (before m) at.asm rec e in
-        let lt : suc at.asm < length (before m) = elim (cases_lt (suc at.asm) (length (before m))) [ inl lt ↦ lt | inr ge ↦ absurd (h.apart (omega (arith, ge, asm))) ] in
-        owner_at (before m) at rec e ∙ ap (option_map (at_row at.asm)) (input_none at rec e lt (h.none_before rec e))
+        owner_at (before m) at rec e ∙ ap (option_map (at_row at.asm)) (no_owner rec e (h.none_before rec e) (cases_lt (suc at.asm) (length (before m))))
 
-    after_none : (x : RowAt) → HasNone methods_in (after m) x → (x.asm ≡ 1 → ⊥) → (o : Option AsmRec) → slice_get (after m) x.asm ≡ o → type_of_method (after m) x ≡ None
-    after_none x none apart None e = ap (option_and_then (λ (rec : AsmRec). option_map (at_row x.asm) (position_from (owns_method (suc x.row)) 0 rec.type_def))) e
-    after_none x none apart (Some rec) e =
-        let two : length (after m) ≡ 2 = ap length (after_is m is) in
-        let asm = place_within (after m) x.asm rec e in
-        let first : x.asm ≡ 0 = elim (cases_lt x.asm 1) [ inl lt ↦ omega (arith, lt) | inr ge ↦ absurd (apart (omega (arith, ge, asm, two))) ] in
-        let one : rec ≡ m.left = same_some rec m.left (sym e ∙ ap (slice_get (after m)) first ∙ left_here m is) in
-        owner_at (after m) x rec e
-        ∙ ap (λ (r : AsmRec). option_map (at_row x.asm) (position_from (owns_method (suc x.row)) 0 r.type_def)) one
-        ∙ ap (option_map (at_row x.asm)) (left_none x.row (subst (λ (r : AsmRec). methods_in r ≤ x.row) one (none rec e)))
+    after_none : (x : RowAt) → x.asm ≡ 2 → type_of_method (after m) x ≡ None
+    after_none x past =
+        let two : length (after m) ≡ 2 = ap length (after_is m) in
+        ap (option_and_then (λ (rec : AsmRec). option_map (at_row x.asm) (position_from (owns_method (suc x.row)) 0 rec.type_def))) (place_past (after m) x.asm (omega (arith, past, two)))
 
-    gone_owner : Gone m is methods_in number_method (methods_counted m is) at → type_of_method (after m) (method_place at) ≡ option_map type_place (type_of_method (before m) at)
+    gone_owner : Gone m methods_in number_method (method_kind m is) at → type_of_method (after m) (method_place at) ≡ option_map type_place (type_of_method (before m) at)
     gone_owner h =
-        after_none (method_place at) h.none_after h.not_core (slice_get (after m) (method_place at).asm) refl
+        after_none (method_place at) h.past
         ∙ sym (ap (option_map type_place) (before_none (slice_get (before m) at.asm) refl h))
 
     pub owner_moved : type_of_method (after m) (method_place at) ≡ option_map type_place (type_of_method (before m) at)
-    owner_moved = elim (situation m is methods_in number_method (methods_counted m is) at stays) [
+    owner_moved = elim (situation m methods_in number_method (method_kind m is) at stays) [
       | inl h ↦ input_owner h
       | inr other ↦ elim other [ inl h ↦ core_owner h | inr h ↦ gone_owner h ]
     ]

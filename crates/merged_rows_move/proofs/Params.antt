@@ -30,7 +30,7 @@ use Rattle.merged_places.proofs.Rows.{row_itself, rows_one, input_below}
 use Rattle.merged_places.proofs.Kept.{Every, new_row_is}
 use Rattle.merged_places.proofs.Numbers.{new_row_at, rank_below}
 use Rattle.merged_places.proofs.Worlds.{left_is, made, before_input}
-use Rattle.merged_places.proofs.Tables.{number_type, number_method, type_rows, method_rows, types_are, methods_are, types_counted, methods_counted}
+use Rattle.merged_places.proofs.Tables.{number_type, number_method, type_rows, method_rows, types_are, methods_are, types_counted, methods_counted, type_kind}
 use Rattle.merged_places.proofs.Situations.{Input}
 
 -- ---- how many pass
@@ -165,7 +165,7 @@ token_low i lt = omega (arith, lt)
 token_high : (i : ℕ) → i < 16777215 → token_32 METHOD_DEF i ≡ 100663296 + suc i
 token_high i lt = omega (arith, lt)
 
-module _ (m : Merge) (is : IsMerge m) (at : RowAt) (h : Input m is types_in number_type (types_counted m is) at) where
+module _ (m : Merge) (is : IsMerge m) (at : RowAt) (h : Input m types_in number_type (type_kind m is) at) where
   abbrev new : ℕ
   new = rank (keeps types_in (before m) number_type m.kept) (number_at types_in (before m) at)
 
@@ -371,16 +371,16 @@ module _ (recs : List AsmRec) (kept : Kept) where
       ∙ many_cons (is_param_of token) (new_generic_param x.owner x.at.asm h.rec row.0) (each_sorted recs (λ rec. rec.generic_param) new_generic_param xs)
       ∙ ap (λ (k : ℕ). cond (x.owner == token) 1 0 + k) more ∙ sym (many_cons (is_owned_by token) x xs)
 
-module _ (m : Merge) (is : IsMerge m) (at : RowAt) (h : Input m is types_in number_type (types_counted m is) at) where
-  left_params : m.left.generic_param ≡ each_sorted (before m) (λ rec. rec.generic_param) new_generic_param (kept_generic_params (before m) m.kept)
+module _ (m : Merge) (is : IsMerge m) (at : RowAt) (h : Input m types_in number_type (type_kind m is) at) where
+  left_rows : m.left.generic_param ≡ each_sorted (before m) (λ rec. rec.generic_param) new_generic_param (kept_generic_params (before m) m.kept)
   unfolding output_of
-  left_params = ap (λ (rec : AsmRec). rec.generic_param) (left_is m is).is
+  left_rows = ap (λ (rec : AsmRec). rec.generic_param) (left_is m is).is
 
   pub params_move : param_count m.left (rank (keeps types_in (before m) number_type m.kept) (number_at types_in (before m) at)) ≡ param_count h.there.rec at.row
   unfolding param_count how_many
   params_move =
       sym (length-filter (is_param_of (token_of TYPE_DEF (suc (rank (keeps types_in (before m) number_type m.kept) (number_at types_in (before m) at))))) m.left.generic_param)
-      ∙ ap (how_many (is_param_of (token_of TYPE_DEF (suc (rank (keeps types_in (before m) number_type m.kept) (number_at types_in (before m) at)))))) left_params
+      ∙ ap (how_many (is_param_of (token_of TYPE_DEF (suc (rank (keeps types_in (before m) number_type m.kept) (number_at types_in (before m) at)))))) left_rows
       ∙ each_count (before m) m.kept (token_of TYPE_DEF (suc (rank (keeps types_in (before m) number_type m.kept) (number_at types_in (before m) at)))) (kept_generic_params (before m) m.kept) (params_stand (before m) m.kept)
       ∙ sorted_count m is at h
       ∙ length-filter (is_param_of (token_of TYPE_DEF (suc at.row))) h.there.rec.generic_param

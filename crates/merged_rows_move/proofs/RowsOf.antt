@@ -27,10 +27,12 @@ use Rattle.merged_world_rules.specs.Merge.{Merge, before, after, output, IsMerge
 use Rattle.merged_world_rules.specs.Numbering.{number_at}
 use Rattle.merged_places.proofs.Ranks.{rank}
 use Rattle.merged_places.proofs.Rows.{IsThere, place_past, same_some}
-use Rattle.merged_places.proofs.Kept.{keeps, those}
-use Rattle.merged_places.proofs.Worlds.{core_of, after_is, before_length, before_core}
+use Rattle.merged_places.proofs.Kept.{keeps}
+use Rattle.merged_places.proofs.Worlds.{core_of, left_core, after_left, after_core, core_at}
+use Rattle.merged_places.proofs.CoreTables.{type_same, method_same, field_same}
+use Rattle.merged_places.proofs.Moving.{Kind, Stays}
 use Rattle.merged_places.proofs.Situations.{place, situation, Input, Core, Gone, HasNone}
-use Rattle.merged_places.proofs.Tables.{number_type, number_method, number_field, types_counted, methods_counted, fields_counted, type_left, method_left, field_left}
+use Rattle.merged_places.proofs.Tables.{number_type, number_method, number_field, type_kind, method_kind, field_kind, type_left, method_left, field_left}
 use Rattle.merged_rows_move.proofs.Flags.{seen_stays, access_stays, flag_16, flag_32, flag_64, flag_256}
 
 -- ---- a row of a table, in both worlds
@@ -49,8 +51,8 @@ module _ {R : Type 0} (rows : AsmRec → List R) where
   found_none : (recs : List AsmRec) (at : RowAt) → HasNone (λ rec. length (rows rec)) recs at → found recs at ≡ None
   found_none recs at none = none_by recs at none (slice_get recs at.asm) refl
 
-module _ {R : Type 0} (m : Merge) (is : IsMerge m) (rows : AsmRec → List R) (number_item : ℕ → Item)
-    (counted : length (rows m.left) ≡ length (those (λ rec. length (rows rec)) (before m) number_item m.kept)) (Like : R → R → Type 0) (itself : (r : R) → Like r r)
+module _ {R : Type 0} (m : Merge) (rows : AsmRec → List R) (number_item : ℕ → Item) (kind : Kind m (λ rec. length (rows rec)) number_item)
+    (core : (r s : ℕ) → kind.core.to r ≡ Some s → slice_get (rows (left_core m)) s ≡ slice_get (rows (core_of m)) r) (Like : R → R → Type 0) (itself : (r : R) → Like r r)
     (left : (at : RowAt) (rec : AsmRec) (row : R) → IsThere (λ rec. length (rows rec)) (before m) at → suc at.asm < length (before m)
     → m.kept (number_item (number_at (λ rec. length (rows rec)) (before m) at)) ≡ true → slice_get (before m) at.asm ≡ Some rec → slice_get (rows rec) at.row ≡ Some row
     → (r : R) × (slice_get (rows m.left) (rank (keeps (λ rec. length (rows rec)) (before m) number_item m.kept) (number_at (λ rec. length (rows rec)) (before m) at)) ≡ Some r) × Like r row) where
@@ -58,19 +60,18 @@ module _ {R : Type 0} (m : Merge) (is : IsMerge m) (rows : AsmRec → List R) (n
   count rec = length (rows rec)
 
   abbrev moved : RowAt → RowAt
-  moved at = place m is count number_item counted at
+  moved at = place m count number_item kind at
 
-  abbrev Stays : RowAt → Type 0
-  Stays at = IsThere count (before m) at → suc at.asm < length (before m) → m.kept (number_item (number_at count (before m) at)) ≡ true
+  abbrev StaysThere : RowAt → Type 0
+  StaysThere at = IsThere count (before m) at → Stays m count number_item kind at
 
-  input_row : (at : RowAt) (row : R) → Input m is count number_item counted at → found rows (before m) at ≡ Some row → (r : R) × (found rows (after m) (moved at) ≡ Some r) × Like r row
+  input_row : (at : RowAt) (row : R) → Input m count number_item kind at → found rows (before m) at ≡ Some row → (r : R) × (found rows (after m) (moved at) ≡ Some r) × Like r row
   input_row at row h e =
       let f : slice_get (rows h.there.rec) at.row ≡ Some row = sym (found_by rows (before m) at h.there.rec h.there.here) ∙ e in
       let l = left at h.there.rec row h.there h.earlier h.keeps_it h.there.here f in
-      let here : slice_get (after m) 0 ≡ Some m.left = ap (λ (recs : List AsmRec). slice_get recs 0) (after_is m is) in
-      (l.0, ap (found rows (after m)) h.moved ∙ found_by rows (after m) (at_row 0 (rank (keeps count (before m) number_item m.kept) (number_at count (before m) at))) m.left here ∙ l.1, l.2)
+      (l.0, ap (found rows (after m)) h.moved ∙ found_by rows (after m) (at_row 0 (rank (keeps count (before m) number_item m.kept) (number_at count (before m) at))) m.left (after_left m) ∙ l.1, l.2)
 
-  input_none : (at : RowAt) → Input m is count number_item counted at → found rows (before m) at ≡ None → ⊥
+  input_none : (at : RowAt) → Input m count number_item kind at → found rows (before m) at ≡ None → ⊥
   input_none at h e =
       let past = none_length (rows h.there.rec) at.row (sym (found_by rows (before m) at h.there.rec h.there.here) ∙ e) in
       let lt = h.there.below in
@@ -81,20 +82,16 @@ module _ {R : Type 0} (m : Merge) (is : IsMerge m) (rows : AsmRec → List R) (n
       none_length (x ∷ xs) zero e = absurd (cc)
       none_length (x ∷ xs) (suc k) e = let le = none_length xs k e in omega (arith, le)
 
-  core_row : (at : RowAt) → Core m is count number_item counted at → found rows (after m) (moved at) ≡ found rows (before m) at
+  core_row : (at : RowAt) → Core m count number_item kind at → found rows (after m) (moved at) ≡ found rows (before m) at
   core_row at h =
-      let long = before_length m in
-      let last = h.last in
-      let asm : at.asm ≡ length m.inputs = omega (arith, long, last) in
-      let here : slice_get (after m) 1 ≡ Some (core_of m) = ap (λ (recs : List AsmRec). slice_get recs 1) (after_is m is) in
-      ap (found rows (after m)) h.moved ∙ found_by rows (after m) (at_row 1 at.row) (core_of m) here
-      ∙ sym (found_by rows (before m) at (core_of m) (ap (slice_get (before m)) asm ∙ before_core m))
+      ap (found rows (after m)) h.moved ∙ found_by rows (after m) (at_row 1 h.row) (left_core m) (after_core m) ∙ core at.row h.row h.goes
+      ∙ sym (found_by rows (before m) at (core_of m) (core_at m at h.last))
 
-  gone_row : (at : RowAt) → Gone m is count number_item counted at → found rows (after m) (moved at) ≡ None
+  gone_row : (at : RowAt) → Gone m count number_item kind at → found rows (after m) (moved at) ≡ None
   gone_row at h = found_none rows (after m) (moved at) h.none_after
 
-  pub row_moved : (at : RowAt) (row : R) → Stays at → found rows (before m) at ≡ Some row → (r : R) × (found rows (after m) (moved at) ≡ Some r) × Like r row
-  row_moved at row stays e = elim (situation m is count number_item counted at stays) [
+  pub row_moved : (at : RowAt) (row : R) → StaysThere at → found rows (before m) at ≡ Some row → (r : R) × (found rows (after m) (moved at) ≡ Some r) × Like r row
+  row_moved at row stays e = elim (situation m count number_item kind at stays) [
     | inl h ↦ input_row at row h e
     | inr other ↦ elim other [
       | inl h ↦ (row, core_row at h ∙ e, itself row)
@@ -102,16 +99,16 @@ module _ {R : Type 0} (m : Merge) (is : IsMerge m) (rows : AsmRec → List R) (n
     ]
   ]
     where
-      gone_none : Gone m is count number_item counted at → ⊥
+      gone_none : Gone m count number_item kind at → ⊥
       gone_none h = let bad : None ≡ Some row = sym (found_none rows (before m) at h.none_before) ∙ e in cc
 
-  pub row_absent : (at : RowAt) → Stays at → found rows (before m) at ≡ None → found rows (after m) (moved at) ≡ None
-  row_absent at stays e = elim (situation m is count number_item counted at stays) [
+  pub row_absent : (at : RowAt) → StaysThere at → found rows (before m) at ≡ None → found rows (after m) (moved at) ≡ None
+  row_absent at stays e = elim (situation m count number_item kind at stays) [
     | inl h ↦ absurd (input_none at h e)
     | inr other ↦ elim other [ inl h ↦ core_row at h ∙ e | inr h ↦ gone_row at h ]
   ]
 
-  test_by : (at : RowAt) (test : R → Bool) → ((r s : R) → Like r s → test r ≡ test s) → Stays at → (o : Option R) → found rows (before m) at ≡ o
+  test_by : (at : RowAt) (test : R → Bool) → ((r s : R) → Like r s → test r ≡ test s) → StaysThere at → (o : Option R) → found rows (before m) at ≡ o
       → list_any test (listed (found rows (after m) (moved at))) ≡ list_any test (listed o)
   test_by at test same stays None e = ap (λ (o : Option R). list_any test (listed o)) (row_absent at stays e)
   test_by at test same stays (Some row) e =
@@ -205,37 +202,37 @@ module _ (m : Merge) (is : IsMerge m) where
   left_field at rec row h lt k here e = (moved_field_row (output m) at rec row, field_left m is at rec row h lt k here e, field_like (output m) at rec row)
 
   abbrev pub type_place : RowAt → RowAt
-  type_place at = place m is types_in number_type (types_counted m is) at
+  type_place at = place m types_in number_type (type_kind m is) at
 
   abbrev pub method_place : RowAt → RowAt
-  method_place at = place m is methods_in number_method (methods_counted m is) at
+  method_place at = place m methods_in number_method (method_kind m is) at
 
   abbrev pub field_place : RowAt → RowAt
-  field_place at = place m is fields_in number_field (fields_counted m is) at
+  field_place at = place m fields_in number_field (field_kind m is) at
 
   abbrev pub TypeStays : RowAt → Type 0
-  TypeStays at = IsThere types_in (before m) at → suc at.asm < length (before m) → m.kept (number_type (number_at types_in (before m) at)) ≡ true
+  TypeStays at = IsThere types_in (before m) at → Stays m types_in number_type (type_kind m is) at
 
   abbrev pub MethodStays : RowAt → Type 0
-  MethodStays at = IsThere methods_in (before m) at → suc at.asm < length (before m) → m.kept (number_method (number_at methods_in (before m) at)) ≡ true
+  MethodStays at = IsThere methods_in (before m) at → Stays m methods_in number_method (method_kind m is) at
 
   abbrev pub FieldStays : RowAt → Type 0
-  FieldStays at = IsThere fields_in (before m) at → suc at.asm < length (before m) → m.kept (number_field (number_at fields_in (before m) at)) ≡ true
+  FieldStays at = IsThere fields_in (before m) at → Stays m fields_in number_field (field_kind m is) at
 
   pub type_test : (at : RowAt) (test : TypeDefRow → Bool) → ((t s : TypeDefRow) → LikeType t s → test t ≡ test s) → TypeStays at
       → list_any test (listed (type_row_at (after m) (type_place at))) ≡ list_any test (listed (type_row_at (before m) at))
-  type_test at test same stays = test_moved m is (λ rec. rec.type_def) number_type (types_counted m is) LikeType type_itself left_type at test same stays
+  type_test at test same stays = test_moved m (λ rec. rec.type_def) number_type (type_kind m is) (type_same m) LikeType type_itself left_type at test same stays
 
   pub method_row_moved : (at : RowAt) (r : MethodDefRow) → MethodStays at → method_row_at (before m) at ≡ Some r
       → (s : MethodDefRow) × (method_row_at (after m) (method_place at) ≡ Some s) × LikeMethod s r
-  method_row_moved at r stays e = row_moved m is (λ rec. rec.method_def) number_method (methods_counted m is) LikeMethod method_itself left_method at r stays e
+  method_row_moved at r stays e = row_moved m (λ rec. rec.method_def) number_method (method_kind m is) (method_same m) LikeMethod method_itself left_method at r stays e
 
   pub method_row_absent : (at : RowAt) → MethodStays at → method_row_at (before m) at ≡ None → method_row_at (after m) (method_place at) ≡ None
-  method_row_absent at stays e = row_absent m is (λ rec. rec.method_def) number_method (methods_counted m is) LikeMethod method_itself left_method at stays e
+  method_row_absent at stays e = row_absent m (λ rec. rec.method_def) number_method (method_kind m is) (method_same m) LikeMethod method_itself left_method at stays e
 
   pub instance_moved : (at : RowAt) → FieldStays at → is_instance_field (after m) (field_place at) ≡ is_instance_field (before m) at
   instance_moved at stays =
-      test_moved m is (λ rec. rec.field) number_field (fields_counted m is) LikeField field_itself left_field at (λ f. not (is_static_field f)) (λ f g l. ap not l.static) stays
+      test_moved m (λ rec. rec.field) number_field (field_kind m is) (field_same m) LikeField field_itself left_field at (λ f. not (is_static_field f)) (λ f g l. ap not l.static) stays
 
   -- a test of a type's row, by its assembly
   interface_by : (recs : List AsmRec) (at : RowAt) (o : Option AsmRec)

@@ -10,13 +10,13 @@ use Rattle.link_rules.specs.Types.{at_row}
 use Rattle.link_rules.specs.Members.{run_of}
 use Rattle.type_rules.specs.Rows.{run_places}
 use Rattle.merge_rules.specs.Rows.{run_at}
-use Rattle.merged_world_rules.specs.Merge.{Merge, before, after, IsMerge}
+use Rattle.merged_world_rules.specs.Merge.{Merge, before, after}
 use Rattle.merged_world_rules.specs.Numbering.{in_inputs, number_at}
 use Rattle.merged_places.proofs.Ranks.{rank, rank_from, rank_is, rank_split, rank_rises, ranks_are}
 use Rattle.merged_places.proofs.Rows.{IsThere, stretch_before}
 use Rattle.merged_places.proofs.Kept.{keeps, those, how_many, run_is}
-use Rattle.merged_places.proofs.Moving.{place_kept}
-use Rattle.merged_places.proofs.Situations.{place, place_there, Core}
+use Rattle.merged_places.proofs.Moving.{Kind, place_kept}
+use Rattle.merged_places.proofs.Situations.{place, place_there}
 
 -- how long a run is
 pub run_length : {R : Type 0} (first end : ℕ) (rows : List R) → 1 ≤ first → first ≤ end → end ≤ suc (length rows) → length (run_of first end rows) ≡ end - first
@@ -25,14 +25,13 @@ run_length first end rows some le within =
     let taken = length-take (end - first) (drop (first - 1) rows) in
     omega (arith, rest, taken, some, le, within)
 
-module _ {R : Type 0} (m : Merge) (is : IsMerge m) (rows : AsmRec → List R) (number_item : ℕ → Item)
-    (counted : length (rows m.left) ≡ length (those (λ rec. length (rows rec)) (before m) number_item m.kept)) (flag : RowAt → Bool)
+module _ {R : Type 0} (m : Merge) (rows : AsmRec → List R) (number_item : ℕ → Item) (kind : Kind m (λ rec. length (rows rec)) number_item) (flag : RowAt → Bool)
     (flagged : (at : RowAt) → IsThere (λ rec. length (rows rec)) (before m) at → flag at ≡ m.kept (number_item (number_at (λ rec. length (rows rec)) (before m) at))) where
   abbrev count : AsmRec → ℕ
   count rec = length (rows rec)
 
   abbrev moved : RowAt → RowAt
-  moved at = place m is count number_item counted at
+  moved at = place m count number_item kind at
 
   abbrev test : ℕ → Bool
   test = keeps count (before m) number_item m.kept
@@ -59,7 +58,7 @@ module _ {R : Type 0} (m : Merge) (is : IsMerge m) (rows : AsmRec → List R) (n
       let z : start a + (s + 1) ≡ start a + s + 1 = omega arith in
       let more = stretch a rec e lt (s + 1) len (omega (arith, le)) ∙ ap (λ (k : ℕ). map (at_row 0) (map (rank test) (filter test (range_with_len k len)))) z in
       one_row a s len (flag (at_row a s)) (sym f) refl
-      (λ kept. place_there m is count number_item counted (at_row a s) there ∙ place_kept m is count number_item counted (at_row a s) there lt (sym f ∙ kept)) more
+      (λ kept. place_there m count number_item kind (at_row a s) there ∙ place_kept m count number_item kind (at_row a s) there lt (sym f ∙ kept)) more
       ∙ ap (λ (b : Bool). map (at_row 0) (map (rank test) (cond b ((start a + s) ∷ filter test (range_with_len (start a + s + 1) len)) (filter test (range_with_len (start a + s + 1) len))))) f
 
   -- ---- a run of an input's type
@@ -81,6 +80,7 @@ module _ {R : Type 0} (m : Merge) (is : IsMerge m) (rows : AsmRec → List R) (n
       let bound = stretch_before count (before m) a (length (before m) - 1) (end - 1) rec e (omega (arith, within)) (omega (arith, lt)) in
       let up = rank_rises test (start a + (end - 1)) (in_inputs count (before m)) bound in
       let all = how_many count (before m) number_item m.kept in
+      let counted = kind.counted in
       let long : length (run_of (suc x) (suc y) (rows m.left)) ≡ suc y - suc x = run_length (suc x) (suc y) (rows m.left) (omega arith) (omega (arith, split, whole, part, place)) (omega (arith, up, all, counted)) in
       let size : length (run_of (suc x) (suc y) (rows m.left)) ≡ rank_from test (start a + (first - 1)) (end - first) = omega (arith, long, split, whole, part, place) in
       let front : suc x - 1 ≡ x = omega arith in
@@ -100,9 +100,10 @@ module _ {R : Type 0} (m : Merge) (is : IsMerge m) (rows : AsmRec → List R) (n
   core_row a s len false e h here more = absurd (cc)
 
   pub core_stretch : (a : ℕ) (rec : AsmRec) → slice_get (before m) a ≡ Some rec → suc a ≡ length (before m) → ((at : RowAt) → IsThere count (before m) at → suc at.asm ≡ length (before m) → flag at ≡ true)
-      → ((at : RowAt) → suc at.asm ≡ length (before m) → moved at ≡ at_row 1 at.row) → (s len : ℕ) → len ≤ count rec - s
+      → ((at : RowAt) → IsThere count (before m) at → suc at.asm ≡ length (before m) → moved at ≡ at_row 1 at.row) → (s len : ℕ) → len ≤ count rec - s
       → map moved (filter flag (map (at_row a) (range_with_len s len))) ≡ map (at_row 1) (range_with_len s len)
   core_stretch a rec e last flags moves s zero le = refl
   core_stretch a rec e last flags moves s (suc len) le =
-      core_row a s len (flag (at_row a s)) refl (flags (at_row a s) (record { rec = rec; here = e; below = omega (arith, le) }) last) (moves (at_row a s) last)
+      let there : IsThere count (before m) (at_row a s) = record { rec = rec; here = e; below = omega (arith, le) } in
+      core_row a s len (flag (at_row a s)) refl (flags (at_row a s) there last) (moves (at_row a s) there last)
       (core_stretch a rec e last flags moves (s + 1) len (omega (arith, le)))

@@ -1,9 +1,9 @@
 -- The laws, over the flags of a change.
-use Rattle.std.proofs.Common.{◌≡◌, ◌<◌, ℕ, suc, ◌+◌, Bool, true, false, List, length, map, Option, Some, None, ◌⊎◌, inl, inr, refl, sym, ap, subst, ◌∙◌, arith}
-use Rattle.std.specs.Prelude.{IsTrue, slice_get, nat_eq, ◌==◌, ◌&&◌, ◌||◌, if◌then◌else◌}
+use Rattle.std.proofs.Common.{◌≡◌, ◌<◌, ◌≤◌, ℕ, zero, suc, ◌+◌, ◌/◌, ◌%◌, Bool, true, false, List, length, map, Option, Some, None, ◌⊎◌, inl, inr, refl, sym, ap, subst, ◌∙◌, arith}
+use Rattle.std.specs.Prelude.{IsTrue, slice_get, nat_eq, nat_lt, ◌==◌, ◌&&◌, ◌||◌, if◌then◌else◌}
 use Rattle.std.specs.List.{filter, list_any}
 use Rattle.std.specs.Option.{option_map}
-use Rattle.std.proofs.lemmas.Bool.{eq-eqb, ne_eqb, eqb-true}
+use Rattle.std.proofs.lemmas.Bool.{eq-eqb, ne_eqb, eqb-true, ltb-true}
 use Rattle.il_base.specs.declared.type_flags.TheConstants as type_flag
 use Rattle.il_base.specs.declared.table.TheConstants.{TYPE_DEF}
 use Rattle.il_base.specs.Flags.{has_flag}
@@ -13,7 +13,8 @@ use Rattle.core_table.specs.declared.types.TheConstants.{TYPES}
 use Rattle.world_model.specs.declared.types.TypeDefRow.{TypeDefRow}
 use Rattle.world_model.specs.declared.members.MethodDefRow.{MethodDefRow}
 use Rattle.world_model.specs.declared.record.AsmRec.{AsmRec}
-use Rattle.world_model.specs.Tokens.{token_of}
+use Rattle.core_table.specs.Record.{core_record}
+use Rattle.world_model.specs.Tokens.{token_of, table_of, row_index, index_from}
 use Rattle.world_model.specs.Worlds.{types_in}
 use Rattle.link_rules.specs.declared.row_at.RowAt.{RowAt}
 use Rattle.link_rules.specs.Types.{at_row}
@@ -28,21 +29,49 @@ use Rattle.view_rules.specs.Answers.{core_name_at}
 use Rattle.merge_rules.specs.Numbers.{kept_types, kept_methods, kept_fields}
 use Rattle.change_rules.specs.Change.{Keep}
 use Rattle.world_change_rules.specs.Places.{keeps_type_row, keeps_method_row, keeps_field_row}
-use Rattle.world_change_rules.specs.Rows.{SameMethod}
-use Rattle.merged_world_rules.specs.Merge.{Merge, IsMerge, before, after}
+use Rattle.world_change_rules.specs.Rows.{is_table_type, SameMethod}
+use Rattle.merged_world_rules.specs.Merge.{Merge, IsMerge, before, after, names_before, names_after}
 use Rattle.merged_world_rules.specs.Numbering.{number_at}
-use Rattle.merged_world_rules.specs.NewNumbers.{places_of}
+use Rattle.merged_world_rules.specs.NewNumbers.{type_core, places_of}
 use Rattle.merged_world_rules.specs.Kept.{HasFlags}
-use Rattle.merged_places.proofs.Rows.{IsThere}
-use Rattle.merged_places.proofs.Worlds.{after_is}
+use Rattle.merged_places.proofs.Rows.{IsThere, place_past}
+use Rattle.merged_places.proofs.Worlds.{core_of, after_is, core_at}
+use Rattle.merged_places.proofs.CoreRows.{row_either}
 use Rattle.merged_places.proofs.Situations.{place, situation, Input, Core, Gone}
-use Rattle.merged_places.proofs.Tables.{number_type, number_method, number_field, types_counted, methods_counted, fields_counted}
+use Rattle.merged_places.proofs.Tables.{number_type, number_method, number_field, type_kind, method_kind, field_kind}
 use Rattle.merged_places.proofs.Whole.{row_there, there_row, type_stays, method_stays, field_stays}
 use Rattle.merged_rows_move.specs.Laws.{MembersMove, TypeMarks, MethodMarks, MarksMove}
-use Rattle.merged_rows_move.proofs.Members.{methods_move, fields_move, core_place}
+use Rattle.merged_rows_move.proofs.Members.{methods_move, fields_move}
 use Rattle.merged_rows_move.proofs.Owners.{owner_moved}
+use Rattle.merged_rows_move.proofs.Core.{type_count, type_row_below, types_more}
 use Rattle.merged_rows_move.proofs.Heads.{head_moved, fits_moved}
 use Rattle.merged_rows_move.proofs.RowsOf.{LikeMethod, interface_moved, explicit_moved, method_row_moved, method_row_absent, instance_moved}
+
+-- ---- rows behind the core library's table
+
+table_by : (token r : ℕ) → token / 16777216 ≡ 2 → token % 16777216 ≡ r → list_any (λ n. nat_lt n (length TYPES)) (listed (index_from r)) ≡ true → token ≤ 33554432 + length TYPES
+table_by token zero t e h = absurd (cc)
+table_by token (suc k) t e h = let lt = ltb-true k (length TYPES) (sym (or_none (nat_lt k (length TYPES))) ∙ h) in omega (arith, t, e, lt)
+  where
+    or_none : (b : Bool) → (b || false) ≡ b
+    or_none true = refl
+    or_none false = refl
+
+table_case : (token : ℕ) (c : Bool) → (table_of token == TYPE_DEF) ≡ c → list_any (λ n. nat_lt n (length TYPES)) (listed (if c then row_index token else None)) ≡ true → token ≤ 33554432 + length TYPES
+table_case token true e h = table_by token (token % 16777216) (eqb-true (table_of token) TYPE_DEF e) refl h
+table_case token false e h = absurd (cc)
+
+far_token : (token : ℕ) → IsTrue (is_table_type token) → (r : ℕ) → length core_record.type_def ≤ r → nat_eq (token_of TYPE_DEF (suc r)) token ≡ false
+far_token token table r past =
+    let low = table_case token (table_of token == TYPE_DEF) refl table in
+    let count = type_count in
+    ne_eqb (token_of TYPE_DEF (suc r)) token (λ e. absurd (omega (arith, e, low, past, count)))
+
+far_type : (name : CoreName) (r : ℕ) → length core_record.type_def ≤ r → nat_eq r (core_type_row name) ≡ false
+far_type name r past = let lt = type_row_below name in ne_eqb r (core_type_row name) (λ e. absurd (omega (arith, e, lt, past)))
+
+far_name : (r : ℕ) → length core_record.type_def ≤ r → option_map (λ (t : CoreType). t.name) (slice_get TYPES r) ≡ None
+far_name r past = let count = type_count in ap (option_map (λ (t : CoreType). t.name)) (place_past TYPES r (omega (arith, past, count)))
 
 module _ (m : Merge) (k : Keep) (kept : RowAt → Bool) (is : IsMerge m) (flags : HasFlags m k kept) where
   method_flagged : (at : RowAt) → IsThere methods_in (before m) at → keeps_method_row k (before m) at ≡ m.kept (number_method (number_at methods_in (before m) at))
@@ -62,74 +91,86 @@ module _ (m : Merge) (k : Keep) (kept : RowAt → Bool) (is : IsMerge m) (flags 
   pub members : (at : RowAt) → IsTrue (keeps_type_row k (before m) at) → MembersMove m k at
   unfolding kept_types kept_methods kept_fields
   members at keeps = record {
-    methods = methods_move m is (keeps_method_row k (before m)) method_flagged method_core (λ x last. core_place m is methods_in number_method (methods_counted m is) x last) at
-    (λ h lt. type_stays m k kept flags at h keeps);
-    fields = fields_move m is (keeps_field_row k (before m)) field_flagged field_core (λ x last. core_place m is fields_in number_field (fields_counted m is) x last) at
-    (λ h lt. type_stays m k kept flags at h keeps);
+    methods = methods_move m is (keeps_method_row k (before m)) method_flagged method_core at (λ h. type_stays m is k kept flags at keeps h);
+    fields = fields_move m is (keeps_field_row k (before m)) field_flagged field_core at (λ h. type_stays m is k kept flags at keeps h);
   }
 
   -- ---- which type of the core library it is
 
   abbrev typ : RowAt → RowAt
-  typ at = place m is types_in number_type (types_counted m is) at
+  typ at = place m types_in number_type (type_kind m is) at
 
-  -- a row of the core library stays one, and the others become none
-  last_stays : (at : RowAt) → IsTrue (keeps_type_row k (before m) at) → nat_eq (suc (typ at).asm) (length (after m)) ≡ nat_eq (suc at.asm) (length (before m))
-  last_stays at keeps = elim (situation m is types_in number_type (types_counted m is) at (λ h lt. type_stays m k kept flags at h keeps)) [
-    | inl h ↦ input_case h
-    | inr other ↦ elim other [ inl h ↦ core_case h | inr h ↦ gone_case h ]
-  ]
-    where
-      two : length (after m) ≡ 2
-      two = ap length (after_is m is)
+  -- what is told of a row of the core library's table, and of no other
+  module _ {A : Type 0} (look : ℕ → A) (none : A) (far : (r : ℕ) → length core_record.type_def ≤ r → look r ≡ none) where
+    abbrev told : List AsmRec → RowAt → A
+    told recs at = if nat_eq (suc at.asm) (length recs) then look at.row else none
 
-      input_case : Input m is types_in number_type (types_counted m is) at → nat_eq (suc (typ at).asm) (length (after m)) ≡ nat_eq (suc at.asm) (length (before m))
-      input_case h =
-          let lt = h.earlier in
-          let first : (typ at).asm ≡ 0 = ap (λ (x : RowAt). x.asm) h.moved in
-          ne_eqb (suc (typ at).asm) (length (after m)) (λ e. let t = two in absurd (omega (arith, e, t, first)))
-          ∙ sym (ne_eqb (suc at.asm) (length (before m)) (λ e. absurd (omega (arith, e, lt))))
+    two : length (after m) ≡ 2
+    two = ap length (after_is m)
 
-      core_case : Core m is types_in number_type (types_counted m is) at → nat_eq (suc (typ at).asm) (length (after m)) ≡ nat_eq (suc at.asm) (length (before m))
-      core_case h =
-          let second : (typ at).asm ≡ 1 = ap (λ (x : RowAt). x.asm) h.moved in
-          let t = two in
-          eq-eqb (suc (typ at).asm) (length (after m)) (omega (arith, second, t)) ∙ sym (eq-eqb (suc at.asm) (length (before m)) h.last)
+    told_not : (recs : List AsmRec) (at : RowAt) → (suc at.asm ≡ length recs → ⊥) → told recs at ≡ none
+    told_not recs at differ = ap (λ (b : Bool). if b then look at.row else none) (ne_eqb (suc at.asm) (length recs) differ)
 
-      gone_case : Gone m is types_in number_type (types_counted m is) at → nat_eq (suc (typ at).asm) (length (after m)) ≡ nat_eq (suc at.asm) (length (before m))
-      gone_case h =
-          ne_eqb (suc (typ at).asm) (length (after m)) (λ e. let t = two in absurd (h.not_core (omega (arith, e, t))))
-          ∙ sym (ne_eqb (suc at.asm) (length (before m)) (λ e. absurd (h.apart e)))
+    told_last : (recs : List AsmRec) (at : RowAt) → suc at.asm ≡ length recs → told recs at ≡ look at.row
+    told_last recs at last = ap (λ (b : Bool). if b then look at.row else none) (eq-eqb (suc at.asm) (length recs) last)
 
-  -- and keeps its row
-  row_stays : (at : RowAt) → nat_eq (suc at.asm) (length (before m)) ≡ true → (typ at).row ≡ at.row
-  row_stays at e = ap (λ (x : RowAt). x.row) (core_place m is types_in number_type (types_counted m is) at (eqb-true (suc at.asm) (length (before m)) e))
+    input_told : (at : RowAt) → Input m types_in number_type (type_kind m is) at → told (after m) (typ at) ≡ told (before m) at
+    input_told at h =
+        let lt = h.earlier in
+        let first : (typ at).asm ≡ 0 = ap (λ (x : RowAt). x.asm) h.moved in
+        told_not (after m) (typ at) (λ e. let t = two in absurd (omega (arith, e, t, first))) ∙ sym (told_not (before m) at (λ e. absurd (omega (arith, e, lt))))
 
-  both_by : (at : RowAt) (test : ℕ → Bool) (b : Bool) → nat_eq (suc at.asm) (length (before m)) ≡ b → (b && test (typ at).row) ≡ (b && test at.row)
-  both_by at test true e = ap test (row_stays at e)
-  both_by at test false e = refl
+    row_told : (r s : ℕ) → (type_core m).to r ≡ Some s → look s ≡ look r
+    row_told r s goes = elim (row_either (length core_record.type_def) (names_before m) (names_after m) r s goes) [
+      | inl h ↦ ap look (sym h.1)
+      | inr h ↦ let is = h.is in far s (omega (arith, is)) ∙ sym (far r h.past)
+    ]
 
-  core_test : (at : RowAt) → IsTrue (keeps_type_row k (before m) at) → (test : ℕ → Bool)
+    core_told : (at : RowAt) → Core m types_in number_type (type_kind m is) at → told (after m) (typ at) ≡ told (before m) at
+    core_told at h =
+        let second : (typ at).asm ≡ 1 = ap (λ (x : RowAt). x.asm) h.moved in
+        let row : (typ at).row ≡ h.row = ap (λ (x : RowAt). x.row) h.moved in
+        let t = two in
+        told_last (after m) (typ at) (omega (arith, second, t)) ∙ ap look row ∙ row_told at.row h.row h.goes ∙ sym (told_last (before m) at h.last)
+
+    gone_by : (at : RowAt) → Gone m types_in number_type (type_kind m is) at → (b : Bool) → nat_eq (suc at.asm) (length (before m)) ≡ b → (if b then look at.row else none) ≡ none
+    gone_by at h true e =
+        let last = eqb-true (suc at.asm) (length (before m)) e in
+        let past = h.none_before (core_of m) (core_at m at last) in
+        let more = types_more m is in
+        far at.row (omega (arith, past, more))
+    gone_by at h false e = refl
+
+    gone_told : (at : RowAt) → Gone m types_in number_type (type_kind m is) at → told (after m) (typ at) ≡ told (before m) at
+    gone_told at h =
+        let past = h.past in
+        told_not (after m) (typ at) (λ e. let t = two in absurd (omega (arith, e, t, past))) ∙ sym (gone_by at h (nat_eq (suc at.asm) (length (before m))) refl)
+
+    pub told_moved : (at : RowAt) → IsTrue (keeps_type_row k (before m) at) → told (after m) (typ at) ≡ told (before m) at
+    told_moved at keeps = elim (situation m types_in number_type (type_kind m is) at (λ h. type_stays m is k kept flags at keeps h)) [
+      | inl h ↦ input_told at h
+      | inr other ↦ elim other [ inl h ↦ core_told at h | inr h ↦ gone_told at h ]
+    ]
+
+  and_is : (b c : Bool) → (b && c) ≡ (if b then c else false)
+  and_is true c = refl
+  and_is false c = refl
+
+  core_test : (at : RowAt) → IsTrue (keeps_type_row k (before m) at) → (test : ℕ → Bool) → ((r : ℕ) → length core_record.type_def ≤ r → test r ≡ false)
       → (nat_eq (suc (typ at).asm) (length (after m)) && test (typ at).row) ≡ (nat_eq (suc at.asm) (length (before m)) && test at.row)
-  core_test at keeps test =
-      ap (λ (b : Bool). b && test (typ at).row) (last_stays at keeps) ∙ both_by at test (nat_eq (suc at.asm) (length (before m))) refl
-
-  name_by : (at : RowAt) (b : Bool) → nat_eq (suc at.asm) (length (before m)) ≡ b
-      → (if b then option_map (λ (t : CoreType). t.name) (slice_get TYPES (typ at).row) else None) ≡ (if b then option_map (λ (t : CoreType). t.name) (slice_get TYPES at.row) else None)
-  name_by at true e = ap (λ (r : ℕ). option_map (λ (t : CoreType). t.name) (slice_get TYPES r)) (row_stays at e)
-  name_by at false e = refl
+  core_test at keeps test far =
+      and_is (nat_eq (suc (typ at).asm) (length (after m))) (test (typ at).row) ∙ told_moved test false far at keeps ∙ sym (and_is (nat_eq (suc at.asm) (length (before m))) (test at.row))
 
   type_marks : (at : RowAt) → IsTrue (keeps_type_row k (before m) at) → TypeMarks m at
   unfolding kept_types
   type_marks at keeps = record {
-    head = head_moved m is at (λ h lt. type_stays m k kept flags at h keeps);
-    params = λ t e args. fits_moved m is at (λ h lt. type_stays m k kept flags at h keeps) (row_there (λ rec. rec.type_def) (before m) at t e) args;
-    interface = interface_moved m is at (λ h lt. type_stays m k kept flags at h keeps);
-    explicit = ap (λ (b : Bool). b || false) (explicit_moved m is at (λ h lt. type_stays m k kept flags at h keeps));
-    core_row = λ token table. core_test at keeps (λ r. nat_eq (token_of TYPE_DEF (suc r)) token);
-    core_name = ap (λ (b : Bool). if b then option_map (λ (t : CoreType). t.name) (slice_get TYPES (typ at).row) else None) (last_stays at keeps)
-    ∙ name_by at (nat_eq (suc at.asm) (length (before m))) refl;
-    core_type = λ name. core_test at keeps (λ r. nat_eq r (core_type_row name));
+    head = head_moved m is at (λ h. type_stays m is k kept flags at keeps h);
+    params = λ t e args. fits_moved m is at (λ h. type_stays m is k kept flags at keeps h) (row_there (λ rec. rec.type_def) (before m) at t e) args;
+    interface = interface_moved m is at (λ h. type_stays m is k kept flags at keeps h);
+    explicit = ap (λ (b : Bool). b || false) (explicit_moved m is at (λ h. type_stays m is k kept flags at keeps h));
+    core_row = λ token table. core_test at keeps (λ r. nat_eq (token_of TYPE_DEF (suc r)) token) (far_token token table);
+    core_name = told_moved (λ r. option_map (λ (t : CoreType). t.name) (slice_get TYPES r)) None far_name at keeps;
+    core_type = λ name. core_test at keeps (λ r. nat_eq r (core_type_row name)) (far_type name);
   }
 
   -- ---- methods and fields
@@ -140,14 +181,14 @@ module _ (m : Merge) (k : Keep) (kept : RowAt → Bool) (is : IsMerge m) (flags 
   method_marks : (at : RowAt) → IsTrue (keeps_method_row k (before m) at) → MethodMarks m at
   unfolding kept_types kept_methods
   method_marks at keeps = record {
-    there = λ r e. let got = method_row_moved m is at r (λ h lt. method_stays m k kept flags at h keeps) e in (got.0, got.1, same_method got.0 r got.2);
-    absent = λ e. method_row_absent m is at (λ h lt. method_stays m k kept flags at h keeps) e;
-    owner = owner_moved m is at (λ h lt. method_stays m k kept flags at h keeps) (λ x e h. type_stays m k kept flags x h (flags.keeps.owners at x keeps e));
+    there = λ r e. let got = method_row_moved m is at r (λ h. method_stays m is k kept flags at keeps h) e in (got.0, got.1, same_method got.0 r got.2);
+    absent = λ e. method_row_absent m is at (λ h. method_stays m is k kept flags at keeps h) e;
+    owner = owner_moved m is at (λ h. method_stays m is k kept flags at keeps h) (λ x e h. type_stays m is k kept flags x (flags.keeps.owners at x keeps e) h);
   }
 
   field_instance : (at : RowAt) → IsTrue (keeps_field_row k (before m) at) → is_instance_field (after m) ((places_of m).field at) ≡ is_instance_field (before m) at
   unfolding kept_fields
-  field_instance at keeps = instance_moved m is at (λ h lt. field_stays m k kept flags at h keeps)
+  field_instance at keeps = instance_moved m is at (λ h. field_stays m is k kept flags at keeps h)
 
   pub marks : MarksMove m k
   marks = record { types = type_marks; methods = method_marks; instance = field_instance }
