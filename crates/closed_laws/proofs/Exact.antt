@@ -54,4 +54,4 @@ exact_marks recs entry roots holds exact =
           let t = three_there recs a b c f i in
           set recs entry roots holds exact f
           (three_step recs entry roots holds exact a b c f (marks recs entry roots holds exact a t.0 h) (marks recs entry roots holds exact b t.1 g) (marks recs entry roots holds exact c t.2 u) i);
-    }, λ f there h. marks recs entry roots holds exact f there h)
+    }, (λ f there h. marks recs entry roots holds exact f there h))

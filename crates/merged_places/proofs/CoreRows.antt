@@ -14,7 +14,7 @@ use Rattle.link_rules.specs.declared.core_type_name.CoreTypeName.{CoreTypeName}
 use Rattle.link_rules.specs.CoreNames.{same_core_name, missing_from, missing_names, added_row, core_with}
 use Rattle.link_rules.specs.Cycles.{add_new, add_all}
 use Rattle.merged_world_rules.specs.Merge.{Merge, names_before, names_after}
-use Rattle.merged_world_rules.specs.Numbering.{CoreRows, IsFit, same_rows}
+use Rattle.merged_world_rules.specs.Numbering.{IsFit, same_rows}
 use Rattle.merged_world_rules.specs.NewNumbers.{place_of_name, named_row, core_rows, type_core, method_core, field_core}
 use Rattle.merged_places.proofs.Rows.{place_within, place_past}
 
@@ -116,14 +116,14 @@ low_by : (d k : ℕ) (rest : Option ℕ) (b : Bool) → (rest ≡ Some k → d +
 low_by d k rest true more h = let same : d ≡ k = cc in omega (arith, same)
 low_by d k rest false more h = let le = more h in omega (arith, le)
 
-low : (x : CoreTypeName) (d k : ℕ) (xs : List CoreTypeName) → position_from (same_core_name x) d xs ≡ Some k → d ≤ k
-low x d k [] h = absurd (cc)
-low x d k (y ∷ xs) h = low_by d k (position_from (same_core_name x) (d + 1) xs) (same_core_name x y) (low x (d + 1) k xs) h
+least : (x : CoreTypeName) (d k : ℕ) (xs : List CoreTypeName) → position_from (same_core_name x) d xs ≡ Some k → d ≤ k
+least x d k [] h = absurd (cc)
+least x d k (y ∷ xs) h = low_by d k (position_from (same_core_name x) (d + 1) xs) (same_core_name x y) (least x (d + 1) k xs) h
 
 found_from : (x : CoreTypeName) (xs : List CoreTypeName) (d j : ℕ) → position_from (same_core_name x) d xs ≡ Some (d + j) → slice_get xs j ≡ Some x
 found_from x [] d j e = absurd (cc)
 found_from x (y ∷ xs) d j e =
-    found_case x y xs d j (same_core_name x y) refl (λ i h. found_from x xs (d + 1) i h) (λ h. low x (d + 1) (d + j) xs h) e
+    found_case x y xs d j (same_core_name x y) refl (λ i h. found_from x xs (d + 1) i h) (λ h. least x (d + 1) (d + j) xs h) e
 
 pub found_name : (xs : List CoreTypeName) (x : CoreTypeName) (j : ℕ) → place_of_name xs x ≡ Some j → FoundName xs x j
 found_name xs x j e =
@@ -193,4 +193,4 @@ module _ (own : ℕ) (names those : List CoreTypeName) (once : Once names) where
   core_fits = record { low = row_low own names those; led_back = row_back }
 
 pub type_fits : (m : Merge) → IsFit (type_core m)
-type_fits m = core_fits (length core_record.type_def) (names_before m) (names_after m) (missing_once _)
+type_fits m = core_fits (length core_record.type_def) (names_before m) (names_after m) (missing_once (m.inputs ++ core_record ∷ []))

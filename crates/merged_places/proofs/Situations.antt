@@ -88,8 +88,8 @@ module _ (m : Merge) (count : AsmRec → ℕ) (number_item : ℕ → Item) (kind
       let bad : None ≡ Some rec = sym (place_past (after m) (length (after m)) (omega arith)) ∙ ap (slice_get (after m)) (sym asm) ∙ here in
       absurd (cc)
 
-  gone : (at : RowAt) → has_row count (before m) at ≡ false → Gone at
-  gone at e =
+  gone_at : (at : RowAt) → has_row count (before m) at ≡ false → Gone at
+  gone_at at e =
       let p = place_absent at e in
       record {
         none_before = has_none count (before m) at e;
@@ -109,7 +109,7 @@ module _ (m : Merge) (count : AsmRec → ℕ) (number_item : ℕ → Item) (kind
 
   situation_by : (at : RowAt) → (IsThere count (before m) at → Stays m count number_item kind at) → (b : Bool) → has_row count (before m) at ≡ b → Input at ⊎ (Core at ⊎ Gone at)
   situation_by at stays true e = let h = has_there count (before m) at e in there_by at h (stays h) (cases_lt (suc at.asm) (length (before m)))
-  situation_by at stays false e = inr (inr (gone at e))
+  situation_by at stays false e = inr (inr (gone_at at e))
 
   pub situation : (at : RowAt) → (IsThere count (before m) at → Stays m count number_item kind at) → Input at ⊎ (Core at ⊎ Gone at)
   situation at stays = situation_by at stays (has_row count (before m) at) refl

@@ -2,6 +2,7 @@ pub mod Flags
 pub mod Runs
 pub mod Members
 pub mod RowsOf
+pub mod CoreRuns
 pub mod Owners
 pub mod Params
 pub mod Heads

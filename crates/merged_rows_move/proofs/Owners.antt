@@ -1,17 +1,15 @@
 -- The type that has a kept method is the one that it had: runs of methods stay apart.
 use Rattle.std.proofs.Common.{◌≡◌, ◌<◌, ◌≤◌, ℕ, zero, suc, ◌+◌, ◌-◌, Bool, true, false, cond, nat_eq, nat_le, nat_lt, List, [], ◌∷◌, ◌++◌, length, map, Option, Some, None, ◌⊎◌, inl, inr, refl, sym, ap, subst, ◌∙◌, arith}
 use Rattle.std.specs.Prelude.{slice_get, ◌&&◌}
-use Rattle.std.specs.List.{list_all, filter, position_from, range_with_len}
+use Rattle.std.specs.List.{filter, position_from, range_with_len}
 use Rattle.std.specs.Option.{option_map, option_and_then}
 use Rattle.std.proofs.lemmas.List.{length-append}
 use Rattle.std.proofs.lemmas.Bool.{lt-ltb, le-ltb, ltb-true, ltb-false, le-leb, lt-leb, leb-true, leb-false, eqb-true, eq-eqb, ne_eqb, cases_lt, cases_eq, and_parts, and_from, and_left, and_right}
 use Rattle.world_model.specs.declared.types.TypeDefRow.{TypeDefRow}
 use Rattle.world_model.specs.declared.record.AsmRec.{AsmRec}
 use Rattle.world_model.specs.Worlds.{rows_before, types_in}
-use Rattle.core_table.specs.Members.{methods_of}
-use Rattle.core_table.specs.Record.{core_record, record_with, type_rows as core_type_rows, type_row as core_type_row, all_methods}
+use Rattle.core_table.specs.Record.{core_record}
 use Rattle.link_rules.specs.declared.row_at.RowAt.{RowAt}
-use Rattle.link_rules.specs.declared.core_type_name.CoreTypeName.{CoreTypeName}
 use Rattle.link_rules.specs.CoreNames.{added_row}
 use Rattle.link_rules.specs.Types.{at_row}
 use Rattle.link_rules.specs.Members.{methods_in, owns_method}
@@ -30,6 +28,7 @@ use Rattle.merged_places.proofs.CoreRows.{same_is, own_goes}
 use Rattle.merged_places.proofs.Situations.{place, place_there, situation, Input, Core, Gone}
 use Rattle.merged_places.proofs.Moving.{Stays, place_kept, place_core}
 use Rattle.merged_places.proofs.Tables.{number_type, number_method, type_rows, method_rows, types_counted, methods_counted, type_kind, method_kind, type_left, type_table, those_at}
+use Rattle.merged_rows_move.proofs.CoreRuns.{owned_by, past_end, core_past}
 use Rattle.merged_rows_move.proofs.Members.{record_of, method_size}
 
 -- ---- the first that passes
@@ -162,56 +161,6 @@ module _ (p : ℕ → Bool) where
       let up = rank_rises p y n ge in
       le-ltb (rank p n) (rank p y) up ∙ sym (le-ltb n y ge)
   ]
-
--- ---- runs of the core library
-
-module _ {A : Type 0} (t : A → Bool) where
-  -- what none of the last ones passes
-  front_only : (xs ys : List A) (d : ℕ) → ((j : ℕ) (y : A) → slice_get ys j ≡ Some y → t y ≡ false) → position_from t d (xs ++ ys) ≡ position_from t d xs
-  front_only [] ys d none = no_place t ys d none
-  front_only (x ∷ xs) ys d none = ap (cond (t x) (Some d)) (front_only xs ys (d + 1) none)
-
-empty_run : (n at : ℕ) → (nat_le n at && nat_lt at n) ≡ false
-empty_run n at = elim (cases_lt at n) [
-  | inl lt ↦ and_left (nat_le n at) (nat_lt at n) (lt-leb n at lt)
-  | inr ge ↦ and_right (nat_le n at) (nat_lt at n) (le-ltb at n ge)
-]
-
-added_owns : (row : ℕ) (names : List CoreTypeName) (j : ℕ) (t : TypeDefRow) → slice_get (map (added_row core_record) names) j ≡ Some t → owns_method (suc row) t ≡ false
-added_owns row [] j t e = absurd (cc)
-added_owns row (x ∷ names) zero t e = let same : added_row core_record x ≡ t = cc in ap (owns_method (suc row)) (sym same) ∙ empty_run (length core_record.method_def + 1) (suc row)
-added_owns row (x ∷ names) (suc j) t e = added_owns row names j t e
-
--- so names that only modifiers use own nothing
-owned_by : (row : ℕ) (names : List CoreTypeName) (ts : List TypeDefRow) → ts ≡ core_record.type_def ++ map (added_row core_record) names
-    → position_from (owns_method (suc row)) 0 ts ≡ position_from (owns_method (suc row)) 0 core_record.type_def
-owned_by row names ts e =
-    ap (position_from (owns_method (suc row)) 0) e
-    ∙ front_only (owns_method (suc row)) core_record.type_def (map (added_row core_record) names) 0 (λ j t f. added_owns row names j t f)
-
-abbrev ends_by : ℕ → TypeDefRow → Bool
-ends_by n t = nat_le t.method_list_end (suc n)
-
-core_ends : list_all (ends_by (length core_record.method_def)) core_record.type_def ≡ true
-unfolding core_record record_with core_type_rows core_type_row all_methods methods_of
-core_ends = refl
-
-all_at : {A : Type 0} (p : A → Bool) (xs : List A) (k : ℕ) (x : A) → list_all p xs ≡ true → slice_get xs k ≡ Some x → p x ≡ true
-all_at p [] k x h e = absurd (cc)
-all_at p (y ∷ xs) zero x h e = let same : y ≡ x = cc in ap p (sym same) ∙ (and_parts (p y) (list_all p xs) h).0
-all_at p (y ∷ xs) (suc k) x h e = all_at p xs k x (and_parts (p y) (list_all p xs) h).1 e
-
--- no run reaches past the table
-past_end : (row : ℕ) (t : TypeDefRow) → t.method_list_end ≤ suc row → owns_method (suc row) t ≡ false
-past_end row t le = and_right (nat_le t.method_list_first (suc row)) (nat_lt (suc row) t.method_list_end) (le-ltb (suc row) t.method_list_end le)
-
-core_past : (row : ℕ) → length core_record.method_def ≤ row → position_from (owns_method (suc row)) 0 core_record.type_def ≡ None
-core_past row past = no_place (owns_method (suc row)) core_record.type_def 0 (λ j t g. ends_early j t g)
-  where
-    ends_early : (j : ℕ) (t : TypeDefRow) → slice_get core_record.type_def j ≡ Some t → owns_method (suc row) t ≡ false
-    ends_early j t g =
-        let le = leb-true t.method_list_end (suc (length core_record.method_def)) (all_at (ends_by (length core_record.method_def)) core_record.type_def j t core_ends g) in
-        past_end row t (omega (arith, le, past))
 
 -- ---- in a merge
 
