@@ -159,11 +159,11 @@ module _ (m : Merge) where
   method_below : (at : RowAt) → IsThere methods_in (before m) at → suc at.asm ≡ length (before m) → at.row < length core_record.method_def
   method_below at h last = subst (λ (n : ℕ). at.row < n) (ap length (before_methods m)) (subst (λ (rec : AsmRec). at.row < methods_in rec) (core_rec m at h.rec h.here last) h.below)
 
-  pub method_goes : (at : RowAt) → IsThere methods_in (before m) at → suc at.asm ≡ length (before m) → (s : ℕ) × (method_core.to at.row ≡ Some s)
-  method_goes at h last = (at.row, same_goes (length core_record.method_def) at.row (method_below at h last))
+  pub method_goes : (at : RowAt) → IsThere methods_in (before m) at → suc at.asm ≡ length (before m) → method_core.to at.row ≡ Some at.row
+  method_goes at h last = same_goes (length core_record.method_def) at.row (method_below at h last)
 
   field_below : (at : RowAt) → IsThere fields_in (before m) at → suc at.asm ≡ length (before m) → at.row < length core_record.field
   field_below at h last = subst (λ (n : ℕ). at.row < n) (ap length (before_fields m)) (subst (λ (rec : AsmRec). at.row < fields_in rec) (core_rec m at h.rec h.here last) h.below)
 
-  pub field_goes : (at : RowAt) → IsThere fields_in (before m) at → suc at.asm ≡ length (before m) → (s : ℕ) × (field_core.to at.row ≡ Some s)
-  field_goes at h last = (at.row, same_goes (length core_record.field) at.row (field_below at h last))
+  pub field_goes : (at : RowAt) → IsThere fields_in (before m) at → suc at.asm ≡ length (before m) → field_core.to at.row ≡ Some at.row
+  field_goes at h last = same_goes (length core_record.field) at.row (field_below at h last)

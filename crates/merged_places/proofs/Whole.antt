@@ -70,10 +70,10 @@ module _ (m : Merge) (is : IsMerge m) (k : Keep) (kept : RowAt → Bool) (flags 
       ((λ lt. sym (flags.types at row.0 lt row.1) ∙ keeps), (λ last. some_by ((type_core m).to at.row) (sym (flags.core_types at row.0 last row.1) ∙ keeps)))
 
   pub method_stays : (at : RowAt) → IsTrue (keeps_method_row k (before m) at) → IsThere methods_in (before m) at → Stays m methods_in number_method (method_kind m is) at
-  method_stays at keeps h = let row = there_row (λ rec. rec.method_def) (before m) at h in ((λ lt. sym (flags.methods at row.0 row.1) ∙ keeps), method_goes m at h)
+  method_stays at keeps h = let row = there_row (λ rec. rec.method_def) (before m) at h in ((λ lt. sym (flags.methods at row.0 row.1) ∙ keeps), (λ last. (at.row, method_goes m at h last)))
 
   pub field_stays : (at : RowAt) → IsTrue (keeps_field_row k (before m) at) → IsThere fields_in (before m) at → Stays m fields_in number_field (field_kind m is) at
-  field_stays at keeps h = let row = there_row (λ rec. rec.field) (before m) at h in ((λ lt. sym (flags.fields at row.0 row.1) ∙ keeps), field_goes m at h)
+  field_stays at keeps h = let row = there_row (λ rec. rec.field) (before m) at h in ((λ lt. sym (flags.fields at row.0 row.1) ∙ keeps), (λ last. (at.row, field_goes m at h last)))
 
 -- ---- numbers and places go together
 

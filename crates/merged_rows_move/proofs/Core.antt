@@ -281,7 +281,7 @@ module _ (m : Merge) (is : IsMerge m) where
         let number = home_number methods_in (before m) n at e in
         let asm = place_within (before m) at.asm there.rec there.here in
         let last : suc at.asm ≡ length (before m) = omega (arith, asm, ge) in
-        let new = new_core methods_in method_core (before m) number_method m.kept at at.row there last (method_goes m at there last).1 in
+        let new = new_core methods_in method_core (before m) number_method m.kept at at.row there last (method_goes m at there last) in
         let old = core_number methods_in (before m) at last in
         let up : length (kept_method_rows m is) + at.row - length (kept_method_rows m is) ≡ n - in_inputs methods_in (before m) = omega (arith, number, old) in
         ap (λ (i : ℕ). core_row (after m) (new_of methods_in method_core (before m) number_method m.kept i)) (sym number)
@@ -302,7 +302,7 @@ module _ (m : Merge) (is : IsMerge m) where
     call_by n (Some at) e h = ap called (called_there n at e h (cases_lt (suc at.asm) (length (before m))))
 
     calls_move : (n : ℕ) → IsTrue (k.method n) → core_call (after m) ((rho_of m).method n) ≡ core_call (before m) n
-    unfolding kept_methods
+    unfolding kept_methods core_call
     calls_move n h = call_by n (home_from methods_in 0 (before m) n) refl h
 
     pub core_moves : (undone : Undone (back_of m) (rho_of m)) → CoreMoves (change_of m undone k) (after m) (before m)

@@ -107,11 +107,11 @@ module _ (m : Merge) (is : IsMerge m) where
   -- a member of the core library keeps its row
   method_stays : (at : RowAt) → IsThere methods_in (before m) at → suc at.asm ≡ length (before m) → method_place at ≡ at_row 1 at.row
   method_stays at h last =
-      place_there m methods_in number_method (method_kind m is) at h ∙ place_core m methods_in number_method (method_kind m is) at at.row h last (method_goes m at h last).1
+      place_there m methods_in number_method (method_kind m is) at h ∙ place_core m methods_in number_method (method_kind m is) at at.row h last (method_goes m at h last)
 
   field_stays : (at : RowAt) → IsThere fields_in (before m) at → suc at.asm ≡ length (before m) → field_place at ≡ at_row 1 at.row
   field_stays at h last =
-      place_there m fields_in number_field (field_kind m is) at h ∙ place_core m fields_in number_field (field_kind m is) at at.row h last (field_goes m at h last).1
+      place_there m fields_in number_field (field_kind m is) at h ∙ place_core m fields_in number_field (field_kind m is) at at.row h last (field_goes m at h last)
 
   -- runs of a row of what is left
   method_runs : (at : RowAt) (rec : AsmRec) (t : TypeDefRow) → run_places (moved_type_row m.internal (output m) at rec t).method_list_first (moved_type_row m.internal (output m) at rec t).method_list_end m.left.method_def

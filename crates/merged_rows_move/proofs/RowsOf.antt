@@ -116,7 +116,7 @@ module _ {R : Type 0} (m : Merge) (rows : AsmRec → List R) (number_item : ℕ 
       ap (λ (o : Option R). list_any test (listed o)) r.1 ∙ ap (λ (b : Bool). b || false) (same r.0 row r.2)
 
   -- what a test says of the row
-  pub test_moved : (at : RowAt) (test : R → Bool) → ((r s : R) → Like r s → test r ≡ test s) → Stays at
+  pub test_moved : (at : RowAt) (test : R → Bool) → ((r s : R) → Like r s → test r ≡ test s) → StaysThere at
       → list_any test (listed (found rows (after m) (moved at))) ≡ list_any test (listed (found rows (before m) at))
   test_moved at test same stays = test_by at test same stays (found rows (before m) at) refl
 
