@@ -1,12 +1,11 @@
 -- What a virtual call finds is a row.
-use Rattle.std.proofs.Common.{◌≡◌, ℕ, suc, ◌-◌, Bool, true, false, List, [], ◌∷◌, length, Option, Some, None, refl, ap, subst, ◌∙◌}
-use Rattle.std.specs.Prelude.{slice_get, ◌&&◌, ◌==◌, if◌then◌else◌}
-use Rattle.std.specs.List.{list_any, range_with_len}
+use Rattle.std.proofs.Common.{◌≡◌, ℕ, suc, ◌-◌, Bool, true, false, List, [], ◌∷◌, length, Option, Some, None, refl, subst}
+use Rattle.std.specs.Prelude.{◌&&◌, ◌==◌, if◌then◌else◌}
+use Rattle.std.specs.List.{range_with_len}
 use Rattle.std.specs.Option.{option_map, option_and_then}
 use Rattle.il_base.specs.declared.table.TheConstants.{TYPE_DEF}
 use Rattle.world_model.specs.declared.expr.TypeExpr.{TypeExpr}
 use Rattle.world_model.specs.declared.expr.MethodUse.{MethodUse}
-use Rattle.world_model.specs.declared.types.TypeDefRow.{TypeDefRow}
 use Rattle.world_model.specs.declared.members.MethodDefRow.{MethodDefRow}
 use Rattle.world_model.specs.declared.members.MethodImplRow.{MethodImplRow}
 use Rattle.world_model.specs.declared.record.AsmRec.{AsmRec}
@@ -15,7 +14,7 @@ use Rattle.link_rules.specs.declared.row_at.RowAt.{RowAt}
 use Rattle.link_rules.specs.Types.{at_row, or_else}
 use Rattle.link_rules.specs.Members.{with_bases, open_parent, run_of, type_count, generic_method}
 use Rattle.type_rules.specs.Slots.{method_row_at, method_home, slot_within, slot_of, slot_of_row, is_slot, has_slot}
-use Rattle.type_rules.specs.Dispatch.{good_use, have_method, is_instance_virtual, is_body, body_at, impl_body, impl_of_row, first_impl, impl_in_row, impl_in, declares_slot, place_that, find_row_in_run, slot_in_run, slot_in, class_method_in, class_dispatch, in_interface, interface_method, interface_dispatch, dispatch_slot}
+use Rattle.type_rules.specs.Dispatch.{good_use, have_method, is_instance_virtual, is_body, body_at, impl_body, impl_of_row, first_impl, impl_in_row, impl_in, declares_slot, place_that, slot_in_run, slot_in, class_method_in, class_dispatch, in_interface, interface_method, interface_dispatch, dispatch_slot}
 use Rattle.walk_laws.proofs.Finds.{nearest_is, defined}
 use Rattle.dispatch_laws.proofs.There.{IsMethodThere}
 

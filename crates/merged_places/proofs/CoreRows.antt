@@ -1,22 +1,21 @@
 -- Rows of the core library in the output's world: its own stay, and names that only modifiers use are found again, each once.
-use Rattle.std.proofs.Common.{◌≡◌, ◌<◌, ◌≤◌, ℕ, zero, suc, ◌+◌, ◌-◌, Bool, true, false, cond, nat_lt, List, [], ◌∷◌, ◌++◌, length, map, Option, Some, None, ◌⊎◌, inl, inr, refl, sym, ap, subst, ◌∙◌, arith}
-use Rattle.std.specs.Prelude.{slice_get, position, unwrap_or, ◌&&◌, ◌||◌, if◌then◌else◌}
+use Rattle.std.proofs.Common.{◌≡◌, ◌<◌, ◌≤◌, ℕ, zero, suc, ◌+◌, ◌-◌, Bool, true, false, cond, nat_lt, List, [], ◌∷◌, ◌++◌, length, Option, Some, None, ◌⊎◌, inl, inr, refl, sym, ap, subst, ◌∙◌, arith}
+use Rattle.std.specs.Prelude.{slice_get, unwrap_or, ◌||◌, if◌then◌else◌}
 use Rattle.std.specs.List.{list_any, position_from}
 use Rattle.std.specs.Option.{option_map, option_and_then}
 use Rattle.std.proofs.lemmas.Bool.{lt-ltb, le-ltb, ltb-true, ltb-false, and_parts, and_from}
 use Rattle.std.proofs.lemmas.Slice.Eq.{bytes_eq-Decides}
 use Rattle.std.proofs.lemmas.Iterator.Adapters.{position_from-zero}
-use Rattle.world_model.specs.declared.types.TypeDefRow.{TypeDefRow}
 use Rattle.world_model.specs.declared.record.AsmRec.{AsmRec}
 use Rattle.world_model.specs.Core.{same_name}
 use Rattle.core_table.specs.Record.{core_record}
 use Rattle.link_rules.specs.declared.core_type_name.CoreTypeName.{CoreTypeName}
-use Rattle.link_rules.specs.CoreNames.{same_core_name, missing_from, missing_names, added_row, core_with}
+use Rattle.link_rules.specs.CoreNames.{same_core_name, missing_from, missing_names}
 use Rattle.link_rules.specs.Cycles.{add_new, add_all}
 use Rattle.merged_world_rules.specs.Merge.{Merge, names_before, names_after}
 use Rattle.merged_world_rules.specs.Numbering.{IsFit, same_rows}
-use Rattle.merged_world_rules.specs.NewNumbers.{place_of_name, named_row, core_rows, type_core, method_core, field_core}
-use Rattle.merged_places.proofs.Rows.{place_within, place_past}
+use Rattle.merged_world_rules.specs.NewNumbers.{place_of_name, named_row, core_rows, type_core}
+use Rattle.merged_places.proofs.Rows.{place_within}
 
 -- ---- rows that stay
 

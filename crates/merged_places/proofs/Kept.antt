@@ -1,8 +1,8 @@
 -- Kept rows of inputs by their numbers: a kept row's place among them is how many kept numbers are below its own.
 use Rattle.std.proofs.Common.{◌≡◌, ◌<◌, ◌≤◌, ℕ, zero, suc, ◌+◌, ◌-◌, Bool, true, false, cond, nat_eq, nat_lt, List, [], ◌∷◌, ◌++◌, length, map, Option, Some, None, ◌⊎◌, inl, inr, refl, sym, ap, subst, ◌∙◌, arith}
-use Rattle.std.specs.Prelude.{if◌then◌else◌, slice_get, ◌==◌, ◌&&◌, ◌||◌}
+use Rattle.std.specs.Prelude.{slice_get, ◌&&◌, ◌||◌}
 use Rattle.std.specs.List.{flat_map, filter, position_from, range_with_len}
-use Rattle.std.proofs.lemmas.Bool.{lt-ltb, le-ltb, ltb-true, ltb-false, eqb-true, eq-eqb, ne_eqb, cases_eq, cases_lt}
+use Rattle.std.proofs.lemmas.Bool.{lt-ltb, le-ltb, eq-eqb, ne_eqb, cases_eq, cases_lt}
 use Rattle.std.proofs.lemmas.List.{map-append, length-map}
 use Rattle.std.proofs.lemmas.Iterator.Adapters.{position_from-zero}
 use Rattle.il_base.specs.declared.ids.Item.{Item}
@@ -11,10 +11,10 @@ use Rattle.world_model.specs.Worlds.{rows_before}
 use Rattle.link_rules.specs.declared.row_at.RowAt.{RowAt}
 use Rattle.link_rules.specs.Types.{at_row}
 use Rattle.link_rules.specs.Cycles.{same_row}
-use Rattle.merge_rules.specs.Numbers.{Kept, inputs_from, inputs, rows_of_kind, kept_rows, new_row}
+use Rattle.merge_rules.specs.Numbers.{Kept, inputs_from, rows_of_kind, kept_rows, new_row}
 use Rattle.merge_rules.specs.Rows.{is_before, run_at}
-use Rattle.merged_world_rules.specs.Numbering.{in_inputs, in_all, number_at}
-use Rattle.merged_places.proofs.Ranks.{rank, rank_from, rank_step, rank_none, found_at_rank, below_is_rank, all_is_rank}
+use Rattle.merged_world_rules.specs.Numbering.{in_inputs, number_at}
+use Rattle.merged_places.proofs.Ranks.{rank, rank_from, rank_step, rank_none, below_is_rank, all_is_rank}
 use Rattle.merged_places.proofs.Rows.{row_itself, rows_one, IsThere, number_before, stretch_before, one_by_number}
 
 -- ---- what is so of each row of a list

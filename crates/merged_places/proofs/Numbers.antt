@@ -1,21 +1,19 @@
 -- New numbers of the rows of one kind, and the way back.
-use Rattle.std.proofs.Common.{◌≡◌, ◌<◌, ◌≤◌, ℕ, zero, suc, ◌+◌, ◌-◌, Bool, true, false, cond, nat_lt, List, [], ◌∷◌, ◌++◌, length, Option, Some, None, refl, sym, ap, subst, ◌∙◌, arith}
+use Rattle.std.proofs.Common.{◌≡◌, ◌<◌, ◌≤◌, ℕ, zero, suc, ◌+◌, ◌-◌, Bool, true, false, cond, nat_lt, List, [], ◌∷◌, length, Option, Some, None, refl, sym, ap, ◌∙◌, arith}
 use Rattle.std.specs.Prelude.{if◌then◌else◌, slice_get, nat_le, ◌&&◌, unwrap_or}
 use Rattle.std.specs.Option.{option_map, option_and_then}
 use Rattle.std.specs.List.{position_from}
-use Rattle.std.proofs.lemmas.Bool.{lt-ltb, le-ltb, ltb-true, ltb-false, le-leb, lt-leb, leb-true, leb-false, and_parts, and_from, and_left, and_right}
+use Rattle.std.proofs.lemmas.Bool.{lt-ltb, le-ltb, le-leb, leb-true, and_parts, and_from, and_right}
 use Rattle.std.proofs.lemmas.Iterator.Adapters.{position_from-zero}
 use Rattle.il_base.specs.declared.ids.Item.{Item}
 use Rattle.world_model.specs.declared.record.AsmRec.{AsmRec}
-use Rattle.world_model.specs.Worlds.{rows_before}
 use Rattle.link_rules.specs.declared.row_at.RowAt.{RowAt}
-use Rattle.link_rules.specs.Types.{at_row}
 use Rattle.link_rules.specs.Cycles.{same_row}
 use Rattle.link_rules.specs.Members.{home_from}
 use Rattle.merge_rules.specs.Numbers.{Kept, new_row}
 use Rattle.merged_world_rules.specs.Numbering.{in_inputs, in_all, number_at, CoreRows, IsFit, core_to, other_number, new_number, other_back, old_number}
 use Rattle.merged_places.proofs.Ranks.{rank, rank_kept, rank_rises}
-use Rattle.merged_places.proofs.Rows.{rows_one, place_past, place_within, IsThere, home_there, home_number, home_below, there_home, no_home, none_past, input_below, core_number}
+use Rattle.merged_places.proofs.Rows.{rows_one, place_past, IsThere, home_number, home_below, there_home, none_past, input_below, core_number}
 use Rattle.merged_places.proofs.Kept.{keeps, those, how_many, new_row_is, new_row_core}
 
 -- ---- numbers that aren't of kept rows

@@ -1,5 +1,5 @@
 -- The laws, kind by kind.
-use Rattle.std.proofs.Common.{◌≡◌, ◌<◌, ℕ, suc, Bool, true, List, length, Option, Some, None, refl, sym, ap, subst, ◌∙◌}
+use Rattle.std.proofs.Common.{◌≡◌, ℕ, Bool, true, List, length, Option, Some, None, refl, sym, ap, subst, ◌∙◌}
 use Rattle.std.specs.Prelude.{IsTrue, slice_get}
 use Rattle.std.specs.Option.{is_some, option_map, option_and_then}
 use Rattle.world_model.specs.declared.types.TypeDefRow.{TypeDefRow}
@@ -11,7 +11,7 @@ use Rattle.core_table.specs.Record.{core_record}
 use Rattle.link_rules.specs.declared.row_at.RowAt.{RowAt}
 use Rattle.link_rules.specs.Cycles.{same_row}
 use Rattle.link_rules.specs.Members.{home_from, type_home, methods_in, fields_in}
-use Rattle.type_rules.specs.Rows.{rec_at, type_row_at, field_row_at}
+use Rattle.type_rules.specs.Rows.{type_row_at, field_row_at}
 use Rattle.type_rules.specs.Slots.{method_row_at}
 use Rattle.merge_rules.specs.Numbers.{kept_types, kept_methods, kept_fields}
 use Rattle.change_rules.specs.Change.{Keep, Undone}

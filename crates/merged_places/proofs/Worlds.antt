@@ -1,5 +1,5 @@
 -- The two worlds of a merge, and the tables of what is left.
-use Rattle.std.proofs.Common.{◌≡◌, ◌<◌, ◌≤◌, ℕ, zero, suc, ◌+◌, ◌-◌, List, [], ◌∷◌, ◌++◌, length, map, Option, Some, None, refl, sym, ap, subst, ◌∙◌, arith, length-append}
+use Rattle.std.proofs.Common.{◌≡◌, ◌<◌, ℕ, zero, suc, ◌+◌, List, [], ◌∷◌, ◌++◌, length, map, Option, Some, None, refl, sym, ap, ◌∙◌, arith, length-append}
 use Rattle.std.specs.Prelude.{slice_get}
 use Rattle.std.specs.List.{flat_map}
 use Rattle.std.specs.Option.{option_map}
@@ -9,17 +9,16 @@ use Rattle.world_model.specs.declared.known.Known.{Known}
 use Rattle.world_model.specs.declared.members.MethodDefRow.{MethodDefRow}
 use Rattle.world_model.specs.declared.record.AsmRec.{AsmRec}
 use Rattle.core_table.specs.Record.{core_record}
-use Rattle.file_layout.specs.Bodies.{rvas_behind, behind, rva_at}
+use Rattle.file_layout.specs.Bodies.{rvas_behind, behind}
 use Rattle.link_rules.specs.declared.row_at.RowAt.{RowAt}
 use Rattle.link_rules.specs.Cycles.{listed}
 use Rattle.link_rules.specs.declared.core_type_name.CoreTypeName.{CoreTypeName}
 use Rattle.link_rules.specs.CoreNames.{added_row, core_with}
 use Rattle.link_rules.specs.Linked.{assemblies}
 use Rattle.type_rules.specs.Rows.{rec_at}
-use Rattle.merge_rules.specs.Refs.{Output}
-use Rattle.merge_rules.specs.Restricted.{each_at, put_rva, with_rvas, bodies_of, placed_methods, moved_methods, restricted_by, output_of, restricted}
+use Rattle.merge_rules.specs.Restricted.{each_at, put_rva, with_rvas, bodies_of, placed_methods, moved_methods, restricted_by, restricted}
 use Rattle.merged_world_rules.specs.Merge.{Merge, before, after, names_before, names_after, output, IsMerge}
-use Rattle.merged_places.proofs.Rows.{same_some, IsThere, place_within, place_has, get_front, get_behind}
+use Rattle.merged_places.proofs.Rows.{same_some, IsThere, place_has, get_front, get_behind}
 use Rattle.merged_places.proofs.Kept.{Every}
 
 -- ---- the rows at places

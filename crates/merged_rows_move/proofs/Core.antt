@@ -149,10 +149,10 @@ module _ (m : Merge) (is : IsMerge m) where
   methods_same : methods_in (core_of m) ≡ length core_record.method_def
   methods_same = ap length (before_methods m)
 
-  types_before : core_types (before m) ≡ core_record.type_def ++ map (added_row core_record) (names_before m)
+  pub types_before : core_types (before m) ≡ core_record.type_def ++ map (added_row core_record) (names_before m)
   types_before = ap core_types (before_is m) ∙ types_behind m.inputs (core_of m) ∙ before_types m
 
-  types_after : core_types (after m) ≡ core_record.type_def ++ map (added_row core_record) (names_after m)
+  pub types_after : core_types (after m) ≡ core_record.type_def ++ map (added_row core_record) (names_after m)
   types_after = ap core_types (after_is m) ∙ types_behind (m.left ∷ []) (left_core m) ∙ left_types m
 
   pub types_more : length core_record.type_def ≤ types_in (core_of m)

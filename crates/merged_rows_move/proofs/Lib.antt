@@ -7,4 +7,9 @@ pub mod Owners
 pub mod Params
 pub mod Heads
 pub mod Core
+pub mod Bases
+pub mod Stable
+pub mod Renaming
+pub mod Nesting
+pub mod Names
 pub mod Whole

@@ -131,7 +131,7 @@ module _ {A : Type 0} (p : A → Bool) (F : ℕ → AsmRec → List A) where
 
 -- ---- owners
 
-abbrev has : ℕ → Option ℕ → Bool
+abbrev pub has : ℕ → Option ℕ → Bool
 has token None = false
 has token (Some n) = n == token
 
@@ -159,7 +159,7 @@ each_many recs kept a rec token k (row ∷ rows) =
 
 -- ---- which tokens of owners become that of a kept type
 
-token_low : (i : ℕ) → i < 16777215 → token_32 TYPE_DEF i ≡ 33554432 + suc i
+pub token_low : (i : ℕ) → i < 16777215 → token_32 TYPE_DEF i ≡ 33554432 + suc i
 token_low i lt = omega (arith, lt)
 
 token_high : (i : ℕ) → i < 16777215 → token_32 METHOD_DEF i ≡ 100663296 + suc i
@@ -199,6 +199,9 @@ module _ (m : Merge) (is : IsMerge m) (at : RowAt) (h : Input m types_in number_
   new_low : new < length (type_rows m is)
   new_low = rank_below types_in (before m) number_type m.kept (number_at types_in (before m) at) (input_below types_in (before m) at h.there h.earlier) h.keeps_it
 
+  pub few_new : new < 16777215
+  few_new = let low = new_low in let few = few_types in omega (arith, low, few)
+
   not_same : (x : RowAt) (b : Bool) → same_row x at ≡ b → (x ≡ at → ⊥) → b ≡ false
   not_same x true e differ = absurd (differ (rows_one x at e))
   not_same x false e differ = refl
@@ -229,7 +232,7 @@ module _ (m : Merge) (is : IsMerge m) (at : RowAt) (h : Input m types_in number_
   placed x = placed_by x (new_row (type_rows m is) x) refl
 
   -- by the token of an owner
-  class_by : (b w r : ℕ) → w % 16777216 ≡ r → table_of w ≡ TYPE_DEF → b ≡ at.asm
+  pub class_by : (b w r : ℕ) → w % 16777216 ≡ r → table_of w ≡ TYPE_DEF → b ≡ at.asm
       → has token (option_and_then (λ k. place_token TYPE_DEF (type_rows m is) (at_row b k)) (index_from r)) ≡ (w == token_of TYPE_DEF (suc at.row))
   class_by b w zero e t same = sym (ne_eqb w (token_of TYPE_DEF (suc at.row)) (λ f. let few = few_own in absurd (omega (arith, e, f, few))))
   class_by b w (suc k) e t same =
@@ -242,7 +245,7 @@ module _ (m : Merge) (is : IsMerge m) (at : RowAt) (h : Input m types_in number_
           not_same (at_row b k) (same_row (at_row b k) at) refl (λ f. differ (ap (λ (x : RowAt). x.row) f))
           ∙ sym (ne_eqb w (token_of TYPE_DEF (suc at.row)) (λ f. let few = few_own in absurd (differ (omega (arith, e, t, f, few)))))
 
-  class_other : (b : ℕ) (o : Option ℕ) → (b ≡ at.asm → ⊥) → has token (option_and_then (λ k. place_token TYPE_DEF (type_rows m is) (at_row b k)) o) ≡ false
+  pub class_other : (b : ℕ) (o : Option ℕ) → (b ≡ at.asm → ⊥) → has token (option_and_then (λ k. place_token TYPE_DEF (type_rows m is) (at_row b k)) o) ≡ false
   class_other b None apart = refl
   class_other b (Some k) apart = placed (at_row b k) ∙ not_same (at_row b k) (same_row (at_row b k) at) refl (λ f. apart (ap (λ (x : RowAt). x.asm) f))
 

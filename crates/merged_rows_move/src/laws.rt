@@ -1,4 +1,4 @@
-ghost use Rattle.merged_rows_move.specs.Laws.{MovesCore, MovesMembers, MovesMarks};
+ghost use Rattle.merged_rows_move.specs.Laws.{MovesCore, MovesMembers, MovesMarks, MovesBases, MovesNames};
 
 /// A law: the core library's types, members and primitives stand behind the kept rows. It does nothing.
 pub fn core_moves()
@@ -13,4 +13,14 @@ pub fn members_move()
 /// A law: kept rows have the names of methods and the flags that a step looks at. It does nothing.
 pub fn marks_move()
     ensures { MovesMarks }
+{}
+
+/// A law: the base of a kept type moves with it, where the output's references name what they stand for. It does nothing.
+pub fn bases_move()
+    ensures { MovesBases }
+{}
+
+/// A law: a kept type whose text can be printed has the same text in the output. It does nothing.
+pub fn names_move()
+    ensures { MovesNames }
 {}

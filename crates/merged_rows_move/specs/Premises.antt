@@ -1,0 +1,49 @@
+-- What is asked of references where a merge's rows are read again: the laws of `merged_signatures` and `merged_named` give it.
+use Rattle.std.specs.Prelude.{◌≡◌, ◌<◌, ◌==◌, ℕ, suc, List, [], ◌∷◌, length, Some, None, slice_get, IsTrue, false, true}
+use Rattle.std.specs.List.{Contains}
+use Rattle.world_model.specs.declared.known.Known.TheVariants.{Good}
+use Rattle.world_model.specs.declared.expr.TypeExpr.{TypeExpr}
+use Rattle.world_model.specs.declared.types.TypeDefRow.{TypeDefRow}
+use Rattle.world_model.specs.declared.record.AsmRec.{AsmRec}
+use Rattle.world_model.specs.Records.{IsRecord}
+use Rattle.link_rules.specs.declared.row_at.RowAt.{RowAt}
+use Rattle.link_rules.specs.Types.{at_row, encloser}
+use Rattle.link_rules.specs.Signatures.{token_type}
+use Rattle.link_rules.specs.Linked.{link_fault_of}
+use Rattle.mark_rules.specs.Places.{type_item}
+use Rattle.merge_rules.specs.Numbers.{kept_types}
+use Rattle.merge_rules.specs.Names.{collision}
+use Rattle.merge_rules.specs.Keys.{TypeKey, type_key}
+use Rattle.merge_rules.specs.Order.{met_type}
+use Rattle.merge_rules.specs.Moved.{moved_type}
+use Rattle.change_rules.specs.Change.{Keep}
+use Rattle.change_rules.specs.Moves.{move_expr}
+use Rattle.world_change_rules.specs.Places.{type_number}
+use Rattle.merged_world_rules.specs.Merge.{Merge, before, after, output}
+use Rattle.merged_world_rules.specs.NewNumbers.{rho_of}
+
+-- the output refers to what a token of an input names
+abbrev pub IsMet : Merge → ℕ → AsmRec → ℕ → Type 0
+IsMet m a rec token = (k : TypeKey) → type_key (before m) a rec token ≡ Some k → Contains (output m).mets (met_type k)
+
+-- a token that names a type names the moved one in the output
+abbrev pub ReadsTokens : Merge → Type 0
+ReadsTokens m =
+    (a : ℕ) (rec : AsmRec) (token : ℕ) (e : TypeExpr) → slice_get (before m) a ≡ Some rec → suc a < length (before m) → IsMet m a rec token → token_type (before m) a rec token ≡ Good e
+    → token_type (after m) 0 m.left (moved_type (output m) a rec token) ≡ Good (move_expr (rho_of m) e)
+
+-- a kept type's base has a reading, as where no marked item is bad
+abbrev pub HasGoodBases : Merge → Type 0
+HasGoodBases m =
+    (at : RowAt) (rec : AsmRec) (t : TypeDefRow) → slice_get (before m) at.asm ≡ Some rec → slice_get rec.type_def at.row ≡ Some t → suc at.asm < length (before m)
+    → m.kept (type_item (before m) at) ≡ true → (t.extends == 0) ≡ false → (e : TypeExpr) × (token_type (before m) at.asm rec t.extends ≡ Good e)
+
+-- Enclosers of kept types are kept, and those of shown ones shown; no shown type needs a new name; the output is a record that links.
+pub record KeepsNames (m : Merge) (k : Keep) : Type 0 where
+  pub enclosers : (at : RowAt) (rec : AsmRec) (j : ℕ) → slice_get (before m) at.asm ≡ Some rec → encloser rec at.row ≡ Some j → m.kept (type_item (before m) at) ≡ true
+      → m.kept (type_item (before m) (at_row at.asm j)) ≡ true
+  pub shown : (at : RowAt) (rec : AsmRec) (j : ℕ) → slice_get (before m) at.asm ≡ Some rec → encloser rec at.row ≡ Some j → IsTrue (k.shown (type_number (before m) at))
+      → IsTrue (k.shown (type_number (before m) (at_row at.asm j)))
+  pub apart : collision (before m) (λ t. k.shown t.0) (kept_types (before m) m.kept) ≡ None
+  pub record_left : IsRecord m.left
+  pub links_left : link_fault_of (m.left ∷ []) ≡ None
