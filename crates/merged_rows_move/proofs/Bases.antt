@@ -1,13 +1,12 @@
 -- The base of a kept type moves with it (II.22.37), where the output's references name what they stand for.
-use Rattle.std.proofs.Common.{◌≡◌, ◌<◌, ◌≤◌, ℕ, zero, suc, ◌+◌, ◌-◌, Bool, true, false, nat_eq, nat_lt, List, [], ◌∷◌, ◌++◌, length, map, Option, Some, None, ◌⊎◌, inl, inr, refl, sym, ap, subst, ◌∙◌, arith}
-use Rattle.std.specs.Prelude.{slice_get, ◌==◌, ◌&&◌, ◌||◌, if◌then◌else◌}
+use Rattle.std.proofs.Common.{◌≡◌, ◌<◌, ◌≤◌, ℕ, zero, suc, ◌-◌, Bool, true, false, nat_lt, List, [], ◌∷◌, ◌++◌, length, map, Option, Some, None, inl, inr, refl, sym, ap, subst, ◌∙◌, arith}
+use Rattle.std.specs.Prelude.{slice_get, ◌==◌, ◌||◌, if◌then◌else◌}
 use Rattle.std.specs.List.{Contains, list_all, list_any, flat_map}
 use Rattle.std.specs.Option.{option_map, option_and_then}
 use Rattle.std.proofs.lemmas.Bool.{eqb-true, eq-eqb, ne_eqb, ltb-true, lt-ltb, and_parts, and_from}
 use Rattle.std.proofs.lemmas.List.{length-append}
 use Rattle.std.proofs.lemmas.List.Folds.{list_all-append}
 use Rattle.std.proofs.lemmas.List.Elements.{Contains-append_left, Contains-append_right}
-use Rattle.il_base.specs.declared.ids.TypeId.{TypeId}
 use Rattle.il_base.specs.declared.table.TheConstants.{TYPE_REF, TYPE_DEF, TYPE_SPEC}
 use Rattle.world_model.specs.declared.known.Known.{Known}
 use Rattle.world_model.specs.declared.known.Known.TheVariants.{Good, Bad}
@@ -16,8 +15,6 @@ use Rattle.world_model.specs.declared.expr.TypeExpr.{TypeExpr, out-TypeExpr}
 use Rattle.world_model.specs.declared.expr.TypeExpr.TheOpen.{TypeExpr-F}
 use Rattle.world_model.specs.declared.expr.TypeExpr as expr
 use Rattle.world_model.specs.declared.types.TypeDefRow.{TypeDefRow}
-use Rattle.world_model.specs.declared.types.TypeRefRow.{TypeRefRow}
-use Rattle.world_model.specs.declared.types.TypeSpecRow.{TypeSpecRow}
 use Rattle.world_model.specs.declared.record.AsmRec.{AsmRec}
 use Rattle.world_model.specs.Tokens.{table_of, row_index, index_in}
 use Rattle.world_model.specs.Worlds.{types_in, type_id, known_map, row_below, prim_of, core_types}
@@ -50,7 +47,7 @@ use Rattle.merged_places.proofs.Rows.{place_has, place_past, get_front}
 use Rattle.merged_places.proofs.Kept.{keeps}
 use Rattle.merged_places.proofs.Worlds.{core_of, left_core, after_is, after_left, after_core, core_rec, core_at, before_types, left_types}
 use Rattle.merged_places.proofs.CoreTables.{type_same}
-use Rattle.merged_places.proofs.Situations.{place, situation, Input, Core, Gone, HasNone}
+use Rattle.merged_places.proofs.Situations.{place, situation, Input, Core, HasNone}
 use Rattle.merged_places.proofs.Tables.{number_type, type_rows as kept_type_rows, type_kind, type_left, those_at}
 use Rattle.merged_rows_move.specs.Premises.{IsMet, ReadsTokens, HasGoodBases}
 use Rattle.merged_rows_move.proofs.RowsOf.{type_like, TypeStays}
@@ -62,7 +59,7 @@ none_moved : (o : Output) (a : ℕ) (rec : AsmRec) → moved_type o a rec 0 ≡ 
 unfolding moved_type type_key class_number named_type definition_at
 none_moved o a rec = refl
 
-none_read : (recs : List AsmRec) (a : ℕ) (rec : AsmRec) → token_type recs a rec 0 ≡ Bad Unresolved
+pub none_read : (recs : List AsmRec) (a : ℕ) (rec : AsmRec) → token_type recs a rec 0 ≡ Bad Unresolved
 unfolding token_type named_type definition_at
 none_read recs a rec = refl
 
@@ -96,7 +93,7 @@ good_moved r (Bad why) = refl
 
 -- ---- what is met
 
-in_flat : {A B : Type 0} (f : A → List B) (xs : List A) (k : ℕ) (x : A) (y : B) → slice_get xs k ≡ Some x → Contains (f x) y → Contains (flat_map f xs) y
+pub in_flat : {A B : Type 0} (f : A → List B) (xs : List A) (k : ℕ) (x : A) (y : B) → slice_get xs k ≡ Some x → Contains (f x) y → Contains (flat_map f xs) y
 in_flat f [] k x y e h = absurd (cc)
 in_flat f (z ∷ xs) zero x y e h = let same : x ≡ z = cc in Contains-append_left (f z) (flat_map f xs) y (subst (λ (w : _). Contains (f w) y) same h)
 in_flat f (z ∷ xs) (suc k) x y e h = Contains-append_right (f z) (flat_map f xs) y (in_flat f xs k x y e h)
@@ -330,6 +327,6 @@ module _ (m : Merge) (is : IsMerge m) where
     | inr other ↦ elim other [
       | inl h ↦ core_base at h
       | inr h ↦ gone_by (after m) (typ at) h.none_after (slice_get (after m) (typ at).asm) refl
-      ∙ sym (ap (option_map (move_expr (rho_of m))) (gone_by (before m) at h.none_before (slice_get (before m) at.asm) refl))
+          ∙ sym (ap (option_map (move_expr (rho_of m))) (gone_by (before m) at h.none_before (slice_get (before m) at.asm) refl))
     ]
   ]

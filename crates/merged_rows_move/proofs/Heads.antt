@@ -1,6 +1,6 @@
 -- What is told of a kept type by its row: flags that a step looks at, and how many generic parameters it has.
-use Rattle.std.proofs.Common.{◌≡◌, ◌<◌, ◌≤◌, ℕ, suc, ◌+◌, Bool, true, false, List, length, Option, Some, None, ◌⊎◌, inl, inr, refl, sym, ap, subst, ◌∙◌, arith}
-use Rattle.std.specs.Prelude.{slice_get, bit_and, nat_eq, ◌==◌, ◌||◌}
+use Rattle.std.proofs.Common.{◌≡◌, ℕ, suc, Bool, true, false, List, length, Option, Some, None, inl, inr, refl, sym, ap, ◌∙◌, arith}
+use Rattle.std.specs.Prelude.{slice_get, bit_and, ◌==◌, ◌||◌}
 use Rattle.std.specs.List.{list_any, count_by}
 use Rattle.std.specs.Option.{option_map, option_and_then}
 use Rattle.il_base.specs.declared.table.TheConstants.{TYPE_DEF}
@@ -14,8 +14,6 @@ use Rattle.link_rules.specs.declared.row_at.RowAt.{RowAt}
 use Rattle.link_rules.specs.Types.{at_row}
 use Rattle.link_rules.specs.Members.{param_count, is_param_of}
 use Rattle.link_rules.specs.Cycles.{listed}
-use Rattle.type_rules.specs.Rows.{rec_at, type_row_at}
-use Rattle.merge_rules.specs.Moved.{moved_type_row}
 use Rattle.cil_values.specs.declared.definition.Head.{Head}
 use Rattle.view_rules.specs.declared.seen_flags.TheConstants as seen
 use Rattle.view_rules.specs.Methods.{head_at}
@@ -27,7 +25,7 @@ use Rattle.merged_places.proofs.Rows.{IsThere, place_has, place_past}
 use Rattle.merged_places.proofs.Kept.{keeps}
 use Rattle.merged_places.proofs.Worlds.{core_of, left_core, after_left, after_core, core_rec, core_at, before_params, left_params}
 use Rattle.merged_places.proofs.CoreTables.{type_same}
-use Rattle.merged_places.proofs.Situations.{place, situation, Input, Core, Gone, HasNone}
+use Rattle.merged_places.proofs.Situations.{place, situation, Input, Core, HasNone}
 use Rattle.merged_places.proofs.Tables.{number_type, type_kind, type_left}
 use Rattle.merged_rows_move.proofs.RowsOf.{type_like, TypeStays}
 use Rattle.merged_rows_move.proofs.Params.{params_move}

@@ -11,5 +11,6 @@ pub mod Bases
 pub mod Stable
 pub mod Renaming
 pub mod Nesting
+pub mod Interfaces
 pub mod Names
 pub mod Whole

@@ -1,6 +1,6 @@
 -- A kept type whose text can be printed keeps it, with the names of its enclosers.
-use Rattle.std.proofs.Common.{◌≡◌, ◌<◌, ◌≤◌, ℕ, zero, suc, ◌+◌, true, List, [], ◌∷◌, ◌++◌, length, map, Option, Some, None, ◌⊎◌, inl, inr, refl, sym, ap, subst, ◌∙◌, arith}
-use Rattle.std.specs.Prelude.{IsTrue, slice_get, codes, find}
+use Rattle.std.proofs.Common.{◌≡◌, ◌<◌, ◌≤◌, ℕ, zero, suc, ◌+◌, true, List, [], ◌∷◌, ◌++◌, length, map, Option, Some, None, ◌⊎◌, inl, inr, refl, sym, ap, ◌∙◌, arith}
+use Rattle.std.specs.Prelude.{IsTrue, slice_get, codes}
 use Rattle.std.specs.Option.{option_map}
 use Rattle.std.proofs.lemmas.Bool.{cases_lt}
 use Rattle.il_base.specs.declared.ids.TypeId.{TypeId}
@@ -10,7 +10,7 @@ use Rattle.world_model.specs.declared.types.NestedClassRow.{NestedClassRow}
 use Rattle.world_model.specs.declared.record.AsmRec.{AsmRec}
 use Rattle.world_model.specs.Records.{IsRecord}
 use Rattle.world_model.specs.Tokens.{token_of}
-use Rattle.world_model.specs.Worlds.{types_in, type_id}
+use Rattle.world_model.specs.Worlds.{types_in}
 use Rattle.core_table.specs.Record.{core_record, record_with}
 use Rattle.link_rules.specs.declared.row_at.RowAt.{RowAt}
 use Rattle.link_rules.specs.CoreNames.{core_with}
@@ -20,18 +20,18 @@ use Rattle.type_rules.specs.Texts.{part_name, part_or_none, nested_name, row_nam
 use Rattle.walk_laws.specs.Walks.{NestsTypes}
 use Rattle.walk_laws.proofs.Enclosing.{all_whole}
 use Rattle.merge_rules.specs.Numbers.{kept_types}
-use Rattle.merge_rules.specs.Names.{NewName, new_names}
+use Rattle.merge_rules.specs.Names.{NewName}
 use Rattle.merge_rules.specs.Refs.{first_or}
-use Rattle.merge_rules.specs.Moved.{is_renamed, written_name, moved_type_row}
+use Rattle.merge_rules.specs.Moved.{written_name, moved_type_row}
 use Rattle.merge_rules.specs.Restricted.{output_of}
 use Rattle.change_rules.specs.Change.{Keep}
 use Rattle.world_change_rules.specs.Places.{type_number}
 use Rattle.merged_world_rules.specs.Merge.{Merge, before, after, output, IsMerge}
 use Rattle.merged_world_rules.specs.Numbering.{number_at}
 use Rattle.merged_places.proofs.Ranks.{rank}
-use Rattle.merged_places.proofs.Rows.{IsThere, place_within, place_has, place_past}
+use Rattle.merged_places.proofs.Rows.{place_within, place_has, place_past}
 use Rattle.merged_places.proofs.Kept.{keeps}
-use Rattle.merged_places.proofs.Worlds.{core_of, left_core, after_is, after_left, after_core, before_input, core_rec, core_at}
+use Rattle.merged_places.proofs.Worlds.{core_of, left_core, after_is, after_left, after_core, core_rec, core_at}
 use Rattle.merged_places.proofs.CoreTables.{type_same}
 use Rattle.merged_places.proofs.Tables.{number_type, type_kind, type_left}
 use Rattle.merged_places.proofs.Situations.{place, situation, Input, Core, Gone}
@@ -39,7 +39,7 @@ use Rattle.merged_rows_move.specs.Premises.{KeepsNames}
 use Rattle.merged_rows_move.proofs.RowsOf.{TypeStays}
 use Rattle.merged_rows_move.proofs.Members.{record_of}
 use Rattle.merged_rows_move.proofs.Renaming.{keeps_name}
-use Rattle.merged_rows_move.proofs.Nesting.{names_row_is, index_is, NamesRow, encloser_moved, encloser_input, no_encloser}
+use Rattle.merged_rows_move.proofs.Nesting.{names_row_is, index_is, encloser_moved, encloser_input, no_encloser}
 
 -- the rows of a record name types
 nests : (rec : AsmRec) → IsRecord rec → NestsTypes rec

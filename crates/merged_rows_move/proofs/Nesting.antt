@@ -1,9 +1,9 @@
 -- The type that encloses a kept type is the one that did, under its new number (II.22.32).
-use Rattle.std.proofs.Common.{◌≡◌, ◌<◌, ◌≤◌, ℕ, zero, suc, ◌+◌, ◌/◌, ◌%◌, Bool, true, false, cond, nat_eq, List, [], ◌∷◌, ◌++◌, length, map, Option, Some, None, refl, sym, ap, subst, ◌∙◌, arith}
+use Rattle.std.proofs.Common.{◌≡◌, ◌<◌, ◌≤◌, ℕ, zero, suc, ◌+◌, ◌%◌, Bool, true, false, cond, nat_eq, List, [], ◌∷◌, ◌++◌, length, map, Option, Some, None, refl, sym, ap, subst, ◌∙◌, arith}
 use Rattle.std.specs.Prelude.{slice_get, nat_le, ◌==◌, ◌&&◌, ◌||◌, if◌then◌else◌}
 use Rattle.std.specs.List.{list_any, flat_map, filter}
 use Rattle.std.specs.Option.{option_map, option_and_then}
-use Rattle.std.proofs.lemmas.Bool.{eqb-true, eq-eqb, leb-true, and_parts}
+use Rattle.std.proofs.lemmas.Bool.{eqb-true, eq-eqb, ne_eqb, leb-true, and_parts}
 use Rattle.std.proofs.lemmas.List.{append-nil}
 use Rattle.std.proofs.lemmas.List.Elements.{filter-append}
 use Rattle.il_base.specs.declared.table.TheConstants.{TYPE_DEF}
@@ -19,7 +19,6 @@ use Rattle.link_rules.specs.Cycles.{listed}
 use Rattle.type_rules.specs.Rows.{each_from}
 use Rattle.merge_rules.specs.Numbers.{inputs_from, inputs, kept_types}
 use Rattle.merge_rules.specs.Rows.{all_rows, token_32, place_token, output_rows, kept_row_token}
-use Rattle.merge_rules.specs.Sorted.{by_key}
 use Rattle.merge_rules.specs.Restricted.{nested_in, new_nested, nested_classes, output_of}
 use Rattle.merged_world_rules.specs.Merge.{Merge, before, output, IsMerge}
 use Rattle.merged_world_rules.specs.Numbering.{number_at}
@@ -41,7 +40,7 @@ head [] = None
 head (x ∷ xs) = Some x
 
 module _ {A B : Type 0} (p : B → Bool) (f : A → List B) where
-  filter_flat : (xs : List A) → filter p (flat_map f xs) ≡ flat_map (λ (x : A). filter p (f x)) xs
+  pub filter_flat : (xs : List A) → filter p (flat_map f xs) ≡ flat_map (λ (x : A). filter p (f x)) xs
   filter_flat [] = refl
   filter_flat (x ∷ xs) = filter-append p (f x) (flat_map f xs) ∙ ap (λ (ys : List B). filter p (f x) ++ ys) (filter_flat xs)
 
@@ -81,7 +80,7 @@ module _ {B : Type 0} (F : ℕ → AsmRec → List B) where
       let more = nothing (next ∷ rest) (suc a) (λ k r e lt. let y : suc a + k ≡ a + suc k = omega arith in ap (λ (n : ℕ). F n r) y ∙ none (suc k) r e (omega (arith, lt))) in
       λ i. here i ++ more i
 
-  only_one : (rest : List AsmRec) (a d : ℕ) (rec : AsmRec) → slice_get rest d ≡ Some rec → suc d < length rest
+  pub only_one : (rest : List AsmRec) (a d : ℕ) (rec : AsmRec) → slice_get rest d ≡ Some rec → suc d < length rest
       → ((k : ℕ) (r : AsmRec) → slice_get rest k ≡ Some r → suc k < length rest → (k ≡ d → ⊥) → F (a + k) r ≡ []) → flat_map given (inputs_from a rest) ≡ F (a + d) rec
   only_one [] a d rec e lt none = absurd (omega (arith, lt))
   only_one (x ∷ []) a d rec e lt none = absurd (omega (arith, lt))
@@ -161,6 +160,21 @@ encloser_is : (rec : AsmRec) (k : ℕ) → encloser rec k ≡ option_and_then ar
 unfolding encloser
 encloser_is rec k = encloser_in_is (token_of TYPE_DEF (suc k)) rec.nested_class
 
+place_by : (w place r : ℕ) → row_of w ≡ r → index_from r ≡ Some place → row_of w ≡ suc place
+place_by w place zero e f = absurd (cc)
+place_by w place (suc k) e f = let same : k ≡ place = cc in e ∙ ap suc same
+
+row_is : (rec : AsmRec) (w : ℕ) (n : NamesRow rec w) → row_of w ≡ suc n.place
+row_is rec w n = place_by w n.place (row_of w) refl n.index
+
+-- it isn't that of a type that isn't there
+pub other_token : (rec : AsmRec) (w : ℕ) → NamesRow rec w → (k : ℕ) → length rec.type_def ≤ k → nat_eq w (token_of TYPE_DEF (suc k)) ≡ false
+other_token rec w n k past =
+    let r = row_is rec w n in
+    let t = n.table in
+    let low = n.low in
+    ne_eqb w (token_of TYPE_DEF (suc k)) (λ e. absurd (omega (arith, e, r, t, low, past)))
+
 -- a type that isn't there has none
 none_by_rows : (rec : AsmRec) (k : ℕ) → length rec.type_def ≤ k → ((i : ℕ) (row : NestedClassRow) → slice_get rec.nested_class i ≡ Some row → NamesRow rec row.nested_class) → (rows : List NestedClassRow)
     → filter (has_key nested (token_of TYPE_DEF (suc k))) rec.nested_class ≡ rows → option_and_then around (head rows) ≡ None
@@ -174,13 +188,6 @@ none_by_rows rec k past named (row ∷ rest) e =
     let t = n.table in
     let low = n.low in
     absurd (omega (arith, w, r, t, low, past))
-  where
-    row_is : (rec : AsmRec) (w : ℕ) (n : NamesRow rec w) → row_of w ≡ suc n.place
-    row_is rec w n = by_row (row_of w) refl n.index
-      where
-        by_row : (r : ℕ) → row_of w ≡ r → index_from r ≡ Some n.place → row_of w ≡ suc n.place
-        by_row zero e f = absurd (cc)
-        by_row (suc k) e f = let same : k ≡ n.place = cc in e ∙ ap suc same
 
 pub no_encloser : (rec : AsmRec) (k : ℕ) → IsRecord rec → length rec.type_def ≤ k → encloser rec k ≡ None
 no_encloser rec k is past =
@@ -304,7 +311,7 @@ module _ (m : Merge) (is : IsMerge m) where
             earlier = h.earlier;
             keeps_it = kept_around n.place e;
             moved = place_there m types_in number_type (type_kind m is) (at_row at.asm n.place) there
-            ∙ place_kept m types_in number_type (type_kind m is) (at_row at.asm n.place) there h.earlier (kept_around n.place e);
+                ∙ place_kept m types_in number_type (type_kind m is) (at_row at.asm n.place) there h.earlier (kept_around n.place e);
           }
 
       first_by : (rows : List NestedClassRow) → filter (has_key nested own) h.there.rec.nested_class ≡ rows → option_and_then around (head (flat_map mine rows)) ≡ option_map new_around (option_and_then around (head rows))

@@ -1,10 +1,10 @@
 -- The type that has a kept method is the one that it had: runs of methods stay apart.
-use Rattle.std.proofs.Common.{◌≡◌, ◌<◌, ◌≤◌, ℕ, zero, suc, ◌+◌, ◌-◌, Bool, true, false, cond, nat_eq, nat_le, nat_lt, List, [], ◌∷◌, ◌++◌, length, map, Option, Some, None, ◌⊎◌, inl, inr, refl, sym, ap, subst, ◌∙◌, arith}
+use Rattle.std.proofs.Common.{◌≡◌, ◌<◌, ◌≤◌, ℕ, zero, suc, ◌+◌, ◌-◌, Bool, true, false, cond, nat_le, nat_lt, List, [], ◌∷◌, length, map, Option, Some, None, ◌⊎◌, inl, inr, refl, sym, ap, subst, ◌∙◌, arith}
 use Rattle.std.specs.Prelude.{slice_get, ◌&&◌}
 use Rattle.std.specs.List.{filter, position_from, range_with_len}
 use Rattle.std.specs.Option.{option_map, option_and_then}
 use Rattle.std.proofs.lemmas.List.{length-append}
-use Rattle.std.proofs.lemmas.Bool.{lt-ltb, le-ltb, ltb-true, ltb-false, le-leb, lt-leb, leb-true, leb-false, eqb-true, eq-eqb, ne_eqb, cases_lt, cases_eq, and_parts, and_from, and_left, and_right}
+use Rattle.std.proofs.lemmas.Bool.{lt-ltb, le-ltb, le-leb, lt-leb, cases_lt, cases_eq, and_left, and_right}
 use Rattle.world_model.specs.declared.types.TypeDefRow.{TypeDefRow}
 use Rattle.world_model.specs.declared.record.AsmRec.{AsmRec}
 use Rattle.world_model.specs.Worlds.{rows_before, types_in}
@@ -17,17 +17,16 @@ use Rattle.type_rules.specs.Slots.{type_of_method}
 use Rattle.merge_rules.specs.Moved.{moved_type_row}
 use Rattle.merge_rules.specs.Restricted.{output_of}
 use Rattle.merge_rules.specs.Numbers.{kept_methods}
-use Rattle.merge_rules.specs.Rows.{run_at}
 use Rattle.merged_world_rules.specs.Merge.{Merge, before, after, names_before, names_after, output, IsMerge}
 use Rattle.merged_world_rules.specs.Numbering.{in_inputs, number_at}
 use Rattle.merged_places.proofs.Ranks.{rank, rank_from, rank_step, rank_none, rank_is, rank_kept, rank_rises}
-use Rattle.merged_places.proofs.Rows.{IsThere, place_within, place_has, place_past, same_some, input_below, number_before, stretch_before}
-use Rattle.merged_places.proofs.Kept.{keeps, those, how_many, kept_numbers, kept_at, IsKept, run_is}
+use Rattle.merged_places.proofs.Rows.{IsThere, place_within, place_has, place_past, same_some, number_before, stretch_before}
+use Rattle.merged_places.proofs.Kept.{keeps, kept_numbers, kept_at, run_is}
 use Rattle.merged_places.proofs.Worlds.{core_of, left_core, after_is, after_left, after_core, core_rec, core_at, before_types, left_types, before_methods}
 use Rattle.merged_places.proofs.CoreRows.{same_is, own_goes}
 use Rattle.merged_places.proofs.Situations.{place, place_there, situation, Input, Core, Gone}
 use Rattle.merged_places.proofs.Moving.{Stays, place_kept, place_core}
-use Rattle.merged_places.proofs.Tables.{number_type, number_method, type_rows, method_rows, types_counted, methods_counted, type_kind, method_kind, type_left, type_table, those_at}
+use Rattle.merged_places.proofs.Tables.{number_type, number_method, type_rows, types_counted, type_kind, method_kind, type_left}
 use Rattle.merged_rows_move.proofs.CoreRuns.{owned_by, past_end, core_past}
 use Rattle.merged_rows_move.proofs.Members.{record_of, method_size}
 
@@ -143,23 +142,23 @@ module _ (p : ℕ → Bool) where
   pub rank_le : (x n : ℕ) → p n ≡ true → nat_le (rank p x) (rank p n) ≡ nat_le x n
   rank_le x n h = elim (cases_lt n x) [
     | inl lt ↦
-      let up = rank_rises p (suc n) x lt in
-      let one = rank_kept p n h in
-      lt-leb (rank p x) (rank p n) (omega (arith, up, one)) ∙ sym (lt-leb x n lt)
+        let up = rank_rises p (suc n) x lt in
+        let one = rank_kept p n h in
+        lt-leb (rank p x) (rank p n) (omega (arith, up, one)) ∙ sym (lt-leb x n lt)
     | inr ge ↦
-      let up = rank_rises p x n ge in
-      le-leb (rank p x) (rank p n) up ∙ sym (le-leb x n ge)
+        let up = rank_rises p x n ge in
+        le-leb (rank p x) (rank p n) up ∙ sym (le-leb x n ge)
   ]
 
   pub rank_lt : (n y : ℕ) → p n ≡ true → nat_lt (rank p n) (rank p y) ≡ nat_lt n y
   rank_lt n y h = elim (cases_lt n y) [
     | inl lt ↦
-      let up = rank_rises p (suc n) y lt in
-      let one = rank_kept p n h in
-      lt-ltb (rank p n) (rank p y) (omega (arith, up, one)) ∙ sym (lt-ltb n y lt)
+        let up = rank_rises p (suc n) y lt in
+        let one = rank_kept p n h in
+        lt-ltb (rank p n) (rank p y) (omega (arith, up, one)) ∙ sym (lt-ltb n y lt)
     | inr ge ↦
-      let up = rank_rises p y n ge in
-      le-ltb (rank p n) (rank p y) up ∙ sym (le-ltb n y ge)
+        let up = rank_rises p y n ge in
+        le-ltb (rank p n) (rank p y) up ∙ sym (le-ltb n y ge)
   ]
 
 -- ---- in a merge
@@ -350,9 +349,9 @@ module _ (m : Merge) (is : IsMerge m) where
             lower = elim (cases_lt (number_at types_in (before m) l.of) (number_at types_in (before m) (at_row at.asm q))) [
               | inl low ↦ low
               | inr high ↦
-                let up = rank_rises types (number_at types_in (before m) (at_row at.asm q)) (number_at types_in (before m) l.of) high in
-                let place = l.rank_is in
-                absurd (omega (arith, up, place, less))
+                  let up = rank_rises types (number_at types_in (before m) (at_row at.asm q)) (number_at types_in (before m) l.of) high in
+                  let place = l.rank_is in
+                  absurd (omega (arith, up, place, less))
             ]
 
             by_asm : (l.of.asm ≡ at.asm) ⊎ (l.of.asm ≡ at.asm → ⊥) → owns_method (suc (rank methods n)) (new_row_of l.of l.of_row) ≡ false

@@ -1,36 +1,35 @@
 -- A kept type has as many generic parameters in the output as it had (II.22.20).
-use Rattle.std.proofs.Common.{◌≡◌, ◌<◌, ◌≤◌, ℕ, zero, suc, ◌+◌, ◌-◌, ◌*◌, ◌/◌, ◌%◌, Bool, true, false, cond, nat_eq, nat_lt, List, [], ◌∷◌, ◌++◌, length, map, Option, Some, None, ◌⊎◌, inl, inr, refl, sym, ap, subst, ◌∙◌, arith}
+use Rattle.std.proofs.Common.{◌≡◌, ◌<◌, ◌≤◌, ℕ, zero, suc, ◌+◌, ◌%◌, Bool, true, false, cond, nat_lt, List, [], ◌∷◌, ◌++◌, length, Option, Some, None, ◌⊎◌, inl, inr, refl, sym, ap, ◌∙◌, arith}
 use Rattle.std.specs.Prelude.{slice_get, ◌==◌, if◌then◌else◌}
-use Rattle.std.specs.List.{flat_map, filter, count_by}
+use Rattle.std.specs.List.{flat_map, filter}
 use Rattle.std.specs.Option.{option_map, option_and_then}
-use Rattle.std.proofs.lemmas.Bool.{eqb-true, eq-eqb, ne_eqb, cases_eq, cases_lt}
-use Rattle.std.proofs.lemmas.List.{append-nil, length-append}
+use Rattle.std.proofs.lemmas.Bool.{eqb-true, eq-eqb, ne_eqb, cases_eq}
 use Rattle.std.proofs.lemmas.List.Sums.{length-filter}
-use Rattle.il_base.specs.declared.table.TheConstants.{TYPE_DEF, METHOD_DEF, GENERIC_PARAM}
+use Rattle.il_base.specs.declared.table.TheConstants.{TYPE_DEF, METHOD_DEF}
 use Rattle.world_model.specs.declared.types.GenericParamRow.{GenericParamRow}
 use Rattle.world_model.specs.declared.record.AsmRec.{AsmRec}
 use Rattle.world_model.specs.Records.{rows_in, table_sizes}
-use Rattle.world_model.specs.Tokens.{token_of, table_of, row_of, index_from, row_index, index_in}
+use Rattle.world_model.specs.Tokens.{token_of, table_of, index_from, row_index, index_in}
 use Rattle.world_model.specs.Worlds.{types_in}
 use Rattle.link_rules.specs.declared.row_at.RowAt.{RowAt}
 use Rattle.link_rules.specs.Types.{at_row}
-use Rattle.link_rules.specs.Members.{methods_in, param_count, is_param_of}
-use Rattle.link_rules.specs.Cycles.{listed, same_row}
-use Rattle.type_rules.specs.Rows.{rec_at, each_from, each_row}
-use Rattle.merge_rules.specs.Numbers.{Kept, inputs_from, inputs, kept_types, kept_methods, new_row}
+use Rattle.link_rules.specs.Members.{param_count, is_param_of}
+use Rattle.link_rules.specs.Cycles.{same_row}
+use Rattle.type_rules.specs.Rows.{each_from, each_row}
+use Rattle.merge_rules.specs.Numbers.{Kept, inputs_from, kept_types, kept_methods, new_row}
 use Rattle.merge_rules.specs.Sorted.{put, put_all, by_key}
-use Rattle.merge_rules.specs.Rows.{all_rows, token_32, place_token, SortedRow, in_order, sorted_at, class_token, method_def_token, owner_token, param_key, sorted_param, kept_generic_params}
-use Rattle.merge_rules.specs.Restricted.{each_at, each_sorted, new_generic_param, output_of}
-use Rattle.merged_world_rules.specs.Merge.{Merge, before, after, output, IsMerge, HasFewRows}
-use Rattle.merged_world_rules.specs.Numbering.{in_inputs, number_at}
+use Rattle.merge_rules.specs.Rows.{all_rows, token_32, place_token, SortedRow, sorted_at, owner_token, param_key, sorted_param, kept_generic_params}
+use Rattle.merge_rules.specs.Restricted.{each_sorted, new_generic_param, output_of}
+use Rattle.merged_world_rules.specs.Merge.{Merge, before, IsMerge}
+use Rattle.merged_world_rules.specs.Numbering.{number_at}
 use Rattle.merged_places.proofs.Ranks.{rank}
 use Rattle.merged_places.proofs.Rows.{IsThere, place_within, place_has, same_some}
-use Rattle.merged_places.proofs.Kept.{keeps, those}
+use Rattle.merged_places.proofs.Kept.{keeps}
 use Rattle.merged_places.proofs.Rows.{row_itself, rows_one, input_below}
-use Rattle.merged_places.proofs.Kept.{Every, new_row_is}
+use Rattle.merged_places.proofs.Kept.{new_row_is}
 use Rattle.merged_places.proofs.Numbers.{new_row_at, rank_below}
 use Rattle.merged_places.proofs.Worlds.{left_is, made, before_input}
-use Rattle.merged_places.proofs.Tables.{number_type, number_method, type_rows, method_rows, types_are, methods_are, types_counted, methods_counted, type_kind}
+use Rattle.merged_places.proofs.Tables.{number_type, type_rows, method_rows, types_counted, methods_counted, type_kind}
 use Rattle.merged_places.proofs.Situations.{Input}
 
 -- ---- how many pass
@@ -309,12 +308,12 @@ module _ (m : Merge) (is : IsMerge m) (at : RowAt) (h : Input m types_in number_
 
 -- ---- the rows of what is left
 
-abbrev All : {A : Type 0} → (A → Type 0) → List A → Type 0
+abbrev pub All : {A : Type 0} → (A → Type 0) → List A → Type 0
 All P [] = Unit {0}
 All P (x ∷ xs) = P x × All P xs
 
 module _ {A : Type 0} (P : A → Type 0) where
-  all_append : (xs ys : List A) → All P xs → All P ys → All P (xs ++ ys)
+  pub all_append : (xs ys : List A) → All P xs → All P ys → All P (xs ++ ys)
   all_append [] ys hs gs = gs
   all_append (x ∷ xs) ys hs gs = (hs.0, all_append xs ys hs.1 gs)
 
@@ -326,7 +325,7 @@ module _ {A : Type 0} (P : A → Type 0) where
   all_put key x [] h hs = (h, hs)
   all_put key x (y ∷ ys) h hs = put_if key x y ys (nat_lt (key x) (key y)) h hs.0 hs.1 (all_put key x ys h hs.1)
 
-  all_in : (key : A → ℕ) (sorted xs : List A) → All P sorted → All P xs → All P (put_all key sorted xs)
+  pub all_in : (key : A → ℕ) (sorted xs : List A) → All P sorted → All P xs → All P (put_all key sorted xs)
   unfolding put_all
   all_in key sorted [] gs hs = gs
   all_in key sorted (x ∷ xs) gs hs = all_in key (put key x sorted) xs (all_put key x sorted hs.0 gs) hs.1

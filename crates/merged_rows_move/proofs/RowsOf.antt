@@ -1,13 +1,11 @@
 -- The row of a kept type, method or field in the output: like its own where a step looks.
-use Rattle.std.proofs.Common.{◌≡◌, ◌<◌, ◌≤◌, ℕ, zero, suc, ◌+◌, ◌-◌, ◌/◌, ◌%◌, Bool, true, false, List, [], ◌∷◌, length, Option, Some, None, ◌⊎◌, inl, inr, refl, sym, ap, subst, ◌∙◌, arith}
-use Rattle.std.specs.Prelude.{slice_get, bit_and, not, nat_eq, ◌==◌, ◌||◌, if◌then◌else◌}
+use Rattle.std.proofs.Common.{◌≡◌, ◌<◌, ◌≤◌, ℕ, zero, suc, ◌/◌, ◌%◌, Bool, true, false, List, [], ◌∷◌, length, Option, Some, None, inl, inr, refl, sym, ap, ◌∙◌, arith}
+use Rattle.std.specs.Prelude.{slice_get, bit_and, not, nat_eq, ◌||◌, if◌then◌else◌}
 use Rattle.std.specs.List.{list_any}
 use Rattle.std.specs.Option.{option_and_then}
 use Rattle.il_base.specs.declared.ids.Item.{Item}
 use Rattle.il_base.specs.declared.type_flags.TheConstants as type_flag
-use Rattle.il_base.specs.declared.field_flags.TheConstants as field_flag
-use Rattle.il_base.specs.declared.method_flags.TheConstants as method_flag
-use Rattle.il_base.specs.Flags.{has_flag, access_of}
+use Rattle.il_base.specs.Flags.{has_flag}
 use Rattle.world_model.specs.declared.types.TypeDefRow.{TypeDefRow}
 use Rattle.world_model.specs.declared.members.FieldRow.{FieldRow}
 use Rattle.world_model.specs.declared.members.MethodDefRow.{MethodDefRow}
@@ -17,16 +15,15 @@ use Rattle.link_rules.specs.declared.row_at.RowAt.{RowAt}
 use Rattle.link_rules.specs.Types.{at_row}
 use Rattle.link_rules.specs.Members.{methods_in, fields_in, is_interface_row}
 use Rattle.link_rules.specs.Cycles.{listed, is_interface_at, is_static_field}
-use Rattle.type_rules.specs.Rows.{rec_at, type_row_at, field_row_at, is_instance_field}
+use Rattle.type_rules.specs.Rows.{type_row_at, is_instance_field}
 use Rattle.type_rules.specs.Slots.{is_static, is_virtual, is_new_slot, is_public, method_row_at}
-use Rattle.merge_rules.specs.Moved.{without, moved_visibility, moved_type_row, moved_method_row, moved_field_row}
-use Rattle.merge_rules.specs.Names.{is_top_level}
+use Rattle.merge_rules.specs.Moved.{without, moved_type_row, moved_method_row, moved_field_row}
 use Rattle.merge_rules.specs.Refs.{Output}
 use Rattle.merge_rules.specs.Restricted.{put_rva}
 use Rattle.merged_world_rules.specs.Merge.{Merge, before, after, output, IsMerge}
 use Rattle.merged_world_rules.specs.Numbering.{number_at}
 use Rattle.merged_places.proofs.Ranks.{rank}
-use Rattle.merged_places.proofs.Rows.{IsThere, place_past, same_some}
+use Rattle.merged_places.proofs.Rows.{IsThere, place_past}
 use Rattle.merged_places.proofs.Kept.{keeps}
 use Rattle.merged_places.proofs.Worlds.{core_of, left_core, after_left, after_core, core_at}
 use Rattle.merged_places.proofs.CoreTables.{type_same, method_same, field_same}

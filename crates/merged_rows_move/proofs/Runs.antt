@@ -1,5 +1,5 @@
 -- The members of a kept type: of its run those that are kept, in their order.
-use Rattle.std.proofs.Common.{◌≡◌, ◌<◌, ◌≤◌, ℕ, zero, suc, ◌+◌, ◌-◌, Bool, true, false, cond, List, [], ◌∷◌, ◌++◌, length, map, take, drop, Option, Some, None, refl, sym, ap, subst, ◌∙◌, arith, length-take, length-drop}
+use Rattle.std.proofs.Common.{◌≡◌, ◌<◌, ◌≤◌, ℕ, zero, suc, ◌+◌, ◌-◌, Bool, true, false, cond, List, ◌∷◌, length, map, drop, Some, refl, sym, ap, ◌∙◌, arith, length-take, length-drop}
 use Rattle.std.specs.Prelude.{slice_get}
 use Rattle.std.specs.List.{filter, range_with_len}
 use Rattle.il_base.specs.declared.ids.Item.{Item}
@@ -10,7 +10,7 @@ use Rattle.link_rules.specs.Types.{at_row}
 use Rattle.link_rules.specs.Members.{run_of}
 use Rattle.type_rules.specs.Rows.{run_places}
 use Rattle.merge_rules.specs.Rows.{run_at}
-use Rattle.merged_world_rules.specs.Merge.{Merge, before, after}
+use Rattle.merged_world_rules.specs.Merge.{Merge, before}
 use Rattle.merged_world_rules.specs.Numbering.{in_inputs, number_at}
 use Rattle.merged_places.proofs.Ranks.{rank, rank_from, rank_is, rank_split, rank_rises, ranks_are}
 use Rattle.merged_places.proofs.Rows.{IsThere, stretch_before}

@@ -1,37 +1,29 @@
 -- The laws, over the flags of a change.
-use Rattle.std.proofs.Common.{◌≡◌, ◌<◌, ◌≤◌, ℕ, zero, suc, ◌+◌, ◌/◌, ◌%◌, Bool, true, false, List, length, map, Option, Some, None, ◌⊎◌, inl, inr, refl, sym, ap, subst, ◌∙◌, arith}
+use Rattle.std.proofs.Common.{◌≡◌, ◌≤◌, ℕ, zero, suc, ◌+◌, ◌/◌, ◌%◌, Bool, true, false, List, length, map, Some, None, inl, inr, refl, sym, ap, ◌∙◌, arith}
 use Rattle.std.specs.Prelude.{IsTrue, slice_get, nat_eq, nat_lt, ◌==◌, ◌&&◌, ◌||◌, if◌then◌else◌}
-use Rattle.std.specs.List.{filter, list_any}
+use Rattle.std.specs.List.{list_any}
 use Rattle.std.specs.Option.{option_map}
 use Rattle.std.proofs.lemmas.Bool.{eq-eqb, ne_eqb, eqb-true, ltb-true}
-use Rattle.il_base.specs.declared.type_flags.TheConstants as type_flag
 use Rattle.il_base.specs.declared.table.TheConstants.{TYPE_DEF}
-use Rattle.il_base.specs.Flags.{has_flag}
 use Rattle.core_table.specs.declared.names.CoreName.{CoreName}
 use Rattle.core_table.specs.declared.shape.CoreType.{CoreType}
 use Rattle.core_table.specs.declared.types.TheConstants.{TYPES}
-use Rattle.world_model.specs.declared.types.TypeDefRow.{TypeDefRow}
 use Rattle.world_model.specs.declared.members.MethodDefRow.{MethodDefRow}
 use Rattle.world_model.specs.declared.record.AsmRec.{AsmRec}
 use Rattle.core_table.specs.Record.{core_record}
 use Rattle.world_model.specs.Tokens.{token_of, table_of, row_index, index_from}
 use Rattle.world_model.specs.Worlds.{types_in}
 use Rattle.link_rules.specs.declared.row_at.RowAt.{RowAt}
-use Rattle.link_rules.specs.Types.{at_row}
 use Rattle.link_rules.specs.Members.{methods_in, fields_in, base_at}
-use Rattle.link_rules.specs.Cycles.{listed, is_core_row_at}
-use Rattle.type_rules.specs.Rows.{type_row_at, is_instance_field, methods_of_type, fields_of_type}
-use Rattle.type_rules.specs.Slots.{method_row_at}
+use Rattle.link_rules.specs.Cycles.{listed, interfaces_at}
+use Rattle.type_rules.specs.Rows.{is_instance_field}
 use Rattle.type_rules.specs.Texts.{name_at}
 use Rattle.view_rules.specs.Members.{core_type_row}
-use Rattle.view_rules.specs.Methods as view
-use Rattle.view_rules.specs.Layouts.{is_core_type}
-use Rattle.view_rules.specs.Answers.{core_name_at}
 use Rattle.merge_rules.specs.Numbers.{kept_types, kept_methods, kept_fields}
 use Rattle.change_rules.specs.Change.{Keep}
 use Rattle.change_rules.specs.Moves.{move_expr}
 use Rattle.world_change_rules.specs.Places.{type_number, keeps_type_row, keeps_method_row, keeps_field_row}
-use Rattle.world_change_rules.specs.Rows.{is_table_type, SameMethod}
+use Rattle.world_change_rules.specs.Rows.{kept_interfaces_at, is_table_type, SameMethod}
 use Rattle.merged_world_rules.specs.Merge.{Merge, IsMerge, before, after, names_before, names_after}
 use Rattle.merged_world_rules.specs.Numbering.{number_at}
 use Rattle.merged_world_rules.specs.NewNumbers.{type_core, rho_of, places_of}
@@ -40,13 +32,14 @@ use Rattle.merged_places.proofs.Rows.{IsThere, place_past}
 use Rattle.merged_places.proofs.Worlds.{core_of, after_is, core_at}
 use Rattle.merged_places.proofs.CoreRows.{row_either}
 use Rattle.merged_places.proofs.Situations.{place, situation, Input, Core, Gone}
-use Rattle.merged_places.proofs.Tables.{number_type, number_method, number_field, type_kind, method_kind, field_kind}
+use Rattle.merged_places.proofs.Tables.{number_type, number_method, number_field, type_kind}
 use Rattle.merged_places.proofs.Whole.{row_there, there_row, type_stays, method_stays, field_stays}
-use Rattle.merged_rows_move.specs.Premises.{ReadsTokens, HasGoodBases, KeepsNames}
+use Rattle.merged_rows_move.specs.Premises.{ReadsTokens, HasGoodBases, HasGoodInterfaces, KeepsNames}
 use Rattle.merged_rows_move.specs.Laws.{MembersMove, TypeMarks, MethodMarks, MarksMove}
 use Rattle.merged_rows_move.proofs.Members.{methods_move, fields_move}
 use Rattle.merged_rows_move.proofs.Owners.{owner_moved}
 use Rattle.merged_rows_move.proofs.Bases.{base_moved}
+use Rattle.merged_rows_move.proofs.Interfaces.{interfaces_moved}
 use Rattle.merged_rows_move.proofs.Names.{name_moved}
 use Rattle.merged_rows_move.proofs.Core.{type_count, type_row_below, types_more}
 use Rattle.merged_rows_move.proofs.Heads.{head_moved, fits_moved}
@@ -184,6 +177,13 @@ module _ (m : Merge) (k : Keep) (kept : RowAt → Bool) (is : IsMerge m) (flags 
       → base_at (after m) ((places_of m).typ at) ≡ option_map (move_expr (rho_of m)) (base_at (before m) at)
   unfolding kept_types
   bases reads good at keeps = base_moved m is reads good at (λ h. type_stays m is k kept flags at keeps h)
+
+  -- ---- interfaces
+
+  pub interfaces : ReadsTokens m → HasGoodInterfaces m k → (at : RowAt) → IsTrue (keeps_type_row k (before m) at)
+      → interfaces_at (after m) ((places_of m).typ at) ≡ map (move_expr (rho_of m)) (kept_interfaces_at (before m) kept at)
+  unfolding kept_types
+  interfaces reads good at keeps = interfaces_moved m is k kept flags reads good at keeps
 
   -- ---- names
 

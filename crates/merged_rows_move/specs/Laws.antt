@@ -9,7 +9,7 @@ use Rattle.world_model.specs.declared.types.TypeDefRow.{TypeDefRow}
 use Rattle.world_model.specs.declared.members.MethodDefRow.{MethodDefRow}
 use Rattle.link_rules.specs.declared.row_at.RowAt.{RowAt}
 use Rattle.link_rules.specs.Members.{base_at}
-use Rattle.link_rules.specs.Cycles.{is_interface_at, is_core_row_at}
+use Rattle.link_rules.specs.Cycles.{interfaces_at, is_interface_at, is_core_row_at}
 use Rattle.type_rules.specs.Rows.{type_row_at, methods_of_type, fields_of_type, is_instance_field}
 use Rattle.type_rules.specs.Slots.{method_row_at, type_of_method}
 use Rattle.type_rules.specs.Texts.{name_at}
@@ -19,11 +19,11 @@ use Rattle.view_rules.specs.Answers.{core_name_at}
 use Rattle.change_rules.specs.Change.{Keep, Undone}
 use Rattle.change_rules.specs.Moves.{move_expr}
 use Rattle.world_change_rules.specs.Places.{type_number, keeps_type_row, keeps_method_row, keeps_field_row}
-use Rattle.world_change_rules.specs.Rows.{is_table_type, SameMethod, CoreMoves}
+use Rattle.world_change_rules.specs.Rows.{kept_interfaces_at, is_table_type, SameMethod, CoreMoves}
 use Rattle.merged_world_rules.specs.Merge.{Merge, IsMerge, before, after}
 use Rattle.merged_world_rules.specs.NewNumbers.{rho_of, back_of, change_of, places_of}
 use Rattle.merged_world_rules.specs.Kept.{HasFlags}
-use Rattle.merged_rows_move.specs.Premises.{ReadsTokens, HasGoodBases, KeepsNames}
+use Rattle.merged_rows_move.specs.Premises.{ReadsTokens, HasGoodBases, HasGoodInterfaces, KeepsNames}
 
 abbrev pub ForMerges : ((m : Merge) (k : Keep) → Type 0) → Type 0
 ForMerges P = (m : Merge) (k : Keep) (kept : RowAt → Bool) → IsMerge m → HasFlags m k kept → P m k
@@ -67,6 +67,11 @@ abbrev pub MovesBases : Type 0
 MovesBases =
     ForMerges (λ m k. ReadsTokens m → HasGoodBases m → (at : RowAt) → IsTrue (keeps_type_row k (before m) at)
     → base_at (after m) ((places_of m).typ at) ≡ option_map (move_expr (rho_of m)) (base_at (before m) at))
+
+abbrev pub MovesInterfaces : Type 0
+MovesInterfaces =
+    (m : Merge) (k : Keep) (kept : RowAt → Bool) → IsMerge m → HasFlags m k kept → ReadsTokens m → HasGoodInterfaces m k → (at : RowAt) → IsTrue (keeps_type_row k (before m) at)
+    → interfaces_at (after m) ((places_of m).typ at) ≡ map (move_expr (rho_of m)) (kept_interfaces_at (before m) kept at)
 
 -- a type whose text can be printed keeps it
 abbrev pub MovesNames : Type 0

@@ -1,16 +1,17 @@
 -- What is asked of references where a merge's rows are read again: the laws of `merged_signatures` and `merged_named` give it.
-use Rattle.std.specs.Prelude.{◌≡◌, ◌<◌, ◌==◌, ℕ, suc, List, [], ◌∷◌, length, Some, None, slice_get, IsTrue, false, true}
+use Rattle.std.specs.Prelude.{◌≡◌, ◌<◌, ◌==◌, ℕ, suc, [], ◌∷◌, length, Some, None, slice_get, IsTrue, false, true}
 use Rattle.std.specs.List.{Contains}
 use Rattle.world_model.specs.declared.known.Known.TheVariants.{Good}
 use Rattle.world_model.specs.declared.expr.TypeExpr.{TypeExpr}
 use Rattle.world_model.specs.declared.types.TypeDefRow.{TypeDefRow}
+use Rattle.world_model.specs.declared.types.InterfaceImplRow.{InterfaceImplRow}
 use Rattle.world_model.specs.declared.record.AsmRec.{AsmRec}
 use Rattle.world_model.specs.Records.{IsRecord}
 use Rattle.link_rules.specs.declared.row_at.RowAt.{RowAt}
 use Rattle.link_rules.specs.Types.{at_row, encloser}
 use Rattle.link_rules.specs.Signatures.{token_type}
 use Rattle.link_rules.specs.Linked.{link_fault_of}
-use Rattle.mark_rules.specs.Places.{type_item}
+use Rattle.mark_rules.specs.Places.{type_item, impl_item}
 use Rattle.merge_rules.specs.Numbers.{kept_types}
 use Rattle.merge_rules.specs.Names.{collision}
 use Rattle.merge_rules.specs.Keys.{TypeKey, type_key}
@@ -18,6 +19,7 @@ use Rattle.merge_rules.specs.Order.{met_type}
 use Rattle.merge_rules.specs.Moved.{moved_type}
 use Rattle.change_rules.specs.Change.{Keep}
 use Rattle.change_rules.specs.Moves.{move_expr}
+use Rattle.change_rules.specs.Keeps.{keeps_expr}
 use Rattle.world_change_rules.specs.Places.{type_number}
 use Rattle.merged_world_rules.specs.Merge.{Merge, before, after, output}
 use Rattle.merged_world_rules.specs.NewNumbers.{rho_of}
@@ -37,6 +39,17 @@ abbrev pub HasGoodBases : Merge → Type 0
 HasGoodBases m =
     (at : RowAt) (rec : AsmRec) (t : TypeDefRow) → slice_get (before m) at.asm ≡ Some rec → slice_get rec.type_def at.row ≡ Some t → suc at.asm < length (before m)
     → m.kept (type_item (before m) at) ≡ true → (t.extends == 0) ≡ false → (e : TypeExpr) × (token_type (before m) at.asm rec t.extends ≡ Good e)
+
+-- the interface of a kept row has a reading, and is kept
+pub record GoodInterface (m : Merge) (k : Keep) (a : ℕ) (rec : AsmRec) (row : InterfaceImplRow) : Type 0 where
+  pub typ : TypeExpr
+  pub reads : token_type (before m) a rec row.interface ≡ Good typ
+  pub stays : IsTrue (keeps_expr k typ)
+
+abbrev pub HasGoodInterfaces : Merge → Keep → Type 0
+HasGoodInterfaces m k =
+    (a i : ℕ) (rec : AsmRec) (row : InterfaceImplRow) → slice_get (before m) a ≡ Some rec → slice_get rec.interface_impl i ≡ Some row → suc a < length (before m)
+    → m.kept (impl_item (before m) (at_row a i)) ≡ true → GoodInterface m k a rec row
 
 -- Enclosers of kept types are kept, and those of shown ones shown; no shown type needs a new name; the output is a record that links.
 pub record KeepsNames (m : Merge) (k : Keep) : Type 0 where

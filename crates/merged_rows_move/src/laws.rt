@@ -1,4 +1,4 @@
-ghost use Rattle.merged_rows_move.specs.Laws.{MovesCore, MovesMembers, MovesMarks, MovesBases, MovesNames};
+ghost use Rattle.merged_rows_move.specs.Laws.{MovesCore, MovesMembers, MovesMarks, MovesBases, MovesInterfaces, MovesNames};
 
 /// A law: the core library's types, members and primitives stand behind the kept rows. It does nothing.
 pub fn core_moves()
@@ -18,6 +18,11 @@ pub fn marks_move()
 /// A law: the base of a kept type moves with it, where the output's references name what they stand for. It does nothing.
 pub fn bases_move()
     ensures { MovesBases }
+{}
+
+/// A law: the interfaces of a kept type are those of its rows that are kept, moved, in their order. It does nothing.
+pub fn interfaces_move()
+    ensures { MovesInterfaces }
 {}
 
 /// A law: a kept type whose text can be printed has the same text in the output. It does nothing.
