@@ -65,7 +65,7 @@ flat_flat : {A B C : Type 0} (f : A → List B) (g : B → List C) (xs : List A)
 flat_flat f g [] = refl
 flat_flat f g (x ∷ xs) = flat_map-append g (f x) (flat_map f xs) ∙ ap (λ (ys : _). flat_map g (f x) ++ ys) (flat_flat f g xs)
 
-skip_by : {A B : Type 0} (J : A → List B) (x : A) (xs : List A) (b : Bool) → (b ≡ false → J x ≡ []) → J x ++ flat_map J xs ≡ flat_map J (cond b (x ∷ xs) xs)
+pub skip_by : {A B : Type 0} (J : A → List B) (x : A) (xs : List A) (b : Bool) → (b ≡ false → J x ≡ []) → J x ++ flat_map J xs ≡ flat_map J (cond b (x ∷ xs) xs)
 skip_by J x xs true none = refl
 skip_by J x xs false none = ap (λ (ys : _). ys ++ flat_map J xs) (none refl)
 

@@ -12,5 +12,6 @@ pub mod Stable
 pub mod Renaming
 pub mod Nesting
 pub mod Interfaces
+pub mod Impls
 pub mod Names
 pub mod Whole

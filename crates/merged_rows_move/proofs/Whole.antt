@@ -1,7 +1,7 @@
 -- The laws, over the flags of a change.
 use Rattle.std.proofs.Common.{◌≡◌, ◌≤◌, ℕ, zero, suc, ◌+◌, ◌/◌, ◌%◌, Bool, true, false, List, length, map, Some, None, inl, inr, refl, sym, ap, ◌∙◌, arith}
 use Rattle.std.specs.Prelude.{IsTrue, slice_get, nat_eq, nat_lt, ◌==◌, ◌&&◌, ◌||◌, if◌then◌else◌}
-use Rattle.std.specs.List.{list_any}
+use Rattle.std.specs.List.{list_any, filter}
 use Rattle.std.specs.Option.{option_map}
 use Rattle.std.proofs.lemmas.Bool.{eq-eqb, ne_eqb, eqb-true, ltb-true}
 use Rattle.il_base.specs.declared.table.TheConstants.{TYPE_DEF}
@@ -23,7 +23,7 @@ use Rattle.merge_rules.specs.Numbers.{kept_types, kept_methods, kept_fields}
 use Rattle.change_rules.specs.Change.{Keep}
 use Rattle.change_rules.specs.Moves.{move_expr}
 use Rattle.world_change_rules.specs.Places.{type_number, keeps_type_row, keeps_method_row, keeps_field_row}
-use Rattle.world_change_rules.specs.Rows.{kept_interfaces_at, is_table_type, SameMethod}
+use Rattle.world_change_rules.specs.Rows.{move_impl, impls_at, keeps_impl, kept_interfaces_at, is_table_type, SameMethod}
 use Rattle.merged_world_rules.specs.Merge.{Merge, IsMerge, before, after, names_before, names_after}
 use Rattle.merged_world_rules.specs.Numbering.{number_at}
 use Rattle.merged_world_rules.specs.NewNumbers.{type_core, rho_of, places_of}
@@ -34,12 +34,13 @@ use Rattle.merged_places.proofs.CoreRows.{row_either}
 use Rattle.merged_places.proofs.Situations.{place, situation, Input, Core, Gone}
 use Rattle.merged_places.proofs.Tables.{number_type, number_method, number_field, type_kind}
 use Rattle.merged_places.proofs.Whole.{row_there, there_row, type_stays, method_stays, field_stays}
-use Rattle.merged_rows_move.specs.Premises.{ReadsTokens, HasGoodBases, HasGoodInterfaces, KeepsNames}
+use Rattle.merged_rows_move.specs.Premises.{ReadsTokens, HasGoodBases, HasGoodInterfaces, ReadsImpls, KeepsNames}
 use Rattle.merged_rows_move.specs.Laws.{MembersMove, TypeMarks, MethodMarks, MarksMove}
 use Rattle.merged_rows_move.proofs.Members.{methods_move, fields_move}
 use Rattle.merged_rows_move.proofs.Owners.{owner_moved}
 use Rattle.merged_rows_move.proofs.Bases.{base_moved}
 use Rattle.merged_rows_move.proofs.Interfaces.{interfaces_moved}
+use Rattle.merged_rows_move.proofs.Impls.{impls_moved}
 use Rattle.merged_rows_move.proofs.Names.{name_moved}
 use Rattle.merged_rows_move.proofs.Core.{type_count, type_row_below, types_more}
 use Rattle.merged_rows_move.proofs.Heads.{head_moved, fits_moved}
@@ -184,6 +185,13 @@ module _ (m : Merge) (k : Keep) (kept : RowAt → Bool) (is : IsMerge m) (flags 
       → interfaces_at (after m) ((places_of m).typ at) ≡ map (move_expr (rho_of m)) (kept_interfaces_at (before m) kept at)
   unfolding kept_types
   interfaces reads good at keeps = interfaces_moved m is k kept flags reads good at keeps
+
+  -- ---- MethodImpl rows
+
+  pub impls : ReadsImpls m k → (at : RowAt) → IsTrue (keeps_type_row k (before m) at)
+      → impls_at (after m) ((places_of m).typ at) ≡ map (move_impl (rho_of m)) (filter (keeps_impl k) (impls_at (before m) at))
+  unfolding kept_types
+  impls reads at keeps = impls_moved m is k reads at (λ h. type_stays m is k kept flags at keeps h)
 
   -- ---- names
 

@@ -19,11 +19,11 @@ use Rattle.view_rules.specs.Answers.{core_name_at}
 use Rattle.change_rules.specs.Change.{Keep, Undone}
 use Rattle.change_rules.specs.Moves.{move_expr}
 use Rattle.world_change_rules.specs.Places.{type_number, keeps_type_row, keeps_method_row, keeps_field_row}
-use Rattle.world_change_rules.specs.Rows.{kept_interfaces_at, is_table_type, SameMethod, CoreMoves}
+use Rattle.world_change_rules.specs.Rows.{move_impl, impls_at, keeps_impl, kept_interfaces_at, is_table_type, SameMethod, CoreMoves}
 use Rattle.merged_world_rules.specs.Merge.{Merge, IsMerge, before, after}
 use Rattle.merged_world_rules.specs.NewNumbers.{rho_of, back_of, change_of, places_of}
 use Rattle.merged_world_rules.specs.Kept.{HasFlags}
-use Rattle.merged_rows_move.specs.Premises.{ReadsTokens, HasGoodBases, HasGoodInterfaces, KeepsNames}
+use Rattle.merged_rows_move.specs.Premises.{ReadsTokens, HasGoodBases, HasGoodInterfaces, ReadsImpls, KeepsNames}
 
 abbrev pub ForMerges : ((m : Merge) (k : Keep) → Type 0) → Type 0
 ForMerges P = (m : Merge) (k : Keep) (kept : RowAt → Bool) → IsMerge m → HasFlags m k kept → P m k
@@ -72,6 +72,11 @@ abbrev pub MovesInterfaces : Type 0
 MovesInterfaces =
     (m : Merge) (k : Keep) (kept : RowAt → Bool) → IsMerge m → HasFlags m k kept → ReadsTokens m → HasGoodInterfaces m k → (at : RowAt) → IsTrue (keeps_type_row k (before m) at)
     → interfaces_at (after m) ((places_of m).typ at) ≡ map (move_expr (rho_of m)) (kept_interfaces_at (before m) kept at)
+
+abbrev pub MovesImpls : Type 0
+MovesImpls =
+    ForMerges (λ m k. ReadsImpls m k → (at : RowAt) → IsTrue (keeps_type_row k (before m) at)
+    → impls_at (after m) ((places_of m).typ at) ≡ map (move_impl (rho_of m)) (filter (keeps_impl k) (impls_at (before m) at)))
 
 -- a type whose text can be printed keeps it
 abbrev pub MovesNames : Type 0

@@ -1,4 +1,4 @@
-ghost use Rattle.merged_rows_move.specs.Laws.{MovesCore, MovesMembers, MovesMarks, MovesBases, MovesInterfaces, MovesNames};
+ghost use Rattle.merged_rows_move.specs.Laws.{MovesCore, MovesMembers, MovesMarks, MovesBases, MovesInterfaces, MovesImpls, MovesNames};
 
 /// A law: the core library's types, members and primitives stand behind the kept rows. It does nothing.
 pub fn core_moves()
@@ -23,6 +23,11 @@ pub fn bases_move()
 /// A law: the interfaces of a kept type are those of its rows that are kept, moved, in their order. It does nothing.
 pub fn interfaces_move()
     ensures { MovesInterfaces }
+{}
+
+/// A law: the MethodImpl rows of a kept type are those whose body is kept, moved, in their order. It does nothing.
+pub fn impls_move()
+    ensures { MovesImpls }
 {}
 
 /// A law: a kept type whose text can be printed has the same text in the output. It does nothing.
