@@ -20,13 +20,13 @@ use Rattle.type_rules.specs.Rows.{is_instance_field}
 use Rattle.type_rules.specs.Texts.{name_at}
 use Rattle.view_rules.specs.Members.{core_type_row}
 use Rattle.merge_rules.specs.Numbers.{kept_types, kept_methods, kept_fields}
-use Rattle.change_rules.specs.Change.{Keep}
+use Rattle.change_rules.specs.Change.{Keep, Undone}
 use Rattle.change_rules.specs.Moves.{move_expr}
 use Rattle.world_change_rules.specs.Places.{type_number, keeps_type_row, keeps_method_row, keeps_field_row}
-use Rattle.world_change_rules.specs.Rows.{move_impl, impls_at, keeps_impl, kept_interfaces_at, is_table_type, SameMethod}
+use Rattle.world_change_rules.specs.Rows.{move_impl, impls_at, keeps_impl, kept_interfaces_at, is_table_type, SameMethod, TypeMoves}
 use Rattle.merged_world_rules.specs.Merge.{Merge, IsMerge, before, after, names_before, names_after}
 use Rattle.merged_world_rules.specs.Numbering.{number_at}
-use Rattle.merged_world_rules.specs.NewNumbers.{type_core, rho_of, places_of}
+use Rattle.merged_world_rules.specs.NewNumbers.{type_core, rho_of, back_of, change_of, places_of}
 use Rattle.merged_world_rules.specs.Kept.{HasFlags}
 use Rattle.merged_places.proofs.Rows.{IsThere, place_past}
 use Rattle.merged_places.proofs.Worlds.{core_of, after_is, core_at}
@@ -35,7 +35,7 @@ use Rattle.merged_places.proofs.Situations.{place, situation, Input, Core, Gone}
 use Rattle.merged_places.proofs.Tables.{number_type, number_method, number_field, type_kind}
 use Rattle.merged_places.proofs.Whole.{row_there, there_row, type_stays, method_stays, field_stays}
 use Rattle.merged_rows_move.specs.Premises.{ReadsTokens, HasGoodBases, HasGoodInterfaces, ReadsImpls, KeepsNames}
-use Rattle.merged_rows_move.specs.Laws.{MembersMove, TypeMarks, MethodMarks, MarksMove}
+use Rattle.merged_rows_move.specs.Laws.{ReadsRows, MembersMove, TypeMarks, MethodMarks, MarksMove}
 use Rattle.merged_rows_move.proofs.Members.{methods_move, fields_move}
 use Rattle.merged_rows_move.proofs.Owners.{owner_moved}
 use Rattle.merged_rows_move.proofs.Bases.{base_moved}
@@ -198,6 +198,28 @@ module _ (m : Merge) (k : Keep) (kept : RowAt → Bool) (is : IsMerge m) (flags 
   pub names : KeepsNames m k → (at : RowAt) → IsTrue (keeps_type_row k (before m) at) → IsTrue (k.shown (type_number (before m) at)) → name_at (after m) ((places_of m).typ at) ≡ name_at (before m) at
   unfolding kept_types
   names stays at keeps shown = name_moved m is k stays at (λ h. type_stays m is k kept flags at keeps h) shown
+
+  -- ---- all of a type's row
+
+  pub types : (undone : Undone (back_of m) (rho_of m)) → ReadsRows m k → (at : RowAt) → IsTrue (keeps_type_row k (before m) at) → TypeMoves (change_of m undone k) kept (places_of m) (after m) (before m) at
+  types undone reads at keeps =
+      let marks = type_marks at keeps in
+      let own = members at keeps in
+      record {
+        interface = marks.interface;
+        head = marks.head;
+        explicit = marks.explicit;
+        name = λ shown. names reads.names at keeps shown;
+        base = bases reads.tokens reads.bases at keeps;
+        interfaces = interfaces reads.tokens reads.interfaces at keeps;
+        methods = own.methods;
+        fields = own.fields;
+        impls = impls reads.impls at keeps;
+        core_row = marks.core_row;
+        core_name = marks.core_name;
+        params = marks.params;
+        core_type = marks.core_type;
+      }
 
   -- ---- methods and fields
 

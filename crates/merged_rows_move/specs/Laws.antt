@@ -19,7 +19,7 @@ use Rattle.view_rules.specs.Answers.{core_name_at}
 use Rattle.change_rules.specs.Change.{Keep, Undone}
 use Rattle.change_rules.specs.Moves.{move_expr}
 use Rattle.world_change_rules.specs.Places.{type_number, keeps_type_row, keeps_method_row, keeps_field_row}
-use Rattle.world_change_rules.specs.Rows.{move_impl, impls_at, keeps_impl, kept_interfaces_at, is_table_type, SameMethod, CoreMoves}
+use Rattle.world_change_rules.specs.Rows.{move_impl, impls_at, keeps_impl, kept_interfaces_at, is_table_type, SameMethod, TypeMoves, CoreMoves}
 use Rattle.merged_world_rules.specs.Merge.{Merge, IsMerge, before, after}
 use Rattle.merged_world_rules.specs.NewNumbers.{rho_of, back_of, change_of, places_of}
 use Rattle.merged_world_rules.specs.Kept.{HasFlags}
@@ -83,3 +83,16 @@ abbrev pub MovesNames : Type 0
 MovesNames =
     ForMerges (λ m k. KeepsNames m k → (at : RowAt) → IsTrue (keeps_type_row k (before m) at) → IsTrue (k.shown (type_number (before m) at))
     → name_at (after m) ((places_of m).typ at) ≡ name_at (before m) at)
+
+-- all of a type's row
+pub record ReadsRows (m : Merge) (k : Keep) : Type 0 where
+  pub tokens : ReadsTokens m
+  pub bases : HasGoodBases m
+  pub interfaces : HasGoodInterfaces m k
+  pub impls : ReadsImpls m k
+  pub names : KeepsNames m k
+
+abbrev pub MovesTypes : Type 0
+MovesTypes =
+    (m : Merge) (k : Keep) (kept : RowAt → Bool) → IsMerge m → HasFlags m k kept → (undone : Undone (back_of m) (rho_of m)) → ReadsRows m k → (at : RowAt) → IsTrue (keeps_type_row k (before m) at)
+    → TypeMoves (change_of m undone k) kept (places_of m) (after m) (before m) at

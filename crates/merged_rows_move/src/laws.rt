@@ -1,4 +1,4 @@
-ghost use Rattle.merged_rows_move.specs.Laws.{MovesCore, MovesMembers, MovesMarks, MovesBases, MovesInterfaces, MovesImpls, MovesNames};
+ghost use Rattle.merged_rows_move.specs.Laws.{MovesCore, MovesMembers, MovesMarks, MovesBases, MovesInterfaces, MovesImpls, MovesNames, MovesTypes};
 
 /// A law: the core library's types, members and primitives stand behind the kept rows. It does nothing.
 pub fn core_moves()
@@ -33,4 +33,9 @@ pub fn impls_move()
 /// A law: a kept type whose text can be printed has the same text in the output. It does nothing.
 pub fn names_move()
     ensures { MovesNames }
+{}
+
+/// A law: a kept type's row has all in the output that it had, moved, where references are read and names stay. It does nothing.
+pub fn types_move()
+    ensures { MovesTypes }
 {}
