@@ -1,0 +1,15 @@
+pub mod Header
+pub mod Lists
+pub mod Texts
+pub mod CoreNames
+pub mod FileRows
+pub mod Names
+pub mod NewNames
+pub mod Met
+pub mod References
+pub mod Addresses
+pub mod TextsStand
+pub mod Parts
+pub mod Tables
+pub mod Limits
+pub mod Whole

@@ -1,0 +1,25 @@
+ghost use Rattle.merged_loads.specs.Laws.{LeftCanBeLaid, LeftLoads};
+
+use blob_grammar::laws::values;
+use layout_laws::laws::reads_back;
+use merged_record::laws::restricted_is_record;
+use record_laws::laws::file_has_record;
+
+/// A law: what is left of files' records can be laid out, where it is a record, its signatures and bodies have readings and
+/// spellings, and its file passes no limit. It does nothing.
+pub fn left_can_be_laid()
+    ensures { LeftCanBeLaid }
+{
+    values();
+}
+
+/// A law: the file that is written of what is left of files' records has exactly that record, where no reference is missing in it
+/// and members go with what they belong to. It does nothing.
+pub fn left_loads()
+    ensures { LeftLoads }
+{
+    left_can_be_laid();
+    reads_back();
+    restricted_is_record();
+    file_has_record();
+}
