@@ -12,4 +12,8 @@ pub mod TextsStand
 pub mod Parts
 pub mod Tables
 pub mod Limits
+pub mod FirstFound
+pub mod FileData
+pub mod FieldData
+pub mod DataStand
 pub mod Whole

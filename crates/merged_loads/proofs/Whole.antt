@@ -7,6 +7,7 @@ use Rattle.std.proofs.lemmas.Option.{none-some}
 use Rattle.il_base.specs.declared.table.TheConstants as table
 use Rattle.blob_grammar.specs.Laws.{AreBytes}
 use Rattle.world_model.specs.declared.types.GenericParamRow.{GenericParamRow}
+use Rattle.world_model.specs.declared.extras.FieldRvaRow.{FieldRvaRow}
 use Rattle.world_model.specs.declared.record.UserText.{UserText}
 use Rattle.world_model.specs.declared.record.AsmRec.{AsmRec}
 use Rattle.world_model.specs.Tokens.{table_of}
@@ -20,17 +21,19 @@ use Rattle.link_rules.specs.Linked.{assemblies}
 use Rattle.record_layout.specs.Laid.{users_of, laid}
 use Rattle.record_layout.specs.Limits.{limit_of}
 use Rattle.record_writer.specs.CanWrite.{CanWrite}
+use Rattle.layout_laws.specs.Parts.{DataFits}
+use Rattle.layout_laws.specs.OfFile.{IsKnown}
 use Rattle.layout_laws.specs.CanBeLaid.{HeaderFits, CanBeLaid}
 use Rattle.layout_laws.proofs.FileDemands.{at_end}
-use Rattle.merge_rules.specs.Numbers.{Kept, kept_types}
+use Rattle.merge_rules.specs.Numbers.{Kept, kept_types, kept_fields}
 use Rattle.merge_rules.specs.Keys.{MethodKey, own_method, found_method, absent_method, InstanceKey, method_key, instance_key}
 use Rattle.merge_rules.specs.Refs.{Output, row_token, kept_token, member_token, method_token, instance_token}
 use Rattle.merge_rules.specs.Moved.{kept_texts, token_or_none, moved_callee}
 use Rattle.merge_rules.specs.Restricted.{placed_methods, moved_methods, moved_assembly, new_text, restricted_by, output_of, restricted}
 use Rattle.merged_record.specs.Laws.{InputsAreRecords, NumbersFit, RowsFit}
 use Rattle.merged_record.proofs.Lists.{map_some, OfInput}
-use Rattle.merged_record.proofs.Sizes.{left, types}
-use Rattle.merged_loads.specs.Laws.{IsOfFile, AreOfFiles, PartsStand, IsLeft, LeftCanBeLaid}
+use Rattle.merged_record.proofs.Sizes.{left, types, fields}
+use Rattle.merged_loads.specs.Laws.{IsOfFile, AreOfFiles, PartsStand, IsLeft, LeftCanBeLaid, FieldDataStays}
 use Rattle.merged_loads.proofs.Header.{bits_small, bits_il_only, bits_not_native}
 use Rattle.merged_loads.proofs.Lists.{Every, to_place, option_holds, every_row, each_row_of}
 use Rattle.merged_loads.proofs.FileRows.{FileFits, file_fits}
@@ -40,6 +43,8 @@ use Rattle.merged_loads.proofs.Limits.{rows_few, users_few}
 use Rattle.merged_loads.proofs.TextsStand.{texts_stand}
 use Rattle.merged_loads.proofs.Parts.{Values, signatures_fit, methods_fit}
 use Rattle.merged_loads.proofs.Tables.{tables_fit, body_rvas, data_rvas}
+use Rattle.merged_loads.proofs.FileData.{file_sized}
+use Rattle.merged_loads.proofs.DataStand.{data_stands}
 
 -- ---- tokens have 32 bits
 
@@ -170,3 +175,22 @@ rows_fit rec limit t = rows_few rec limit t
 
 pub left_can : Values → LeftCanBeLaid
 left_can v internal inputs kept rec l is = laid_out inputs l.files internal kept rec l v is
+
+-- ---- bytes of fields
+
+few_types : (internal : Bool) (o : Output) (primary : AsmRec) → limit_of (left internal o primary) ≡ None → length (kept_types o.recs o.kept) < 16777216
+few_types internal o primary limit = let lt = rows_few (left internal o primary) limit table.TYPE_DEF in let n = types internal o primary in omega arith
+
+few_fields : (internal : Bool) (o : Output) (primary : AsmRec) → limit_of (left internal o primary) ≡ None → length (kept_fields o.recs o.kept) < 16777216
+few_fields internal o primary limit = let lt = rows_few (left internal o primary) limit table.FIELD in let n = fields internal o primary in omega arith
+
+pub data_law : ((bs : List ℕ) (rec : AsmRec) → HasRecord bs rec → IsRecord rec) → FieldDataStays
+unfolding restricted output_of
+data_law law internal inputs kept rec e files limit kept_field_types known =
+    let recs : List AsmRec = assemblies inputs in
+    let o : Output = output_of recs kept in
+    let m = map_some (restricted_by internal o (placed_methods (moved_methods o))) (slice_get recs 0) rec e in
+    let within : limit_of (left internal o m.0) ≡ None = subst (λ (r : AsmRec). limit_of r ≡ None) (sym m.2) limit in
+    subst (λ (r : AsmRec). Each (DataFits r) r.field_rva) m.2
+    (data_stands o (few_types internal o m.0 within) (few_fields internal o m.0 within) (λ a r i. records inputs files law a r i.within i.there) (λ a r i. file_sized r (files a r (an_input inputs files a r i.within i.there))) kept_field_types internal m.0
+    (subst (λ (r : AsmRec). Each (λ (row : FieldRvaRow). IsKnown row.bytes) r.field_rva) (sym m.2) known))

@@ -1,4 +1,4 @@
-ghost use Rattle.merged_loads.specs.Laws.{LeftCanBeLaid, LeftLoads};
+ghost use Rattle.merged_loads.specs.Laws.{FieldDataStays, LeftCanBeLaid, LeftLoads};
 
 use blob_grammar::laws::values;
 use layout_laws::laws::reads_back;
@@ -21,5 +21,13 @@ pub fn left_loads()
     left_can_be_laid();
     reads_back();
     restricted_is_record();
+    file_has_record();
+}
+
+/// A law: the bytes of a kept field are as many as its type has in the record that is left of files' records, where they have a
+/// meaning and the types of kept fields are kept. It does nothing.
+pub fn field_data_stays()
+    ensures { FieldDataStays }
+{
     file_has_record();
 }
