@@ -39,7 +39,7 @@ use Rattle.merged_loads.specs.Laws.{FieldTypesAreKept}
 use Rattle.merged_loads.proofs.Lists.{Every, to_place}
 use Rattle.merged_loads.proofs.TextsStand.{any_in}
 use Rattle.merged_loads.proofs.FileData.{IsSized}
-use Rattle.merged_loads.proofs.FieldData.{has_place, same_self, row_placed, prim_moved, named_moved, class_moved, row_named, layout_row, layout_stays, Sized, by_prim, by_class, type_sized, layout_named}
+use Rattle.merged_loads.proofs.FieldData.{has_place, same_self, row_placed, prim_moved, named_moved, class_moved, row_named, defined, layout_stays, Sized, by_prim, by_class, type_sized, layout_named}
 
 -- ---- a row with its address
 
@@ -119,8 +119,7 @@ module _ (o : Output) (few : length (kept_types o.recs o.kept) < 16777216) (few_
         subst (λ (x : Sig). size_of_type (class_layouts o) (new_sig o (world_sig o.recs a rec x)) ≡ Some n) (sym same) (class_stays value token n own.0 h named own.2 kept)
       where
         layout_of : (row : ClassLayoutRow) → Contains rec.class_layout row → (j : ℕ) × (index_in table.TYPE_DEF row.parent ≡ Some j) × (j < length rec.type_def)
-        unfolding table_sizes
-        layout_of row d = let p = to_place rec.class_layout row d in row_named rec table.TYPE_DEF row.parent ((records a rec input).tokens.class_layouts p.0 row p.1)
+        layout_of row d = let p = to_place rec.class_layout row d in defined rec row.parent ((records a rec input).tokens.class_layouts p.0 row p.1)
 
     -- the row of a kept field with bytes
     field_stays : (k : ℕ) (f : FieldRow) (n : ℕ) → Contains (kept_fields o.recs o.kept) (at_row a k) → slice_get rec.field k ≡ Some f → size_of_field rec.class_layout f ≡ Some n
@@ -152,7 +151,6 @@ module _ (o : Output) (few : length (kept_types o.recs o.kept) < 16777216) (few_
         ∙ field_stays a rec input k f.0 n (place_in (kept_fields o.recs o.kept) m.0 (at_row a k) at) is f.2
 
     pub data_stands : Each (λ (row : FieldRvaRow). IsKnown row.bytes) out.field_rva → Each (DataFits out) out.field_rva
-    unfolding table_sizes
     data_stands known k row e =
         let b = of_bytes _ _ row (place_in out.field_rva k row e) in
         let r = from_all (λ rec. rec.field_rva) (new_field_rva o) o.recs b.old (sorted_in (λ (x : FieldRvaRow). x.field) (all_rows (λ rec. rec.field_rva) (new_field_rva o) o.recs) b.old b.there) in

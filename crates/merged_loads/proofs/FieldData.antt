@@ -36,7 +36,7 @@ use Rattle.mark_rules.specs.Places.{type_item, row_of as item_row, is_core}
 use Rattle.merge_rules.specs.Absent.{type_count}
 use Rattle.merge_rules.specs.Numbers.{inputs_from, inputs, kept_types, kept_fields, new_row}
 use Rattle.merge_rules.specs.Keys.{number_of, found_or, absent_number, class_number, world_layer, world_sig}
-use Rattle.merge_rules.specs.Refs.{Output, is_reference, row_token, kept_token, type_token, number_token, new_sig_layer, new_sig}
+use Rattle.merge_rules.specs.Refs.{Output, same_id, is_reference, type_refs, row_token, kept_token, type_token, number_token, new_sig_layer, new_sig}
 use Rattle.merge_rules.specs.Rows.{all_rows, token_32, place_token, output_rows, kept_row_token}
 use Rattle.merge_rules.specs.Moved.{moved_sig, moved_field_row}
 use Rattle.merge_rules.specs.Restricted.{each_at, new_layout, class_layouts, new_field_rva, bytes_length, placed_bytes}
@@ -112,7 +112,7 @@ module _ (o : Output) (a : ℕ) (rec : AsmRec) where
 
 -- ---- the token of a type of an input
 
-def_number : (recs : List AsmRec) (t : TypeId) → number_of recs (Good (expr.TheVariants.Def t)) ≡ suc t.0
+def_number : (recs : List AsmRec) (t : TypeId) → number_of recs (Good (expr.Def t)) ≡ suc t.0
 unfolding expr.out-TypeExpr denote.Hole.Carrier.out
 def_number recs t = refl
 
@@ -130,10 +130,10 @@ module _ (recs : List AsmRec) (a j : ℕ) (rec : AsmRec) (input : OfInput recs a
   not_last : (suc a == length recs) ≡ false
   not_last = let w = input.within in ne_eqb (suc a) (length recs) (λ e. omega (arith, e))
 
-  own_expr : definition_expr recs (at_row a j) ≡ expr.TheVariants.Def (type_id recs a j)
+  own_expr : definition_expr recs (at_row a j) ≡ expr.Def (type_id recs a j)
   unfolding definition_expr
   own_expr =
-      ap (λ (b : Bool). elim (if b then option_and_then prim_of (slice_get (core_types recs) j) else None) as (λ x. TypeExpr) [ Some n ↦ expr.TheVariants.Prim n | None ↦ expr.TheVariants.Def (type_id recs a j) ]) not_last
+      ap (λ (b : Bool). elim (if b then option_and_then prim_of (slice_get (core_types recs) j) else None) as (λ x. TypeExpr) [ Some n ↦ expr.Prim n | None ↦ expr.Def (type_id recs a j) ]) not_last
 
   own_named : (token : ℕ) → index_in table.TYPE_DEF token ≡ Some j → named_type recs a rec token ≡ Good (definition_expr recs (at_row a j))
   unfolding named_type definition_at
@@ -171,7 +171,7 @@ module _ (o : Output) (a j : ℕ) (rec : AsmRec) (input : OfInput o.recs a rec) 
   own_token =
       let none : is_reference o.recs (type_id o.recs a j) ≡ false =
       ap (λ (b : Bool). b || is_core o.recs (item.Typ (type_id o.recs a j))) (not_absent o.recs a j rec input below) ∙ not_core o.recs a j rec input below in
-      ap (λ (b : Bool). if b then row_token table.TYPE_REF _ else kept_token table.TYPE_DEF (kept_types o.recs o.kept) (type_home o.recs (type_id o.recs a j))) none
+      ap (λ (b : Bool). if b then row_token table.TYPE_REF (position (same_id (type_id o.recs a j)) (type_refs o.recs o.mets)) else kept_token table.TYPE_DEF (kept_types o.recs o.kept) (type_home o.recs (type_id o.recs a j))) none
       ∙ ap (kept_token table.TYPE_DEF (kept_types o.recs o.kept)) (own_home o.recs a j rec input below)
 
   -- a class of the input by its token
@@ -266,7 +266,7 @@ row_named rec t token h =
     by_row zero e b ge le = absurd (omega arith)
     by_row (suc j) e b ge le = (j, ap (λ (c : Bool). if c then row_index token else None) b ∙ ap index_from e, omega arith)
 
-defined : (rec : AsmRec) (token : ℕ) → Names rec (Index table.TYPE_DEF) token → (j : ℕ) × (index_in table.TYPE_DEF token ≡ Some j) × (j < length rec.type_def)
+pub defined : (rec : AsmRec) (token : ℕ) → Names rec (Index table.TYPE_DEF) token → (j : ℕ) × (index_in table.TYPE_DEF token ≡ Some j) × (j < length rec.type_def)
 unfolding table_sizes
 defined rec token h = row_named rec table.TYPE_DEF token h
 

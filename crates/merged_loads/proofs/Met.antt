@@ -13,6 +13,8 @@ use Rattle.il_base.specs.declared.body.Operand.TheVariants as operand
 use Rattle.il_base.specs.declared.body.Instr.{Instr}
 use Rattle.il_base.specs.declared.body.Handler.{Handler}
 use Rattle.il_base.specs.declared.body.Body.{Body}
+use Rattle.cli_format.specs.declared.column.CodedIndex.TheVariants.{HasCustomAttribute}
+use Rattle.cli_format.specs.Tokens.{coded_of}
 use Rattle.world_model.specs.declared.known.Known.{Known}
 use Rattle.world_model.specs.declared.expr.MethodUse.{MethodUse}
 use Rattle.world_model.specs.declared.types.TypeDefRow.{TypeDefRow}
@@ -42,6 +44,7 @@ use Rattle.merge_rules.specs.Numbers.{Kept, kept_types}
 use Rattle.merge_rules.specs.Keys.{TypeKey, MethodKey, own_method, found_method, absent_method, FieldKey, own_field, found_field, InstanceKey, good, world_sig, world_sigs, world_method_sig, is_plain_owner, method_key_of, method_key, field_key, instance_by, instance_key, type_key}
 use Rattle.merge_rules.specs.Order.{Met, met_type, met_sig, met_method, met_field, met_instance, met_locals, met_types, met_token, met_good_sig, met_method_sig, met_callee, met_field_token, met_any, met_by_form, met_operand, met_locals_row, met_locals_token, met_body, met_method_row, met_field_row, met_property_row, met_event_row, met_constraint, met_param, met_constraints, is_impl_of, met_impls, met_extends, met_interface, met_interfaces, those, met_in_type, met_by_types}
 use Rattle.merge_rules.specs.Attributes.{Attribute, is_copied, absent_constructor, copied_constructor, is_in_input, constructor_key, attribute_with, attribute_in, kept_attributes, met_by_attributes}
+use Rattle.merge_rules.specs.Rows.{all_rows, kept_row_token}
 use Rattle.merge_rules.specs.Restricted.{output_of}
 use Rattle.merge_rules.specs.Refs.{Output, MemberKey, a_method, a_field, an_absent, same_member, member_of_method, member_of_field, members_of_met, member_refs}
 use Rattle.written_tables.specs.Written.{IsText}
@@ -262,9 +265,9 @@ module _ (recs : List AsmRec) where
     attribute_named : (kept : Kept) (x : Attribute) → Contains (kept_attributes recs kept) x → KeyNamed x.ctor
     unfolding kept_attributes
     attribute_named kept x c =
-        let r = from_all (λ rec. rec.custom_attribute) (attribute_in recs kept) recs x (sorted_in _ _ x c) in
+        let r = from_all (λ rec. rec.custom_attribute) (attribute_in recs kept) recs x (sorted_in (λ (y : Attribute). coded_of HasCustomAttribute y.parent) (all_rows (λ rec. rec.custom_attribute) (attribute_in recs kept) recs) x c) in
         let own : Named r.rec = named r.rec (place_in recs r.asm r.rec r.input.there) in
-        every_flat (λ (y : Attribute). KeyNamed y.ctor) (λ parent. map (attribute_with r.row.value parent) (listed (constructor_key recs r.asm r.rec r.row.ctor))) (listed _)
+        every_flat (λ (y : Attribute). KeyNamed y.ctor) (λ parent. map (attribute_with r.row.value parent) (listed (constructor_key recs r.asm r.rec r.row.ctor))) (listed (kept_row_token recs kept r.asm r.row.parent))
         (λ parent d. every_map (λ (y : Attribute). KeyNamed y.ctor) (attribute_with r.row.value parent) (listed (constructor_key recs r.asm r.rec r.row.ctor))
         (every_listed KeyNamed (constructor_key recs r.asm r.rec r.row.ctor) (λ k e. constructor_named r.asm r.rec r.row.ctor k own e))) x r.inside
 

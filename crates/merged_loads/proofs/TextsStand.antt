@@ -317,7 +317,7 @@ module _ (o : Output) (units : (a : ℕ) (rec : AsmRec) → OfInput o.recs a rec
 
   token_is : (u : List ℕ) → text_token o u ≡ user_token (user_place texts u)
   unfolding user_place
-  token_is u = let a = place_within user_item 1 texts u in let b = items_within texts in omega arith
+  token_is u = let a = place_within user_item 1 texts u in let b = items_within texts in omega (arith, short)
 
   some_token : (at : ℕ) → 0 < user_token at
   some_token at = omega arith
