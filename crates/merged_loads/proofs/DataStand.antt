@@ -43,13 +43,13 @@ use Rattle.merged_loads.proofs.FieldData.{has_place, same_self, row_placed, prim
 
 -- ---- a row with its address
 
-record OfBytes (rows : List FieldRvaRow) (f : FieldRvaRow) : Type 0 where
-  old : FieldRvaRow
-  there : Contains rows old
-  field : f.field ≡ old.field
-  bytes : f.bytes ≡ old.bytes
+pub record OfBytes (rows : List FieldRvaRow) (f : FieldRvaRow) : Type 0 where
+  pub old : FieldRvaRow
+  pub there : Contains rows old
+  pub field : f.field ≡ old.field
+  pub bytes : f.bytes ≡ old.bytes
 
-of_bytes : (n : ℕ) (rows : List FieldRvaRow) (f : FieldRvaRow) → Contains (placed_bytes n rows) f → OfBytes rows f
+pub of_bytes : (n : ℕ) (rows : List FieldRvaRow) (f : FieldRvaRow) → Contains (placed_bytes n rows) f → OfBytes rows f
 unfolding placed_bytes
 of_bytes n [] f c = absurd (none_in f c)
 of_bytes n (row ∷ rows) f c =
@@ -66,7 +66,7 @@ index_written t n e lt =
     let row_is_next : row_of t ≡ suc n = omega arith in
     ap (λ (b : Bool). if b then row_index t else None) (eq-eqb (table_of t) table.FIELD table_is) ∙ ap index_from row_is_next
 
-field_row_moved : (o : Output) (a k token : ℕ) → index_in table.FIELD token ≡ Some k → kept_row_token o.recs o.kept a token ≡ place_token table.FIELD (kept_fields o.recs o.kept) (at_row a k)
+pub field_row_moved : (o : Output) (a k token : ℕ) → index_in table.FIELD token ≡ Some k → kept_row_token o.recs o.kept a token ≡ place_token table.FIELD (kept_fields o.recs o.kept) (at_row a k)
 unfolding kept_row_token
 field_row_moved o a k token e =
     let t = (index_row table.FIELD token k e).0 in

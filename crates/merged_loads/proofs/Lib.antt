@@ -17,3 +17,5 @@ pub mod FileData
 pub mod FieldData
 pub mod DataStand
 pub mod Whole
+pub mod Flawless
+pub mod Read

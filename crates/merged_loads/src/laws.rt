@@ -1,4 +1,5 @@
 ghost use Rattle.merged_loads.specs.Laws.{FieldDataStays, LeftCanBeLaid, LeftLoads};
+ghost use Rattle.merged_loads.specs.Marked.{PartsAreRead};
 
 use blob_grammar::laws::values;
 use layout_laws::laws::reads_back;
@@ -31,3 +32,9 @@ pub fn field_data_stays()
 {
     file_has_record();
 }
+
+/// A law: where what is kept is marked, and no marked item has a flaw, each signature and body of a kept row has a reading in what
+/// is left, and the bytes of each kept field a meaning. It does nothing.
+pub fn parts_are_read()
+    ensures { PartsAreRead }
+{}
