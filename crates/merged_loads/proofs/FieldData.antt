@@ -98,7 +98,7 @@ row_placed {R} {B} recs rows f (x ∷ places) there (suc k) at rec row e g h =
 fold_prim : (A : Type 0) (f : Sig-F A → A) (n : ℕ) → fold-Sig A f (sig.Prim n) ≡ f (Sig-F.Prim n)
 fold_prim A f n = ap (fold-Sig A f) (sym (sig.rolls-Prim n)) ∙ fold-roll-Sig A f (Sig-F.Prim n)
 
-fold_named : (A : Type 0) (f : Sig-F A → A) (value : Bool) (n : ℕ) → fold-Sig A f (sig.Named value n) ≡ f (Sig-F.Named value n)
+pub fold_named : (A : Type 0) (f : Sig-F A → A) (value : Bool) (n : ℕ) → fold-Sig A f (sig.Named value n) ≡ f (Sig-F.Named value n)
 fold_named A f value n = ap (fold-Sig A f) (sym (sig.rolls-Named value n)) ∙ fold-roll-Sig A f (Sig-F.Named value n)
 
 module _ (o : Output) (a : ℕ) (rec : AsmRec) where
@@ -124,18 +124,18 @@ below_next (r ∷ recs) zero (suc b) k rec e lt le = let same : r ≡ rec = cc i
 below_next (r ∷ recs) (suc a) (suc b) k rec e lt le = let l = below_next recs a b k rec e lt (omega arith) in omega arith
 
 module _ (recs : List AsmRec) (a j : ℕ) (rec : AsmRec) (input : OfInput recs a rec) (below : j < length rec.type_def) where
-  own_home : type_home recs (type_id recs a j) ≡ Some (at_row a j)
+  pub own_home : type_home recs (type_id recs a j) ≡ Some (at_row a j)
   own_home = let z : 0 + a ≡ a = omega arith in home_at recs 0 a j rec input.there below ∙ ap (λ (n : ℕ). Some (at_row n j)) z
 
   not_last : (suc a == length recs) ≡ false
   not_last = let w = input.within in ne_eqb (suc a) (length recs) (λ e. omega (arith, e))
 
-  own_expr : definition_expr recs (at_row a j) ≡ expr.Def (type_id recs a j)
+  pub own_expr : definition_expr recs (at_row a j) ≡ expr.Def (type_id recs a j)
   unfolding definition_expr
   own_expr =
       ap (λ (b : Bool). elim (if b then option_and_then prim_of (slice_get (core_types recs) j) else None) as (λ x. TypeExpr) [ Some n ↦ expr.Prim n | None ↦ expr.Def (type_id recs a j) ]) not_last
 
-  own_named : (token : ℕ) → index_in table.TYPE_DEF token ≡ Some j → named_type recs a rec token ≡ Good (definition_expr recs (at_row a j))
+  pub own_named : (token : ℕ) → index_in table.TYPE_DEF token ≡ Some j → named_type recs a rec token ≡ Good (definition_expr recs (at_row a j))
   unfolding named_type definition_at
   own_named token e =
       let t = (index_row table.TYPE_DEF token j e).0 in

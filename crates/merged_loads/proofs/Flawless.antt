@@ -54,7 +54,7 @@ to_each f i (w ∷ xs) (suc k) x y e c =
     Contains-append_right (f i w) (each_from f (suc i) xs) y (to_each f (suc i) xs k x y e (subst (λ (m : ℕ). Contains (f m x) y) n c))
 
 -- what is made of the one item of an option
-to_option : {A B : Type 0} (g : A → List B) (o : Option A) (x : A) (y : B) → o ≡ Some x → Contains (g x) y → Contains (flat_map g (listed o)) y
+pub to_option : {A B : Type 0} (g : A → List B) (o : Option A) (x : A) (y : B) → o ≡ Some x → Contains (g x) y → Contains (flat_map g (listed o)) y
 to_option g o x y e c = to_flat g (listed o) y (record { item = x; there = to_listed o x e; inside = c })
 
 -- ---- where an item of a row stands
@@ -136,7 +136,7 @@ module _ (recs : List AsmRec) (at : RowAt) (rec : AsmRec) (there : slice_get rec
         (Contains-append_left (part_flaws recs i at ++ own_flaws recs i at rec) (attribute_flaws recs i at rec) f (Contains-append_right (part_flaws recs i at) (own_flaws recs i at rec) f c))))
 
     -- no part of these has a flaw
-    no_flaw_in : (parts : List Part) → ((p : Part) → Contains parts p → Contains (parts_of_item recs i at) p) → IsEmpty (flat_map (part_flaw at) parts)
+    pub no_flaw_in : (parts : List Part) → ((p : Part) → Contains parts p → Contains (parts_of_item recs i at) p) → IsEmpty (flat_map (part_flaw at) parts)
     no_flaw_in parts inside f c =
         let r = from_flat (part_flaw at) parts f c in
         no_part f (to_flat (part_flaw at) (parts_of_item recs i at) f (record { item = r.item; there = inside r.item r.there; inside = r.inside }))

@@ -19,3 +19,4 @@ pub mod DataStand
 pub mod Whole
 pub mod Flawless
 pub mod Read
+pub mod FieldTypes

@@ -54,12 +54,12 @@ body_moved f None h = tt
 body_moved f (Some b) h = known_moved f b h
 
 module _ (o : Output) (entry : Option RowAt) (roots : List Root) (records : InputsAreRecords o.recs) (marks : AreMarked o.recs entry roots o.kept) (good : IsFirstFlaw o.recs entry (Marks o.recs entry roots) None) where
-  free : (i : Item) (at : RowAt) → o.kept i ≡ true → row_of o.recs i ≡ Some at → suc at.asm < length o.recs → IsEmpty (flaws_of o.recs i)
+  pub free : (i : Item) (at : RowAt) → o.kept i ≡ true → row_of o.recs i ≡ Some at → suc at.asm < length o.recs → IsEmpty (flaws_of o.recs i)
   free i at kept home lt f c = good f (of_item i f (marks i kept) (not_core o.recs i at home lt) c)
 
   -- ---- kept rows
 
-  field_at : (at : RowAt) (rec : AsmRec) → slice_get o.recs at.asm ≡ Some rec → at.row < length rec.field → row_of o.recs (field_item o.recs at) ≡ Some at
+  pub field_at : (at : RowAt) (rec : AsmRec) → slice_get o.recs at.asm ≡ Some rec → at.row < length rec.field → row_of o.recs (field_item o.recs at) ≡ Some at
   unfolding row_of
   field_at at rec there lt = own_home fields_in o.recs at rec there lt
 

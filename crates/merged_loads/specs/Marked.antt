@@ -1,5 +1,6 @@
 -- Where what is kept is needed, and nothing that is needed has a flaw, the parts of kept rows have a meaning in what is left.
 use Rattle.std.specs.Prelude.{◌≡◌, List, Option, Some, None, Bool, true}
+use Rattle.std.specs.Option.{is_some}
 use Rattle.il_base.specs.declared.ids.Item.{Item}
 use Rattle.descriptor_file.specs.declared.root.Root.{Root}
 use Rattle.world_model.specs.declared.record.AsmRec.{AsmRec}
@@ -9,13 +10,19 @@ use Rattle.layout_laws.specs.OfFile.{IsKnown, HasReading}
 use Rattle.mark_rules.specs.Facts.Fact.{marked}
 use Rattle.mark_rules.specs.Marking.{Marks}
 use Rattle.mark_rules.specs.BadItems.{IsFirstFlaw}
+use Rattle.mark_rules.specs.Places.{row_of}
 use Rattle.merge_rules.specs.Numbers.{Kept}
 use Rattle.merge_rules.specs.Restricted.{restricted}
 use Rattle.merged_record.specs.Laws.{InputsAreRecords}
+use Rattle.merged_loads.specs.Laws.{FieldTypesAreKept}
 
 -- each kept item is needed from an entry and the elements of descriptors
 abbrev pub AreMarked : List AsmRec → Option RowAt → List Root → Kept → Type 0
 AreMarked recs entry roots kept = (i : Item) → kept i ≡ true → Marks recs entry roots (marked i)
+
+-- each item of the world that is needed is kept
+abbrev pub AreKept : List AsmRec → Option RowAt → List Root → Kept → Type 0
+AreKept recs entry roots kept = (i : Item) → is_some (row_of recs i) ≡ true → Marks recs entry roots (marked i) → kept i ≡ true
 
 -- the signatures and bodies of kept rows have a reading, and the bytes of kept fields a meaning
 pub record AreRead (left : AsmRec) : Type 0 where
@@ -29,3 +36,8 @@ abbrev pub PartsAreRead : Type 0
 PartsAreRead =
     (internal : Bool) (recs : List AsmRec) (entry : Option RowAt) (roots : List Root) (kept : Kept) (left : AsmRec) → restricted internal recs kept ≡ Some left → InputsAreRecords recs → AreMarked recs entry roots kept
     → IsFirstFlaw recs entry (Marks recs entry roots) None → AreRead left
+
+abbrev pub FieldTypesKept : Type 0
+FieldTypesKept =
+    (recs : List AsmRec) (entry : Option RowAt) (roots : List Root) (kept : Kept) → InputsAreRecords recs → AreMarked recs entry roots kept → AreKept recs entry roots kept
+    → IsFirstFlaw recs entry (Marks recs entry roots) None → FieldTypesAreKept recs kept

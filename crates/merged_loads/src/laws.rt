@@ -1,5 +1,5 @@
 ghost use Rattle.merged_loads.specs.Laws.{FieldDataStays, LeftCanBeLaid, LeftLoads};
-ghost use Rattle.merged_loads.specs.Marked.{PartsAreRead};
+ghost use Rattle.merged_loads.specs.Marked.{FieldTypesKept, PartsAreRead};
 
 use blob_grammar::laws::values;
 use layout_laws::laws::reads_back;
@@ -37,4 +37,9 @@ pub fn field_data_stays()
 /// is left, and the bytes of each kept field a meaning. It does nothing.
 pub fn parts_are_read()
     ensures { PartsAreRead }
+{}
+
+/// A law: where exactly what is marked is kept, and no marked item has a flaw, the type of each kept field is kept. It does nothing.
+pub fn field_types_kept()
+    ensures { FieldTypesKept }
 {}
