@@ -20,3 +20,4 @@ pub mod Whole
 pub mod Flawless
 pub mod Read
 pub mod FieldTypes
+pub mod ModuleType

@@ -1,5 +1,5 @@
 ghost use Rattle.merged_loads.specs.Laws.{FieldDataStays, LeftCanBeLaid, LeftLoads};
-ghost use Rattle.merged_loads.specs.Marked.{FieldTypesKept, PartsAreRead};
+ghost use Rattle.merged_loads.specs.Marked.{FieldTypesKept, ModuleStays, PartsAreRead};
 
 use blob_grammar::laws::values;
 use layout_laws::laws::reads_back;
@@ -42,4 +42,9 @@ pub fn parts_are_read()
 /// A law: where exactly what is marked is kept, and no marked item has a flaw, the type of each kept field is kept. It does nothing.
 pub fn field_types_kept()
     ensures { FieldTypesKept }
+{}
+
+/// A law: a type is left of inputs, where the first type of the first one is `<Module>` and all that is marked is kept. It does nothing.
+pub fn module_stays()
+    ensures { ModuleStays }
 {}
