@@ -1,10 +1,10 @@
 -- What is left of inputs that link links.
-use Rattle.std.proofs.Common.{◌≡◌, ℕ, List, [], ◌∷◌, Option, Some, None, refl}
+use Rattle.std.proofs.Common.{◌≡◌, List, [], ◌∷◌, Option, None, refl}
 use Rattle.world_model.specs.declared.record.AsmRec.{AsmRec}
 use Rattle.link_rules.specs.declared.link_error.LinkError.{LinkError}
 use Rattle.link_rules.specs.Types.{or_else}
 use Rattle.link_rules.specs.Faults.{duplicate_assembly, cyclic_types, cyclic_nesting, duplicate_member, link_fault}
-use Rattle.link_rules.specs.Linked.{assemblies, link_fault_of}
+use Rattle.link_rules.specs.Linked.{assemblies}
 use Rattle.merged_links.specs.Joined.{LinksStay}
 use Rattle.merged_links.proofs.Nesting.{stay}
 use Rattle.merged_links.proofs.Cycles.{cycles_stay}

@@ -1,7 +1,6 @@
 -- No type of the output encloses itself, and its name isn't the core library's.
-use Rattle.std.proofs.Common.{◌≡◌, ◌<◌, ◌≤◌, ℕ, zero, suc, ◌+◌, nat_eq, List, [], ◌∷◌, ◌++◌, length, map, Bool, true, false, ◌⊎◌, inl, inr, Option, Some, None, refl, sym, ap, subst, ◌∙◌, arith}
-use Rattle.std.specs.Prelude.{slice_get, ◌||◌, if◌then◌else◌}
-use Rattle.std.specs.List.{Contains, list_any, flat_map}
+use Rattle.std.proofs.Common.{◌≡◌, ◌<◌, ℕ, zero, suc, nat_eq, List, [], ◌∷◌, ◌++◌, length, map, Bool, true, false, Option, Some, None, refl, sym, ap, subst, ◌∙◌, arith}
+use Rattle.std.specs.Prelude.{slice_get, if◌then◌else◌}
 use Rattle.std.specs.Option.{option_and_then}
 use Rattle.std.proofs.lemmas.Bool.{or_parts}
 use Rattle.std.proofs.lemmas.Bool.Decides.{Decides-eqb}
@@ -22,20 +21,20 @@ use Rattle.link_rules.specs.Types.{or_else, at_row, encloser}
 use Rattle.link_rules.specs.Cycles.{listed, led_to, is_on_cycle, around}
 use Rattle.link_rules.specs.Faults.{first_of, own_name, is_taken, taken_from, duplicate_assembly, cyclic_types, is_cyclic_around, cyclic_nesting_row, cyclic_nesting, duplicate_member, link_fault}
 use Rattle.link_rules.specs.Linked.{assemblies, link_fault_of}
-use Rattle.type_laws.proofs.Within.{In, in_any, in_listed, listed_in}
+use Rattle.type_laws.proofs.Within.{in_any, in_listed, listed_in}
 use Rattle.type_laws.proofs.Reaching.{Leads, Walks, led}
 use Rattle.type_laws.proofs.Ways.{none_first, none_second, none_of}
 use Rattle.type_laws.proofs.CoreRows.{place_front}
-use Rattle.merge_rules.specs.Numbers.{Kept, kept_types, new_row}
+use Rattle.merge_rules.specs.Numbers.{kept_types, new_row}
 use Rattle.merge_rules.specs.Refs.{Output}
 use Rattle.merge_rules.specs.Rows.{all_rows, place_token, token_32, output_rows, kept_row_token}
 use Rattle.merge_rules.specs.Restricted.{nested_in, new_nested, placed_methods, moved_methods, moved_assembly, restricted_by, output_of, restricted}
 use Rattle.merged_record.specs.Laws.{InputsAreRecords, RowsFit}
 use Rattle.merged_record.proofs.Lists.{place_in, row_below, from_flat, from_map, from_listed, and_then_some, map_some, OfInput, from_all}
 use Rattle.merged_record.proofs.Sorting.{sorted_in}
-use Rattle.merged_record.proofs.Tokens.{At, position_is, one_row, index_row}
+use Rattle.merged_record.proofs.Tokens.{position_is, one_row, index_row}
 use Rattle.merged_record.proofs.Sizes.{left, types}
-use Rattle.merged_links.proofs.Enclosers.{Encloses, encloses, encloser_is, index_is, token_is, type_there, no_long_walk}
+use Rattle.merged_links.proofs.Enclosers.{encloses, encloser_is, index_is, token_is, type_there, no_long_walk}
 use Rattle.merged_links.specs.Laws.{NamesAndNestingStay}
 use Rattle.link_rules.specs.Cycles.{same_row}
 
@@ -246,6 +245,7 @@ stay internal inputs kept rec e some sound are fit =
     let m = map_some (restricted_by internal o (placed_methods (moved_methods o))) (slice_get recs 0) rec e in
     let first : slice_get inputs 0 ≡ Some m.0 = an_input inputs sound are 0 m.0 (let n = long inputs sound are in omega arith) m.1 in
     let free = name_free inputs sound are m.0 first in
-    subst (λ (r : AsmRec). (duplicate_assembly (r ∷ []) ≡ None) × (cyclic_nesting (r ∷ []) ≡ None)) m.2
-    (free_alone (left internal o m.0) (ap is_core_name (same_name_by m.0.assembly m.0 (left internal o m.0) refl refl) ∙ free),
-    nesting internal o m.0 (records inputs sound are) (subst RowsFit (sym m.2) fit) (none_cyclic inputs sound are))
+    subst (λ (r : AsmRec). (duplicate_assembly (r ∷ []) ≡ None) × (cyclic_nesting (r ∷ []) ≡ None)) m.2 (
+      free_alone (left internal o m.0) (ap is_core_name (same_name_by m.0.assembly m.0 (left internal o m.0) refl refl) ∙ free),
+      nesting internal o m.0 (records inputs sound are) (subst RowsFit (sym m.2) fit) (none_cyclic inputs sound are),
+    )

@@ -1,8 +1,7 @@
 -- A list has no repeat exactly where no two of its items are the same; so what has none leads back to what has none.
-use Rattle.std.proofs.Common.{◌≡◌, ◌<◌, ◌≤◌, ℕ, zero, suc, ◌+◌, List, [], ◌∷◌, length, Bool, true, false, ◌⊎◌, inl, inr, Option, Some, None, refl, sym, ap, subst, ◌∙◌, arith}
-use Rattle.std.specs.Prelude.{slice_get, ◌||◌, if◌then◌else◌}
+use Rattle.std.proofs.Common.{◌≡◌, ◌<◌, ℕ, zero, suc, List, [], ◌∷◌, Bool, true, false, ◌⊎◌, inl, inr, Option, Some, None, refl, sym, ap, ◌∙◌, arith}
+use Rattle.std.specs.Prelude.{slice_get, if◌then◌else◌}
 use Rattle.std.specs.List.{Contains, list_any}
-use Rattle.std.specs.Option.{option_map}
 use Rattle.std.proofs.lemmas.Bool.{or_parts}
 use Rattle.il_base.specs.declared.table.TheConstants.{TYPE_DEF, FIELD, METHOD_DEF}
 use Rattle.world_model.specs.declared.record.AsmRec.{AsmRec}
@@ -10,11 +9,11 @@ use Rattle.world_model.specs.Exprs.{same_expr}
 use Rattle.link_rules.specs.declared.link_error.LinkError.{LinkError}
 use Rattle.link_rules.specs.Signatures.{same_method_type}
 use Rattle.link_rules.specs.Types.{or_else}
-use Rattle.link_rules.specs.Faults.{first_of, same_key, repeat_from, first_repeat, numbered, same_type_key, type_key, same_member_key, field_key, method_key, repeated_row, repeated_type, repeated_field, repeated_method, repeated_in, duplicate_assembly, cyclic_types, cyclic_nesting, duplicate_member, link_fault}
+use Rattle.link_rules.specs.Faults.{same_key, repeat_from, first_repeat, same_type_key, same_member_key, repeated_row, repeated_type, repeated_field, repeated_method, repeated_in, duplicate_assembly, cyclic_types, cyclic_nesting, duplicate_member, link_fault}
 use Rattle.link_rules.specs.Linked.{assemblies, link_fault_of}
 use Rattle.type_laws.proofs.Ways.{none_first, none_second, none_of}
-use Rattle.merged_record.proofs.Lists.{none_in, first_in, later_in, head_or, place_in}
-use Rattle.merged_links.specs.Repeats.{Twice, KeysBack, type_keys, field_keys, method_keys, RepeatsStay}
+use Rattle.merged_record.proofs.Lists.{none_in, first_in, later_in, head_or}
+use Rattle.merged_links.specs.Repeats.{KeysBack, type_keys, field_keys, method_keys, RepeatsStay}
 
 -- ---- tests over a list
 

@@ -1,7 +1,7 @@
 -- What leads to itself in one graph does so in another, where each step of the one is a step of the other.
-use Rattle.std.proofs.Common.{◌≡◌, ◌<◌, ◌≤◌, ℕ, zero, suc, ◌+◌, List, Bool, true, false, ◌⊎◌, inl, inr, refl, sym, ap, subst, ◌∙◌, arith}
+use Rattle.std.proofs.Common.{◌≡◌, ◌≤◌, ℕ, zero, suc, List, Bool, true, false, ◌⊎◌, inl, inr, refl, sym, subst, arith}
 use Rattle.std.specs.Bool.{Decides}
-use Rattle.std.specs.List.{list_any, flat_map}
+use Rattle.std.specs.List.{flat_map}
 use Rattle.link_rules.specs.Cycles.{add_all, led_to, is_on_cycle}
 use Rattle.type_laws.proofs.Within.{In, in_any, added_from, in_flat}
 use Rattle.type_laws.proofs.Reaching.{Leads, cyclic}
