@@ -1,6 +1,6 @@
 -- The bytes of fields of what is left are as many as their types have.
-use Rattle.std.proofs.Common.{◌≡◌, ◌<◌, ◌≤◌, ℕ, zero, suc, ◌+◌, ◌*◌, ◌/◌, ◌%◌, List, [], ◌∷◌, length, map, Bool, true, false, ◌⊎◌, inl, inr, Option, Some, None, refl, sym, ap, subst, ◌∙◌, arith, eq-eqb}
-use Rattle.std.specs.Prelude.{slice_get, position, ◌==◌, if◌then◌else◌}
+use Rattle.std.proofs.Common.{◌≡◌, ◌<◌, ℕ, suc, ◌+◌, ◌%◌, List, [], ◌∷◌, length, Bool, true, inl, inr, Option, Some, None, refl, sym, ap, subst, ◌∙◌, arith, eq-eqb}
+use Rattle.std.specs.Prelude.{slice_get, if◌then◌else◌}
 use Rattle.std.specs.List.{Contains}
 use Rattle.std.specs.Option.{option_map, option_and_then}
 use Rattle.il_base.specs.declared.sig.Sig.{Sig}
@@ -12,9 +12,9 @@ use Rattle.world_model.specs.declared.types.ClassLayoutRow.{ClassLayoutRow}
 use Rattle.world_model.specs.declared.members.FieldRow.{FieldRow}
 use Rattle.world_model.specs.declared.extras.FieldRvaRow.{FieldRvaRow}
 use Rattle.world_model.specs.declared.record.AsmRec.{AsmRec}
-use Rattle.world_model.specs.Tokens.{token_of, table_of, row_of, row_index, index_from, index_in}
-use Rattle.world_model.specs.Records.{Each, table_sizes, rows_in, IsRecord}
-use Rattle.world_model.specs.Worlds.{types_in, known_map}
+use Rattle.world_model.specs.Tokens.{table_of, row_of, row_index, index_from, index_in}
+use Rattle.world_model.specs.Records.{Each, IsRecord}
+use Rattle.world_model.specs.Worlds.{types_in}
 use Rattle.record_format.specs.Parts.{size_of_type, size_of_field, size_by, layout_size}
 use Rattle.file_layout.specs.Bytes.{aligned}
 use Rattle.file_layout.specs.Image.{code_rva}

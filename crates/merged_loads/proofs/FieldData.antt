@@ -1,11 +1,10 @@
 -- The bytes of what is left of fields are as many as their types have: a field's type is a primitive or a kept type, whose layout goes
 -- with it.
-use Rattle.std.proofs.Common.{◌≡◌, ◌<◌, ◌≤◌, ℕ, zero, suc, ◌+◌, ◌*◌, ◌/◌, ◌%◌, List, [], ◌∷◌, ◌++◌, length, map, Bool, true, false, cond, find, not, ◌⊎◌, inl, inr, Option, Some, None, refl, sym, ap, subst, ◌∙◌, arith, eq-eqb, eqb-true}
-use Rattle.std.specs.Prelude.{slice_get, position, nat_lt, nat_le, ◌==◌, ◌&&◌, ◌||◌, if◌then◌else◌}
+use Rattle.std.proofs.Common.{◌≡◌, ◌<◌, ◌≤◌, ℕ, zero, suc, ◌+◌, List, [], ◌∷◌, ◌++◌, length, map, Bool, true, false, cond, find, not, Option, Some, None, refl, sym, ap, subst, ◌∙◌, arith, eq-eqb, eqb-true}
+use Rattle.std.specs.Prelude.{slice_get, position, nat_lt, nat_le, ◌==◌, ◌||◌, if◌then◌else◌}
 use Rattle.std.specs.List.{Contains, flat_map, list_any, position_or_len}
 use Rattle.std.specs.Option.{option_map, option_and_then}
-use Rattle.std.proofs.lemmas.Bool.{lt-ltb, le-leb, ltb-true, leb-true, ne_eqb, eqb-false, or_parts}
-use Rattle.std.proofs.lemmas.List.{append-nil}
+use Rattle.std.proofs.lemmas.Bool.{lt-ltb, leb-true, ne_eqb, eqb-false}
 use Rattle.il_base.specs.declared.ids.TypeId.{TypeId}
 use Rattle.il_base.specs.declared.ids.Item.TheVariants as item
 use Rattle.il_base.specs.declared.sig.Sig.{Sig, fold-Sig, fold-roll-Sig}
@@ -14,56 +13,45 @@ use Rattle.il_base.specs.declared.sig.Sig.TheVariants as sig
 use Rattle.il_base.specs.declared.table.TheConstants as table
 use Rattle.cli_format.specs.declared.column.Column.TheVariants.{Index}
 use Rattle.world_model.specs.declared.known.Known.{Known}
-use Rattle.world_model.specs.declared.known.Known.TheVariants.{Good, Bad}
+use Rattle.world_model.specs.declared.known.Known.TheVariants.{Good}
 use Rattle.world_model.specs.declared.expr.TypeExpr.{TypeExpr}
 use Rattle.world_model.specs.declared.expr.TypeExpr as expr
 use Rattle.world_model.specs.declared.types.ClassLayoutRow.{ClassLayoutRow}
-use Rattle.world_model.specs.declared.members.FieldRow.{FieldRow}
-use Rattle.world_model.specs.declared.extras.FieldRvaRow.{FieldRvaRow}
 use Rattle.world_model.specs.declared.record.AsmRec.{AsmRec}
-use Rattle.world_model.specs.Tokens.{token_of, table_of, row_of, row_index, index_from, index_in}
-use Rattle.world_model.specs.Records.{Each, table_sizes, rows_in, Names, IsRecord}
-use Rattle.world_model.specs.Worlds.{rows_before, types_in, type_id, row_below, core_types, prim_of, known_map}
-use Rattle.record_format.specs.Parts.{primitive_size, class_size, layout_size, size_of_type, size_of_field, size_by}
+use Rattle.world_model.specs.Tokens.{table_of, row_of, row_index, index_from, index_in}
+use Rattle.world_model.specs.Records.{table_sizes, rows_in, Names, IsRecord}
+use Rattle.world_model.specs.Worlds.{rows_before, types_in, type_id, row_below, core_types, prim_of}
+use Rattle.record_format.specs.Parts.{primitive_size, class_size, layout_size, size_of_type}
 use Rattle.link_rules.specs.declared.row_at.RowAt.{RowAt}
 use Rattle.link_rules.specs.Types.{at_row, definition_at, ref_definition}
 use Rattle.link_rules.specs.Cycles.{listed, same_row}
-use Rattle.link_rules.specs.Members.{type_home, fields_in}
-use Rattle.link_rules.specs.Signatures.{prim_at, definition_expr, known_expr, named_type}
+use Rattle.link_rules.specs.Members.{type_home}
+use Rattle.link_rules.specs.Signatures.{definition_expr, known_expr, named_type}
 use Rattle.type_rules.specs.Rows.{rec_at, each_from}
 use Rattle.type_laws.proofs.Places.{home_at}
-use Rattle.mark_rules.specs.Places.{type_item, row_of as item_row, is_core}
+use Rattle.mark_rules.specs.Places.{row_of as item_row, is_core}
 use Rattle.merge_rules.specs.Absent.{type_count}
-use Rattle.merge_rules.specs.Numbers.{inputs_from, inputs, kept_types, kept_fields, new_row}
+use Rattle.merge_rules.specs.Numbers.{inputs_from, inputs, kept_types, new_row}
 use Rattle.merge_rules.specs.Keys.{number_of, found_or, absent_number, class_number, world_layer, world_sig}
 use Rattle.merge_rules.specs.Refs.{Output, same_id, is_reference, type_refs, row_token, kept_token, type_token, number_token, new_sig_layer, new_sig}
-use Rattle.merge_rules.specs.Rows.{all_rows, token_32, place_token, output_rows, kept_row_token}
-use Rattle.merge_rules.specs.Moved.{moved_sig, moved_field_row}
-use Rattle.merge_rules.specs.Restricted.{each_at, new_layout, class_layouts, new_field_rva, bytes_length, placed_bytes}
-use Rattle.layout_laws.specs.Parts.{IsGood, DataFits}
-use Rattle.layout_laws.specs.OfFile.{IsKnown}
-use Rattle.merged_record.proofs.Lists.{none_in, first_in, later_in, head_or, place_in, below_length, row_below as row_there, from_map, from_all, map_some, and_then_some, OfInput}
-use Rattle.merged_record.proofs.Sorting.{sorted_in}
-use Rattle.merged_record.proofs.Tokens.{position_is, row_is, one_place, one_table, NamedRow, of_index, index_row}
-use Rattle.merged_record.proofs.Rows.{IsThere, from_kept}
-use Rattle.merged_record.proofs.Sizes.{left, fields_there}
-use Rattle.merged_record.proofs.Owned.{to_kept}
-use Rattle.merged_loads.specs.Laws.{FieldTypesAreKept}
-use Rattle.merged_loads.proofs.Lists.{Every}
+use Rattle.merge_rules.specs.Rows.{all_rows, place_token, output_rows, kept_row_token}
+use Rattle.merge_rules.specs.Restricted.{each_at, new_layout, class_layouts}
+use Rattle.merged_record.proofs.Lists.{first_in, later_in, OfInput}
+use Rattle.merged_record.proofs.Tokens.{one_place, one_table, of_index, index_row}
+use Rattle.merged_record.proofs.Rows.{IsThere}
+use Rattle.merged_loads.proofs.Lists.{Every, to_place}
 use Rattle.merged_loads.proofs.NewNames.{found}
-use Rattle.merged_loads.proofs.TextsStand.{any_in}
-use Rattle.merged_loads.proofs.FirstFound.{none_found, found_join, flat_found, sorted_first}
-use Rattle.merged_loads.proofs.FileData.{IsSized}
+use Rattle.merged_loads.proofs.FirstFound.{found_join, flat_found, sorted_first}
 
 -- ---- the first row of a place
 
 first_below : {A : Type 0} (p : A → Bool) (xs : List A) → list_any p xs ≡ true → position_or_len p xs < length xs
 first_below p [] e = absurd (cc)
-first_below p (x ∷ xs) e = by_test (p x) e
+first_below p (x ∷ xs) e = by_test (p x) e (first_below p xs)
   where
-    by_test : (b : Bool) → (b || list_any p xs) ≡ true → cond (not b) (1 + position_or_len p xs) 0 < suc (length xs)
-    by_test true h = omega arith
-    by_test false h = let lt = first_below p xs h in omega arith
+    by_test : (b : Bool) → (b || list_any p xs) ≡ true → (list_any p xs ≡ true → position_or_len p xs < length xs) → cond (not b) (1 + position_or_len p xs) 0 < suc (length xs)
+    by_test true h next = omega arith
+    by_test false h next = let lt = next h in omega arith
 
 -- what is in a list has a place
 pub has_place : {A : Type 0} (p : A → Bool) (xs : List A) → list_any p xs ≡ true → (k : ℕ) × (position p xs ≡ Some k)
@@ -287,12 +275,8 @@ module _ (o : Output) (few : length (kept_types o.recs o.kept) < 16777216) (reco
             absurd (ne (one_place table.TYPE_DEF (kept_types o.recs o.kept) (at_row b i) (at_row a j) new (omega arith) few place is))
         by_test false h = refl
 
-    pub layout_row : (r : AsmRec) (b : ℕ) → OfInput o.recs b r → (row : ClassLayoutRow) → Contains r.class_layout row → (i : ℕ) × (index_in table.TYPE_DEF row.parent ≡ Some i) × (i < length r.type_def)
-    layout_row r b other row c = let p = to_there r.class_layout row c in defined r row.parent ((records b r other).tokens.class_layouts p.0 row p.1)
-      where
-        to_there : (xs : List ClassLayoutRow) (x : ClassLayoutRow) → Contains xs x → (k : ℕ) × (slice_get xs k ≡ Some x)
-        to_there [] x d = absurd (none_in x d)
-        to_there (y ∷ xs) x d = elim (head_or y xs x d) [ inl s ↦ (0, ap (λ (z : ClassLayoutRow). Some z) s) | inr t ↦ (let m = to_there xs x t in (suc m.0, m.1)) ]
+    layout_row : (r : AsmRec) (b : ℕ) → OfInput o.recs b r → (row : ClassLayoutRow) → Contains r.class_layout row → (i : ℕ) × (index_in table.TYPE_DEF row.parent ≡ Some i) × (i < length r.type_def)
+    layout_row r b other row c = let p = to_place r.class_layout row c in defined r row.parent ((records b r other).tokens.class_layouts p.0 row p.1)
 
     -- tokens of one row are one
     one_token : (parent i : ℕ) → index_in table.TYPE_DEF parent ≡ Some i → i ≡ j → parent ≡ token
@@ -356,17 +340,17 @@ type_sized layouts (sig.Prim k) n e = by_prim k refl e
 type_sized layouts (sig.Named value token) n e = by_class value token refl e
 type_sized layouts s n e = absurd (cc)
 
+passes_by : (token : ℕ) (x row : ClassLayoutRow) (rest : Option ClassLayoutRow) (b : Bool) → (x.parent == token) ≡ b → (if b then Some x else rest) ≡ Some row → (rest ≡ Some row → (row.parent == token) ≡ true) → (row.parent == token) ≡ true
+passes_by token x row rest true g h next = let same : x ≡ row = cc in subst (λ (y : ClassLayoutRow). (y.parent == token) ≡ true) same g
+passes_by token x row rest false g h next = next h
+
+passes : (token : ℕ) (xs : List ClassLayoutRow) (row : ClassLayoutRow) → find (λ (x : ClassLayoutRow). x.parent == token) xs ≡ Some row → (row.parent == token) ≡ true
+passes token [] row f = absurd (cc)
+passes token (x ∷ xs) row f = passes_by token x row (find (λ (y : ClassLayoutRow). y.parent == token) xs) (x.parent == token) refl f (passes token xs row)
+
 pub layout_named : (layouts : List ClassLayoutRow) (token n : ℕ) → layout_size layouts token ≡ Some n → (row : ClassLayoutRow) × Contains layouts row × (row.parent ≡ token)
 layout_named layouts token n e = by_found (find (λ (row : ClassLayoutRow). row.parent == token) layouts) refl e
   where
-    passes : (xs : List ClassLayoutRow) (row : ClassLayoutRow) → find (λ (x : ClassLayoutRow). x.parent == token) xs ≡ Some row → (row.parent == token) ≡ true
-    passes [] row f = absurd (cc)
-    passes (x ∷ xs) row f = by_test (x.parent == token) refl f
-      where
-        by_test : (b : Bool) → (x.parent == token) ≡ b → (if b then Some x else find (λ (y : ClassLayoutRow). y.parent == token) xs) ≡ Some row → (row.parent == token) ≡ true
-        by_test true g h = let same : x ≡ row = cc in subst (λ (y : ClassLayoutRow). (y.parent == token) ≡ true) same g
-        by_test false g h = passes xs row h
-
     by_found : (x : Option ClassLayoutRow) → find (λ (row : ClassLayoutRow). row.parent == token) layouts ≡ x → class_size x ≡ Some n → (row : ClassLayoutRow) × Contains layouts row × (row.parent ≡ token)
     by_found None f g = absurd (cc)
-    by_found (Some row) f g = (row, found (λ (x : ClassLayoutRow). x.parent == token) layouts row f, eqb-true row.parent token (passes layouts row f))
+    by_found (Some row) f g = (row, found (λ (x : ClassLayoutRow). x.parent == token) layouts row f, eqb-true row.parent token (passes token layouts row f))

@@ -1,15 +1,12 @@
 -- The type of a kept field is kept, where what is needed is kept and nothing of it has a flaw.
-use Rattle.std.proofs.Common.{◌≡◌, ◌<◌, ◌+◌, ℕ, zero, suc, List, [], ◌∷◌, ◌++◌, length, map, Bool, true, false, ◌⊎◌, inl, inr, Option, Some, None, refl, sym, ap, subst, ◌∙◌, arith, ltb-true, eq-eqb}
+use Rattle.std.proofs.Common.{◌≡◌, ◌<◌, ℕ, suc, List, [], ◌∷◌, length, map, Bool, true, false, Option, Some, None, refl, sym, ap, subst, ◌∙◌, ltb-true, eq-eqb}
 use Rattle.std.specs.Prelude.{slice_get, nat_lt, ◌==◌, if◌then◌else◌}
 use Rattle.std.specs.List.{Contains, flat_map}
 use Rattle.std.specs.Option.{option_map, option_and_then, is_some}
 use Rattle.std.proofs.lemmas.List.Elements.{Contains-append_left, Contains-append_right}
 use Rattle.il_base.specs.declared.ids.TypeId.{TypeId}
-use Rattle.il_base.specs.declared.ids.FieldId.{FieldId}
-use Rattle.il_base.specs.declared.ids.Item.{Item}
 use Rattle.il_base.specs.declared.ids.Item.TheVariants as item
 use Rattle.il_base.specs.declared.table.TheConstants as table
-use Rattle.il_base.specs.declared.sig.Sig.{Sig}
 use Rattle.il_base.specs.declared.sig.Sig.TheVariants as sig
 use Rattle.descriptor_file.specs.declared.root.Root.{Root}
 use Rattle.world_model.specs.declared.known.Known.{Known}
@@ -21,18 +18,17 @@ use Rattle.world_model.specs.declared.expr.TypeExpr.TheVariants as expr
 use Rattle.world_model.specs.declared.members.FieldRow.{FieldRow}
 use Rattle.world_model.specs.declared.record.AsmRec.{AsmRec}
 use Rattle.world_model.specs.Tokens.{token_of, table_of, index_in}
-use Rattle.world_model.specs.Worlds.{types_in as types_of_rec, type_id, row_below, named_in, known_or, known_then, sig_layer, sig_expr}
-use Rattle.layout_laws.specs.OfFile.{IsKnown}
+use Rattle.world_model.specs.Worlds.{types_in as types_of_rec, type_id, row_below, named_in, sig_layer, sig_expr}
 use Rattle.link_rules.specs.declared.row_at.RowAt.{RowAt}
 use Rattle.link_rules.specs.Types.{at_row, definition_at, ref_definition}
 use Rattle.link_rules.specs.Members.{fields_in}
 use Rattle.link_rules.specs.Cycles.{listed}
-use Rattle.link_rules.specs.Signatures.{names_at, known_expr, named_type, definition_expr}
+use Rattle.link_rules.specs.Signatures.{names_at, known_expr, named_type}
 use Rattle.type_rules.specs.Rows.{rec_at, owner_of_field}
-use Rattle.mark_rules.specs.Facts.{Fact, Derived, by_one}
+use Rattle.mark_rules.specs.Facts.{by_one}
 use Rattle.mark_rules.specs.Facts.Fact.{marked}
 use Rattle.mark_rules.specs.Places.{row_of, marks_type, type_item, field_item}
-use Rattle.mark_rules.specs.Naming.{Part, type, types_layer, types_in, mark_types, of_expr, of_named, of_known, of_parts, good_part, bad_part, type_parts, parts_of, sig_parts}
+use Rattle.mark_rules.specs.Naming.{Part, type, types_layer, types_in, mark_types, of_named, of_known, of_parts, good_part, bad_part, type_parts, parts_of, sig_parts}
 use Rattle.mark_rules.specs.Types.{parts_of_field, field_needs}
 use Rattle.mark_rules.specs.Calls.{field_starts}
 use Rattle.mark_rules.specs.Attributes.{attribute_needs}
@@ -40,17 +36,17 @@ use Rattle.mark_rules.specs.Dependencies.{dependency_needs}
 use Rattle.mark_rules.specs.Shown.{item_shows}
 use Rattle.mark_rules.specs.Roots.{waiting_facts}
 use Rattle.mark_rules.specs.Marking.{row_needs, item_needs, one, marking, Marks}
-use Rattle.mark_rules.specs.BadItems.{Flaw, flaw, part_flaw, part_flaws, IsFirstFlaw, flaws_of}
-use Rattle.merge_rules.specs.Numbers.{Kept, kept_fields}
+use Rattle.mark_rules.specs.BadItems.{flaw, part_flaw, IsFirstFlaw}
+use Rattle.merge_rules.specs.Numbers.{kept_fields}
 use Rattle.merge_rules.specs.Refs.{Output}
 use Rattle.merge_rules.specs.Restricted.{output_of}
 use Rattle.merged_record.specs.Laws.{InputsAreRecords}
-use Rattle.merged_record.proofs.Lists.{first_in, In, to_flat, to_listed, OfInput}
+use Rattle.merged_record.proofs.Lists.{first_in, to_flat, OfInput}
 use Rattle.merged_record.proofs.Tokens.{index_row}
 use Rattle.merged_record.proofs.Rows.{IsKept, from_kept}
 use Rattle.merged_loads.specs.Marked.{AreMarked, AreKept, FieldTypesKept}
 use Rattle.merged_loads.specs.Laws.{FieldTypesAreKept}
-use Rattle.merged_loads.proofs.Flawless.{IsEmpty, own_home, not_core, to_option, no_flaw_in}
+use Rattle.merged_loads.proofs.Flawless.{to_option, no_flaw_in}
 use Rattle.merged_loads.proofs.FieldData.{fold_named, own_home as own_type_home, own_named, own_expr}
 use Rattle.merged_loads.proofs.Read.{free, field_at}
 

@@ -1,8 +1,7 @@
 -- The bytes of a file's field are as many as its type has.
-use Rattle.std.proofs.Common.{◌≡◌, ℕ, zero, suc, ◌+◌, ◌-◌, ◌<◌, ◌≤◌, Bool, true, false, cond, List, [], ◌∷◌, ◌++◌, length, take, drop, min, map, Option, Some, None, ◌⊎◌, inl, inr, refl, sym, ap, subst, ◌∙◌, arith}
-use Rattle.std.specs.Prelude.{slice_get, nat_le, ◌&&◌, if◌then◌else◌}
-use Rattle.std.specs.Option.{option_map, option_and_then}
-use Rattle.std.specs.List.{Contains}
+use Rattle.std.proofs.Common.{◌≡◌, ℕ, zero, suc, ◌+◌, ◌-◌, ◌<◌, ◌≤◌, Bool, true, false, cond, List, [], ◌∷◌, ◌++◌, length, take, drop, min, map, Option, Some, None, refl, sym, ap, subst, ◌∙◌, arith}
+use Rattle.std.specs.Prelude.{nat_le, if◌then◌else◌}
+use Rattle.std.specs.Option.{option_and_then}
 use Rattle.std.proofs.lemmas.Bool.{leb-true}
 use Rattle.std.proofs.lemmas.List.{length-take, length-drop}
 use Rattle.il_base.specs.declared.ids.BadAt.{BadAt}
@@ -13,8 +12,7 @@ use Rattle.cli_format.specs.declared.section.Section.{Section}
 use Rattle.cli_format.specs.Image.{section_count, section_place, nth_section, sections_from, sections_of, covers, section_of, place_in, mapped, image_at, section_demands, sections_demands, signature_demands, magic_demands, directory_demands, header_demands, cli_demands, il_only_demands, metadata_demands, image_demands, metadata_of, metadata_place_of}
 use Rattle.cli_format.specs.Metadata.{tables_demands}
 use Rattle.cli_format.proofs.Faults.{none_of_both, one_held, held_below}
-use Rattle.world_model.specs.declared.known.Known.{Known}
-use Rattle.world_model.specs.declared.known.Known.TheVariants.{Good, Bad}
+use Rattle.world_model.specs.declared.known.Known.TheVariants.{Good}
 use Rattle.world_model.specs.declared.types.ClassLayoutRow.{ClassLayoutRow}
 use Rattle.world_model.specs.declared.members.FieldRow.{FieldRow}
 use Rattle.world_model.specs.declared.extras.FieldRvaRow.{FieldRvaRow}
@@ -24,7 +22,7 @@ use Rattle.record_format.specs.Parts.{size_by, known_bytes, bytes_by}
 use Rattle.record_format.specs.Types.{class_layout_row}
 use Rattle.record_format.specs.Members.{field_row}
 use Rattle.record_format.specs.Others.{field_rva_row}
-use Rattle.record_format.specs.Record.{as_demand, record_demands, record_at, HasRecord}
+use Rattle.record_format.specs.Record.{as_demand, record_demands, record_at}
 use Rattle.layout_laws.proofs.FileDemands.{each_row}
 use Rattle.merged_record.proofs.Lists.{map_some, and_then_some}
 use Rattle.merged_loads.specs.Laws.{IsOfFile}
@@ -50,11 +48,12 @@ unmapped (d ∷ ds) p = unmapped_step d.holds (first_fault (map as_demand ds)) (
 in_section : (bs : List ℕ) (n i rva : ℕ) (s : Section) → section_of (sections_from bs n i) rva ≡ Some s → (j : ℕ) × (j < i + n) × (nth_section bs j ≡ s)
 unfolding section_of sections_from
 in_section bs zero i rva s e = absurd (cc)
-in_section bs (suc n) i rva s e = by_test (covers (nth_section bs i) rva) e
+in_section bs (suc n) i rva s e = by_test (covers (nth_section bs i) rva) e (in_section bs n (i + 1) rva s)
   where
-    by_test : (b : Bool) → (if b then Some (nth_section bs i) else section_of (sections_from bs n (i + 1)) rva) ≡ Some s → (j : ℕ) × (j < i + suc n) × (nth_section bs j ≡ s)
-    by_test true f = (i, omega arith, (cc))
-    by_test false f = let r = in_section bs n (i + 1) rva s f in let lt = r.1 in (r.0, omega arith, r.2)
+    by_test : (b : Bool) → (if b then Some (nth_section bs i) else section_of (sections_from bs n (i + 1)) rva) ≡ Some s
+        → (section_of (sections_from bs n (i + 1)) rva ≡ Some s → (j : ℕ) × (j < i + 1 + n) × (nth_section bs j ≡ s)) → (j : ℕ) × (j < i + suc n) × (nth_section bs j ≡ s)
+    by_test true f next = (i, omega arith, (cc))
+    by_test false f next = let r = next f in let lt = r.1 in (r.0, omega arith, r.2)
 
 module _ (bs : List ℕ) (meets : first_fault (record_demands bs) ≡ None) where
   image_met : first_fault (image_demands bs) ≡ None

@@ -1,10 +1,10 @@
 -- The rows of a file's record have values that fit their columns, and its texts have UTF-16 units.
-use Rattle.std.proofs.Common.{◌≡◌, ℕ, zero, suc, ◌%◌, ◌<◌, ◌≤◌, ◌^◌, Bool, true, false, List, [], ◌∷◌, ◌++◌, length, drop, Option, Some, None, unwrap_or, ◌⊎◌, inl, inr, refl, sym, ap, subst, ◌∙◌, arith}
-use Rattle.std.specs.Prelude.{slice_get, ◌==◌, ◌||◌, if◌then◌else◌}
-use Rattle.std.specs.List.{Contains, AllByRecursion}
+use Rattle.std.proofs.Common.{◌≡◌, ℕ, zero, suc, ◌%◌, ◌<◌, ◌^◌, Bool, true, false, List, [], ◌∷◌, length, drop, Option, Some, None, unwrap_or, refl, sym, subst, ◌∙◌, arith}
+use Rattle.std.specs.Prelude.{◌==◌, ◌||◌, if◌then◌else◌}
+use Rattle.std.specs.List.{AllByRecursion}
 use Rattle.blob_grammar.specs.Laws.{AreBytes}
 use Rattle.body_grammar.proofs.ReadNumbers.{bytes-drop}
-use Rattle.cli_format.specs.declared.stream.StreamName.TheVariants.{Strings, Blobs, Guids, Tables, UserStrings}
+use Rattle.cli_format.specs.declared.stream.StreamName.TheVariants.{Strings, Guids, Tables, UserStrings}
 use Rattle.cli_format.specs.Streams.{heap}
 use Rattle.cli_format.specs.Heaps.{counted_at, user_string_of}
 use Rattle.cli_format.specs.Columns.{columns_of, schema}
@@ -28,8 +28,7 @@ use Rattle.world_model.specs.declared.assemblies.AssemblyRow.{AssemblyRow}
 use Rattle.world_model.specs.declared.assemblies.AssemblyRefRow.{AssemblyRefRow}
 use Rattle.world_model.specs.declared.record.UserText.{UserText}
 use Rattle.world_model.specs.declared.record.AsmRec.{AsmRec}
-use Rattle.world_model.specs.Records.{Each}
-use Rattle.record_format.specs.Cells.{number_in, text_in, blob_in, guid_in, count_of, all_rows}
+use Rattle.record_format.specs.Cells.{number_in, text_in, guid_in, count_of, all_rows}
 use Rattle.record_format.specs.Types.{module_row, type_ref_row, type_def_row, class_layout_row, assembly_row, assembly_ref_row, generic_param_row}
 use Rattle.record_format.specs.Members.{field_row, method_def_row, param_row, member_ref_row, event_row, property_row, method_semantics_row}
 use Rattle.record_format.specs.Others.{constant_row}
@@ -41,7 +40,7 @@ use Rattle.written_tables.specs.Written.{IsText}
 use Rattle.layout_laws.specs.Columns.{IsGuid, FitsColumns}
 use Rattle.layout_laws.proofs.FileCells.{heap_bytes, metadata_bytes, number_below, text_is, guid_is, counted_is, units_small}
 use Rattle.layout_laws.proofs.FileDemands.{singles, length_rows, each_row}
-use Rattle.merged_record.proofs.Lists.{and_then_some, map_some}
+use Rattle.merged_record.proofs.Lists.{and_then_some}
 use Rattle.merged_loads.specs.Laws.{IsOfFile}
 use Rattle.merged_loads.proofs.Lists.{Every, every_row, every_none, every_one, every_join}
 

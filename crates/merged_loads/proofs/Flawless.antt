@@ -1,5 +1,5 @@
 -- A part without a meaning is a flaw of its item.
-use Rattle.std.proofs.Common.{◌≡◌, ◌<◌, ◌+◌, ◌-◌, ℕ, zero, suc, List, [], ◌∷◌, ◌++◌, length, Bool, true, false, Option, Some, None, refl, sym, ap, subst, ◌∙◌, arith, eq-eqb}
+use Rattle.std.proofs.Common.{◌≡◌, ◌<◌, ◌+◌, ◌-◌, ℕ, zero, suc, List, [], ◌∷◌, ◌++◌, length, Bool, true, false, Option, Some, None, refl, ap, subst, ◌∙◌, arith, eq-eqb}
 use Rattle.std.specs.Prelude.{slice_get, nat_lt, ◌==◌, ◌||◌, if◌then◌else◌}
 use Rattle.std.specs.List.{Contains, flat_map, list_any}
 use Rattle.std.proofs.lemmas.Bool.{ne_eqb, lt-ltb, le-ltb}
@@ -15,7 +15,6 @@ use Rattle.il_base.specs.declared.sig.MethodSig.{MethodSig}
 use Rattle.il_base.specs.declared.body.Body.{Body}
 use Rattle.world_model.specs.declared.known.Known.{Known}
 use Rattle.world_model.specs.declared.known.Known.TheVariants.{Good, Bad}
-use Rattle.world_model.specs.declared.known.BadKind.{BadKind}
 use Rattle.world_model.specs.declared.members.FieldRow.{FieldRow}
 use Rattle.world_model.specs.declared.members.MethodDefRow.{MethodDefRow}
 use Rattle.world_model.specs.declared.members.PropertyRow.{PropertyRow}
@@ -38,8 +37,8 @@ use Rattle.mark_rules.specs.Calls.{row_parts, parts_of_method}
 use Rattle.mark_rules.specs.Properties.{parts_of_property}
 use Rattle.mark_rules.specs.Bodies.{body_of, is_read, body_parts}
 use Rattle.mark_rules.specs.Shown.{parts_of_item}
-use Rattle.mark_rules.specs.BadItems.{Flaw, flaw, flaw_if, part_flaw, part_flaws, variance_flaws, is_platform, is_interface_body, is_global, is_module_of, body_flaws, method_flaws, data_flaw, field_flaws, own_flaws, attribute_flaws, flaws_of}
-use Rattle.merged_record.proofs.Lists.{first_in, In, to_flat, from_flat, to_listed}
+use Rattle.mark_rules.specs.BadItems.{Flaw, flaw, flaw_if, part_flaw, part_flaws, variance_flaws, is_platform, is_interface_body, is_global, is_module_of, body_flaws, method_flaws, data_flaw, own_flaws, attribute_flaws, flaws_of}
+use Rattle.merged_record.proofs.Lists.{first_in, to_flat, from_flat, to_listed}
 
 -- ---- lists
 

@@ -5,7 +5,7 @@ pub mod CoreNames
 pub mod FileRows
 pub mod Names
 pub mod NewNames
-pub mod Met
+pub mod MetNames
 pub mod References
 pub mod Addresses
 pub mod TextsStand

@@ -1,5 +1,5 @@
 -- A record whose file passes no limit has few rows and few texts.
-use Rattle.std.proofs.Common.{◌≡◌, ℕ, zero, suc, ◌<◌, ◌≤◌, ◌^◌, Bool, true, false, cond, List, [], ◌∷◌, length, find, get_or, Option, Some, None, refl, arith}
+use Rattle.std.proofs.Common.{◌≡◌, ℕ, zero, suc, ◌<◌, ◌≤◌, Bool, true, false, cond, List, [], ◌∷◌, length, find, get_or, Option, Some, None, refl, arith}
 use Rattle.std.specs.Prelude.{nat_lt}
 use Rattle.std.proofs.lemmas.Bool.{ltb-false}
 use Rattle.cli_format.specs.Metadata.{most_rows}
@@ -9,7 +9,7 @@ use Rattle.file_layout.specs.Heaps.{users_heap}
 use Rattle.file_layout.specs.Laid.{streams_with}
 use Rattle.file_layout.specs.Runs.{runs_have_spelling}
 use Rattle.record_layout.specs.Laid.{users_of, streams_of, laid_length}
-use Rattle.record_layout.specs.Limits.{most_users, most_bytes, users_length, long_table, limit_by, limit_of}
+use Rattle.record_layout.specs.Limits.{most_users, users_length, long_table, limit_by, limit_of}
 
 users_by : (users bytes : ℕ) (b : Bool) → nat_lt most_users users ≡ b → limit_by None true users bytes ≡ None → users ≤ most_users
 users_by users bytes true e h = absurd cc

@@ -1,14 +1,14 @@
 -- What holds of each item of lists that are made of lists, options and rows.
-use Rattle.std.proofs.Common.{◌≡◌, ℕ, zero, suc, ◌+◌, List, [], ◌∷◌, ◌++◌, map, Bool, true, false, ◌⊎◌, inl, inr, Option, Some, None, refl, sym, ap, subst}
+use Rattle.std.proofs.Common.{◌≡◌, ℕ, suc, ◌+◌, List, [], ◌∷◌, ◌++◌, map, Bool, true, false, inl, inr, Option, Some, None, ap, subst}
 use Rattle.std.specs.Prelude.{slice_get, if◌then◌else◌}
-use Rattle.std.specs.List.{Contains, flat_map, filter, list_any}
+use Rattle.std.specs.List.{Contains, flat_map, list_any}
 use Rattle.std.proofs.lemmas.List.Elements.{Contains-append_cases}
 use Rattle.world_model.specs.Records.{Each}
 use Rattle.link_rules.specs.Cycles.{listed}
 use Rattle.type_rules.specs.Rows.{each_from}
 use Rattle.merge_rules.specs.Refs.{met_once, all_once, first_or}
 use Rattle.merge_rules.specs.Moved.{token_or_none}
-use Rattle.merged_record.proofs.Lists.{none_in, first_in, later_in, one_is, head_or, place_in, from_flat, from_map, from_listed, from_each, from_filter}
+use Rattle.merged_record.proofs.Lists.{none_in, first_in, later_in, one_is, head_or, place_in, from_flat, from_map, from_listed, from_each}
 
 abbrev pub Every : {A : Type 0} → (A → Type 0) → List A → Type 0
 Every {A} P xs = (y : A) → Contains xs y → P y

@@ -1,34 +1,32 @@
 -- `<Module>` of the first input is left of it.
-use Rattle.std.proofs.Common.{◌≡◌, ◌<◌, ◌≤◌, ◌+◌, ℕ, zero, suc, List, [], ◌∷◌, ◌++◌, length, Bool, true, false, Option, Some, None, refl, sym, ap, subst, ◌∙◌, arith, eq-eqb}
-use Rattle.std.specs.Prelude.{slice_get, ◌||◌, if◌then◌else◌}
+use Rattle.std.proofs.Common.{◌≡◌, ◌<◌, ◌≤◌, suc, List, [], ◌∷◌, ◌++◌, length, Bool, true, Option, Some, refl, sym, ap, subst, arith, eq-eqb}
+use Rattle.std.specs.Prelude.{slice_get, if◌then◌else◌}
 use Rattle.std.specs.List.{Contains, flat_map, list_any}
 use Rattle.std.specs.Option.{is_some}
 use Rattle.std.proofs.lemmas.Bool.{or_right}
 use Rattle.std.proofs.lemmas.List.Elements.{Contains-append_left, Contains-append_right}
-use Rattle.il_base.specs.declared.ids.Item.{Item}
 use Rattle.il_base.specs.declared.ids.Item.TheVariants as item
-use Rattle.il_base.specs.declared.table.TheConstants as table
 use Rattle.descriptor_file.specs.declared.root.Root.{Root}
 use Rattle.world_model.specs.declared.types.TypeDefRow.{TypeDefRow}
 use Rattle.world_model.specs.declared.record.AsmRec.{AsmRec}
-use Rattle.world_model.specs.Records.{table_sizes, rows_in}
+use Rattle.world_model.specs.Records.{table_sizes}
 use Rattle.world_model.specs.Worlds.{types_in}
 use Rattle.link_rules.specs.declared.row_at.RowAt.{RowAt}
 use Rattle.link_rules.specs.Types.{at_row}
 use Rattle.link_rules.specs.Cycles.{listed}
 use Rattle.type_rules.specs.Rows.{is_module_type}
-use Rattle.mark_rules.specs.Facts.{Fact, Derived, start}
+use Rattle.mark_rules.specs.Facts.{Fact, start}
 use Rattle.mark_rules.specs.Facts.Fact.{marked}
 use Rattle.mark_rules.specs.Places.{row_of, marks_type, type_item}
 use Rattle.mark_rules.specs.Roots.{root_facts, module_facts, entry_facts, start_facts}
 use Rattle.mark_rules.specs.Marking.{same_fact, is_core_fact, given, marking, Marks}
-use Rattle.merge_rules.specs.Numbers.{Kept, kept_types}
+use Rattle.merge_rules.specs.Numbers.{kept_types}
 use Rattle.merge_rules.specs.Refs.{Output}
 use Rattle.merge_rules.specs.Restricted.{placed_methods, moved_methods, restricted_by, output_of, restricted}
 use Rattle.merged_record.proofs.Lists.{first_in, below_length, map_some, OfInput}
 use Rattle.merged_record.proofs.Sizes.{left, types}
 use Rattle.merged_record.proofs.Owned.{to_kept}
-use Rattle.merged_loads.specs.Marked.{AreKept, ModuleStays}
+use Rattle.merged_loads.specs.Marked.{ModuleStays}
 use Rattle.merged_loads.proofs.TextsStand.{any_in}
 use Rattle.merged_loads.proofs.Flawless.{to_option, own_home}
 

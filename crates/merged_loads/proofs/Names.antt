@@ -1,7 +1,7 @@
 -- The names in a world are texts: those of files' records, and those of the core library with the names that modifiers use.
-use Rattle.std.proofs.Common.{◌≡◌, ℕ, suc, List, [], ◌∷◌, ◌++◌, map, Bool, ◌⊎◌, inl, inr, Option, Some, None, refl, subst}
+use Rattle.std.proofs.Common.{◌≡◌, ℕ, suc, List, [], ◌∷◌, ◌++◌, map, Bool, Some, refl}
 use Rattle.std.specs.Prelude.{slice_get, codes, if◌then◌else◌}
-use Rattle.std.specs.List.{Contains, flat_map, list_any}
+use Rattle.std.specs.List.{Contains, list_any}
 use Rattle.std.specs.Option.{option_and_then}
 use Rattle.il_base.specs.declared.table.TheConstants.{TYPE_REF}
 use Rattle.cli_format.specs.Columns.{columns_of, schema}
@@ -15,11 +15,11 @@ use Rattle.world_model.specs.declared.assemblies.AssemblyRefRow.{AssemblyRefRow}
 use Rattle.world_model.specs.declared.record.AsmRec.{AsmRec}
 use Rattle.world_model.specs.Tokens.{index_in}
 use Rattle.core_table.specs.declared.types.TheConstants.{TYPES}
-use Rattle.core_table.specs.Record.{core_record, record_with, assembly_row, type_rows, all_fields, all_methods}
+use Rattle.core_table.specs.Record.{core_record, record_with, assembly_row, type_rows}
 use Rattle.link_rules.specs.declared.core_type_name.CoreTypeName.{CoreTypeName}
 use Rattle.link_rules.specs.declared.row_at.RowAt.{RowAt}
 use Rattle.link_rules.specs.Types.{scope_assembly}
-use Rattle.link_rules.specs.Cycles.{add_new, add_all, listed}
+use Rattle.link_rules.specs.Cycles.{add_new, add_all}
 use Rattle.link_rules.specs.CoreNames.{all_modifiers, is_missing, same_core_name, missing_name, missing_at, missing_in, missing_from, missing_names, added_row, core_with}
 use Rattle.link_rules.specs.Linked.{assemblies}
 use Rattle.type_rules.specs.Rows.{rec_at, type_row_at}

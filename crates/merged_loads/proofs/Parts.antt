@@ -1,7 +1,7 @@
 -- Signatures and bodies of what is left fit, where those of kept rows have a reading and each has a spelling.
-use Rattle.std.proofs.Common.{◌≡◌, ◌↔◌, ℕ, List, [], ◌∷◌, map, Bool, Option, Some, None, refl, sym, ap, subst, ◌∙◌}
-use Rattle.std.specs.Prelude.{slice_get, All}
-use Rattle.std.specs.List.{Contains, flat_map}
+use Rattle.std.proofs.Common.{◌≡◌, ◌↔◌, ℕ, List, map, Bool, Option, Some, None, sym, ap, ◌∙◌}
+use Rattle.std.specs.Prelude.{All}
+use Rattle.std.specs.List.{Contains}
 use Rattle.std.proofs.lemmas.List.Elements.{All-contains}
 use Rattle.il_base.specs.declared.body.Body.{Body}
 use Rattle.il_base.specs.declared.sig.Sig.{Sig}
@@ -24,14 +24,14 @@ use Rattle.world_model.specs.declared.record.AsmRec.{AsmRec}
 use Rattle.world_model.specs.Records.{Each}
 use Rattle.link_rules.specs.Cycles.{listed}
 use Rattle.row_writer.specs.CanWrite.{HasSpelling, HasMemberSpelling}
-use Rattle.record_writer.specs.CanWrite.{HasBody, CanWrite}
+use Rattle.merged_loads.specs.CanWrite.{HasBody, CanWrite}
 use Rattle.layout_laws.specs.Parts.{IsGood, FitsMember, SignaturesFit, FitsBody, MethodFits}
 use Rattle.layout_laws.specs.OfFile.{IsKnown, HasReading}
 use Rattle.merge_rules.specs.Numbers.{kept_methods}
 use Rattle.merge_rules.specs.Keys.{InstanceKey}
 use Rattle.merge_rules.specs.Refs.{Output, own_method_sig, own_field_sig, method_at, field_at, MemberKey, a_method, a_field, an_absent, type_specs, member_refs, method_specs, locals_sigs, method_token, new_sig, new_method_sig, key_token, parent_token, method_name, field_name, type_spec_rows, member_ref_row, member_ref_rows, method_spec_rows, locals_rows}
 use Rattle.merge_rules.specs.Moved.{moved_method_row}
-use Rattle.merge_rules.specs.Restricted.{placed_methods, moved_methods}
+use Rattle.merge_rules.specs.Restricted.{moved_methods}
 use Rattle.merged_record.proofs.Lists.{place_in}
 use Rattle.merged_record.proofs.Rows.{from_places}
 use Rattle.merged_record.proofs.Sizes.{left}

@@ -1,5 +1,5 @@
 -- The parts of kept rows have a meaning in what is left, where no marked item has a flaw.
-use Rattle.std.proofs.Common.{◌≡◌, ◌<◌, ◌≤◌, ◌+◌, ◌*◌, ◌/◌, ◌%◌, ℕ, zero, suc, List, [], ◌∷◌, length, map, Bool, true, false, Option, Some, None, refl, sym, ap, subst, ◌∙◌, arith}
+use Rattle.std.proofs.Common.{◌≡◌, ◌<◌, ℕ, suc, List, length, Bool, true, Option, Some, None, sym, ap, subst, ◌∙◌, arith}
 use Rattle.std.specs.Prelude.{slice_get}
 use Rattle.std.specs.List.{Contains}
 use Rattle.std.specs.Option.{option_map}
@@ -14,25 +14,24 @@ use Rattle.world_model.specs.declared.members.MethodDefRow.{MethodDefRow}
 use Rattle.world_model.specs.declared.members.PropertyRow.{PropertyRow}
 use Rattle.world_model.specs.declared.extras.FieldRvaRow.{FieldRvaRow}
 use Rattle.world_model.specs.declared.record.AsmRec.{AsmRec}
-use Rattle.world_model.specs.Tokens.{token_of, table_of, row_of as row_number, index_in}
-use Rattle.world_model.specs.Records.{Each, IsRecord}
+use Rattle.world_model.specs.Tokens.{token_of}
+use Rattle.world_model.specs.Records.{Each}
 use Rattle.world_model.specs.Worlds.{known_map}
 use Rattle.layout_laws.specs.OfFile.{IsKnown, HasReading}
 use Rattle.link_rules.specs.declared.row_at.RowAt.{RowAt}
 use Rattle.link_rules.specs.Types.{at_row}
 use Rattle.link_rules.specs.Members.{methods_in, fields_in}
 use Rattle.link_rules.specs.Cycles.{listed, same_row}
-use Rattle.mark_rules.specs.Facts.Fact.{marked}
 use Rattle.mark_rules.specs.Marking.{Marks}
-use Rattle.mark_rules.specs.BadItems.{Flaw, IsFlaw, of_item, IsFirstFlaw, flaws_of}
-use Rattle.mark_rules.specs.Places.{row_of, is_core, method_item, field_item, prop_item, props_in}
+use Rattle.mark_rules.specs.BadItems.{of_item, IsFirstFlaw, flaws_of}
+use Rattle.mark_rules.specs.Places.{row_of, method_item, field_item, prop_item, props_in}
 use Rattle.merge_rules.specs.Numbers.{kept_methods, kept_fields, kept_properties, new_row}
 use Rattle.merge_rules.specs.Refs.{Output}
 use Rattle.merge_rules.specs.Rows.{all_rows, token_32, kept_row_token}
 use Rattle.merge_rules.specs.Moved.{moved_field_row, moved_method_row, moved_property_row}
 use Rattle.merge_rules.specs.Restricted.{placed_methods, moved_methods, new_field_rva, restricted_by, output_of, restricted}
 use Rattle.merged_record.specs.Laws.{InputsAreRecords}
-use Rattle.merged_record.proofs.Lists.{place_in, from_map, from_listed, from_all, map_some, OfInput}
+use Rattle.merged_record.proofs.Lists.{place_in, from_map, from_listed, from_all, map_some}
 use Rattle.merged_record.proofs.Sorting.{sorted_in}
 use Rattle.merged_record.proofs.Tokens.{position_is, row_is, index_row}
 use Rattle.merged_record.proofs.Rows.{from_places, IsKept, from_kept}
@@ -40,7 +39,7 @@ use Rattle.merged_record.proofs.Sizes.{left}
 use Rattle.merged_loads.specs.Marked.{AreMarked, AreRead, PartsAreRead}
 use Rattle.merged_loads.proofs.Addresses.{is_placed}
 use Rattle.merged_loads.proofs.FieldData.{row_named}
-use Rattle.merged_loads.proofs.DataStand.{OfBytes, of_bytes, field_row_moved}
+use Rattle.merged_loads.proofs.DataStand.{of_bytes, field_row_moved}
 use Rattle.merged_loads.proofs.Flawless.{IsEmpty, own_home, not_core, field_known, data_known, method_known, body_has_reading, property_known}
 
 -- ---- what is moved keeps its meaning

@@ -1,11 +1,9 @@
 -- The values of reference rows fit their columns.
-use Rattle.std.proofs.Common.{◌≡◌, ℕ, zero, suc, ◌<◌, ◌^◌, List, [], ◌∷◌, ◌++◌, map, Bool, true, false, Option, Some, None, refl, subst, arith}
-use Rattle.std.specs.Prelude.{slice_get, codes, ◌&&◌, if◌then◌else◌}
-use Rattle.std.specs.List.{Contains, flat_map, list_any}
+use Rattle.std.proofs.Common.{ℕ, List, [], ◌∷◌, map, Option, Some, None, refl, arith}
+use Rattle.std.specs.Prelude.{slice_get, codes}
+use Rattle.std.specs.List.{flat_map}
 use Rattle.std.specs.Option.{option_and_then}
 use Rattle.il_base.specs.declared.ids.TypeId.{TypeId}
-use Rattle.il_base.specs.declared.sig.MethodSig.{MethodSig}
-use Rattle.il_base.specs.declared.sig.Sig.{Sig}
 use Rattle.il_base.specs.declared.table.TheConstants as table
 use Rattle.cli_format.specs.Columns.{columns_of, schema}
 use Rattle.world_model.specs.declared.assemblies.AssemblyRefRow.{AssemblyRefRow}
@@ -22,17 +20,15 @@ use Rattle.link_rules.specs.declared.row_at.RowAt.{RowAt}
 use Rattle.link_rules.specs.Members.{type_home}
 use Rattle.link_rules.specs.Cycles.{listed}
 use Rattle.type_rules.specs.Rows.{rec_at, type_row_at, each_row}
-use Rattle.record_layout.specs.Rows.{assembly_ref_values}
 use Rattle.merge_rules.specs.Absent.{bare, same_assembly, reference_at, assembly_scope, absent_row}
 use Rattle.merge_rules.specs.Numbers.{inputs}
 use Rattle.merge_rules.specs.Refs.{Output, scope_type, type_refs, names_core_type, system_runtime, scope_of, assemblies_of, assembly_refs, own_method_sig, own_field_sig, method_at, field_at, MemberKey, a_method, a_field, an_absent, member_refs, new_sig, new_method_sig, key_token, found_ref, absent_ref, type_ref_row, type_ref_rows, parent_token, method_name, field_name, member_ref_row, member_ref_rows}
 use Rattle.written_tables.specs.Written.{IsText}
-use Rattle.layout_laws.specs.Columns.{FitsColumns}
 use Rattle.merged_record.proofs.Lists.{place_in, and_then_some, an_input}
-use Rattle.merged_loads.proofs.Lists.{Every, every_none, every_one, every_flat, every_map, every_if, every_option, every_listed, every_each, every_once, first_holds}
+use Rattle.merged_loads.proofs.Lists.{Every, every_none, every_one, every_flat, every_map, every_if, every_listed, every_each, every_once, first_holds}
 use Rattle.merged_loads.proofs.Texts.{is_text, empty_text, option_text}
 use Rattle.merged_loads.proofs.Names.{RefNamed, ScopeFits, Named, type_named}
-use Rattle.merged_loads.proofs.Met.{MetNamed, MemberNamed, members_named}
+use Rattle.merged_loads.proofs.MetNames.{MetNamed, MemberNamed, members_named}
 
 abbrev pub MemberRefNamed : MemberRefRow → Type 0
 MemberRefNamed row = IsText row.name

@@ -1,13 +1,11 @@
 -- The values of each table of what is left fit their columns.
-use Rattle.std.proofs.Common.{◌≡◌, ℕ, zero, suc, ◌+◌, ◌-◌, ◌%◌, ◌<◌, ◌≤◌, ◌^◌, List, [], ◌∷◌, length, map, get_or, Bool, true, false, Option, Some, None, refl, sym, ap, subst, ◌∙◌, arith}
-use Rattle.std.specs.Prelude.{slice_get, bit_and, if◌then◌else◌, ◌&&◌}
-use Rattle.std.specs.List.{Contains, flat_map}
+use Rattle.std.proofs.Common.{◌≡◌, ℕ, zero, suc, ◌+◌, ◌<◌, ◌≤◌, ◌^◌, List, [], ◌∷◌, length, map, get_or, Bool, true, false, Some, refl, sym, subst, arith}
+use Rattle.std.specs.Prelude.{slice_get, if◌then◌else◌}
 use Rattle.std.proofs.lemmas.Option.{none-some}
 use Rattle.il_base.specs.declared.type_flags.TheConstants as type_flag
 use Rattle.cli_format.specs.declared.column.CodedIndex.TheVariants.{HasConstant, HasSemantics}
 use Rattle.cli_format.specs.Columns.{columns_of, schema}
 use Rattle.cli_format.specs.Tokens.{coded_of}
-use Rattle.world_model.specs.declared.types.ModuleRow.{ModuleRow}
 use Rattle.world_model.specs.declared.types.TypeRefRow.{TypeRefRow}
 use Rattle.world_model.specs.declared.types.TypeDefRow.{TypeDefRow}
 use Rattle.world_model.specs.declared.types.InterfaceImplRow.{InterfaceImplRow}
@@ -32,7 +30,6 @@ use Rattle.world_model.specs.declared.extras.ConstantRow.{ConstantRow}
 use Rattle.world_model.specs.declared.extras.CustomAttributeRow.{CustomAttributeRow}
 use Rattle.world_model.specs.declared.extras.FieldRvaRow.{FieldRvaRow}
 use Rattle.world_model.specs.declared.assemblies.AssemblyRow.{AssemblyRow}
-use Rattle.world_model.specs.declared.assemblies.AssemblyRefRow.{AssemblyRefRow}
 use Rattle.world_model.specs.declared.record.AsmRec.{AsmRec}
 use Rattle.world_model.specs.Worlds.{types_in}
 use Rattle.file_layout.specs.Bodies.{code_behind}
@@ -50,17 +47,17 @@ use Rattle.layout_laws.proofs.RowsJoined.{with_these}
 use Rattle.merge_rules.specs.Numbers.{kept_types, kept_methods, kept_fields, kept_properties, kept_events}
 use Rattle.merge_rules.specs.Refs.{Output}
 use Rattle.merge_rules.specs.Rows.{all_rows, kept_params, kept_generic_params, kept_row_token}
-use Rattle.merge_rules.specs.Moved.{without, moved_visibility, moved_type_row, moved_field_row, moved_method_row, moved_param_row, moved_property_row, moved_event_row}
-use Rattle.merge_rules.specs.Restricted.{each_at, bodies_of, placed_methods, moved_methods, new_constant, new_layout, new_field_rva, new_semantics, semantics_of, new_generic_param, moved_assembly}
+use Rattle.merge_rules.specs.Moved.{without, moved_type_row, moved_field_row, moved_method_row, moved_param_row, moved_property_row, moved_event_row}
+use Rattle.merge_rules.specs.Restricted.{bodies_of, placed_methods, moved_methods, new_constant, new_layout, new_semantics, semantics_of, new_generic_param, moved_assembly}
 use Rattle.merged_record.proofs.Lists.{place_in, from_map, from_flat, from_all, OfInput}
 use Rattle.merged_record.proofs.Sorting.{sorted_in}
 use Rattle.merged_record.proofs.Rows.{from_places, from_sorted, from_kept, from_kept_params}
 use Rattle.merged_record.proofs.Sizes.{left, param_is}
-use Rattle.merged_loads.proofs.Lists.{Every, every_map}
+use Rattle.merged_loads.proofs.Lists.{Every}
 use Rattle.merged_loads.proofs.FileRows.{FileFits, own_method_def}
 use Rattle.merged_loads.proofs.Names.{Named}
 use Rattle.merged_loads.proofs.NewNames.{written_text}
-use Rattle.merged_loads.proofs.Met.{MetNamed}
+use Rattle.merged_loads.proofs.MetNames.{MetNamed}
 use Rattle.merged_loads.proofs.References.{refs_named, scopes_fit, member_refs_named}
 use Rattle.merged_loads.proofs.Addresses.{rvas_placed, is_placed, data_placed, data_small}
 
@@ -118,9 +115,10 @@ module _ (internal : Bool) (o : Output) (primary : AsmRec) (first : FileFits pri
       let p = from_places o.recs (λ rec. rec.type_def) (moved_type_row internal o) (kept_types o.recs o.kept) row c in
       let k = from_kept types_in (type_item o.recs) o.recs o.kept p.at p.listed in
       let h = (input_of p.at p.rec k.input.within p.there).type_defs p.row (place_in p.rec.type_def p.at.row p.row p.is) in
-      subst (λ (x : TypeDefRow). FitsColumns (columns_of 0x02) (type_def_values x)) p.made
-      (seen_small _ (without type_flag.HAS_SECURITY p.row.flags) (2 ^ 32) (without_small type_flag.HAS_SECURITY p.row.flags (2 ^ 32) h.0),
-      (written_text o p.at p.row.name named few h.1.0, (h.1.1.0, (tt, (tt, (tt, tt))))))
+      subst (λ (x : TypeDefRow). FitsColumns (columns_of 0x02) (type_def_values x)) p.made (
+        seen_small _ (without type_flag.HAS_SECURITY p.row.flags) (2 ^ 32) (without_small type_flag.HAS_SECURITY p.row.flags (2 ^ 32) h.0),
+        (written_text o p.at p.row.name named few h.1.0, (h.1.1.0, (tt, (tt, (tt, tt))))),
+      )
 
   field_rows : Every (λ (row : FieldRow). FitsColumns (columns_of 0x04) (field_values row)) out.field
   unfolding columns_of schema kept_fields

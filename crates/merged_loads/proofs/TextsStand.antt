@@ -1,10 +1,9 @@
 -- The texts of what is left are those that its bodies load, each at its place.
-use Rattle.std.proofs.Common.{◌≡◌, ℕ, zero, suc, ◌+◌, ◌*◌, ◌-◌, ◌%◌, ◌<◌, ◌≤◌, ◌^◌, List, [], ◌∷◌, ◌++◌, length, map, Bool, true, false, ◌⊎◌, inl, inr, Option, Some, None, find, refl, sym, ap, subst, ◌∙◌, arith, length-append}
-use Rattle.std.specs.Prelude.{slice_get, bytes_eq, ◌==◌, ◌&&◌, ◌||◌, if◌then◌else◌, IsTrue}
+use Rattle.std.proofs.Common.{◌≡◌, ℕ, ◌+◌, ◌<◌, ◌≤◌, ◌^◌, List, [], ◌∷◌, ◌++◌, length, map, Bool, true, false, inl, inr, Option, Some, None, find, refl, sym, ap, subst, ◌∙◌, arith, length-append}
+use Rattle.std.specs.Prelude.{slice_get, bytes_eq, ◌&&◌, ◌||◌, if◌then◌else◌}
 use Rattle.std.specs.List.{Contains, flat_map, list_any, AllByRecursion}
 use Rattle.std.specs.Option.{option_map}
 use Rattle.std.proofs.lemmas.Bool.{or_cases, or_right, and_parts, eq-eqb, eqb-true}
-use Rattle.il_base.specs.declared.table.TheConstants as table
 use Rattle.il_base.specs.declared.body.Form.{Form}
 use Rattle.il_base.specs.declared.body.Form.TheVariants as form
 use Rattle.il_base.specs.declared.body.Operand.{Operand}
@@ -28,16 +27,16 @@ use Rattle.mark_rules.specs.Places.{method_item}
 use Rattle.mark_rules.specs.Bodies.{body_of, is_text_of}
 use Rattle.merge_rules.specs.Numbers.{kept_methods}
 use Rattle.merge_rules.specs.Refs.{Output, first_or}
-use Rattle.merge_rules.specs.Moved.{texts_named, texts_by, texts_of_body, texts_of_method, kept_texts, text_token, moved_text, moved_by_form, moved_operand, moved_instr, moved_body, moved_method_row}
-use Rattle.merge_rules.specs.Restricted.{each_at, put_rva, bodies_of, placed_methods, moved_methods, new_text}
+use Rattle.merge_rules.specs.Moved.{texts_named, texts_by, texts_of_body, texts_of_method, kept_texts, text_token, moved_text, moved_operand, moved_instr, moved_body, moved_method_row}
+use Rattle.merge_rules.specs.Restricted.{bodies_of, placed_methods, moved_methods, new_text}
 use Rattle.record_layout.specs.Laid.{users_of}
 use Rattle.written_tables.specs.Written.{IsIn, Once}
 use Rattle.written_tables.proofs.Once.{once_law}
 use Rattle.layout_laws.specs.Parts.{TextsFit}
 use Rattle.layout_laws.proofs.Lists.{mapped, of_mapped}
 use Rattle.layout_laws.proofs.TextsRead.{items_within}
-use Rattle.merged_record.proofs.Lists.{none_in, first_in, later_in, one_is, head_or, place_in, In, to_flat, from_flat, from_map, from_listed, to_listed, from_option, map_some, OfInput}
-use Rattle.merged_record.proofs.Rows.{OfPlace, from_places, from_kept}
+use Rattle.merged_record.proofs.Lists.{none_in, first_in, later_in, one_is, head_or, place_in, to_flat, from_flat, from_map, from_listed, to_listed, from_option, OfInput}
+use Rattle.merged_record.proofs.Rows.{from_places, from_kept}
 use Rattle.merged_record.proofs.Sizes.{left}
 use Rattle.merged_loads.proofs.Lists.{Every, to_place}
 use Rattle.merged_loads.proofs.FileRows.{UnitsFit}
@@ -221,21 +220,21 @@ module _ (o : Output) where
         item = l.at;
         there = l.listed;
         inside = to_flat (λ (rec : AsmRec). flat_map (λ (m : MethodDefRow). flat_map (texts_of_body rec) (body_of m)) (listed (slice_get rec.method_def l.at.row))) (listed (rec_at o.recs l.at)) u
-        (record {
-          item = l.rec;
-          there = to_listed (rec_at o.recs l.at) l.rec l.there;
-          inside = to_flat (λ (m : MethodDefRow). flat_map (texts_of_body l.rec) (body_of m)) (listed (slice_get l.rec.method_def l.at.row)) u
-          (record {
-            item = l.row;
-            there = to_listed (slice_get l.rec.method_def l.at.row) l.row l.is;
-            inside = to_flat (texts_of_body l.rec) (body_of l.row) u
             (record {
-              item = l.body;
-              there = to_bodies l.row.body l.body l.good;
-              inside = to_flat (λ (i : Instr). texts_by l.rec i.form i.operand) l.body.code u (record { item = l.instr; there = l.inside; inside = loaded_by l.rec l.instr.form l.instr.operand u l.loaded });
+              item = l.rec;
+              there = to_listed (rec_at o.recs l.at) l.rec l.there;
+              inside = to_flat (λ (m : MethodDefRow). flat_map (texts_of_body l.rec) (body_of m)) (listed (slice_get l.rec.method_def l.at.row)) u
+                  (record {
+                    item = l.row;
+                    there = to_listed (slice_get l.rec.method_def l.at.row) l.row l.is;
+                    inside = to_flat (texts_of_body l.rec) (body_of l.row) u
+                        (record {
+                          item = l.body;
+                          there = to_bodies l.row.body l.body l.good;
+                          inside = to_flat (λ (i : Instr). texts_by l.rec i.form i.operand) l.body.code u (record { item = l.instr; there = l.inside; inside = loaded_by l.rec l.instr.form l.instr.operand u l.loaded });
+                        });
+                  });
             });
-          });
-        });
       })
 
   -- ---- the methods that are left
@@ -247,11 +246,11 @@ module _ (o : Output) where
         item = l.at;
         there = l.listed;
         inside = to_flat (λ (rec : AsmRec). map (moved_method_row o l.at rec) (listed (slice_get rec.method_def l.at.row))) (listed (rec_at o.recs l.at)) (moved_method_row o l.at l.rec l.row)
-        (record {
-          item = l.rec;
-          there = to_listed (rec_at o.recs l.at) l.rec l.there;
-          inside = to_contains (moved_method_row o l.at l.rec) (listed (slice_get l.rec.method_def l.at.row)) l.row (to_listed (slice_get l.rec.method_def l.at.row) l.row l.is);
-        });
+            (record {
+              item = l.rec;
+              there = to_listed (rec_at o.recs l.at) l.rec l.there;
+              inside = to_contains (moved_method_row o l.at l.rec) (listed (slice_get l.rec.method_def l.at.row)) l.row (to_listed (slice_get l.rec.method_def l.at.row) l.row l.is);
+            });
       })
 
   text_loaded : (u : List ℕ) → Loads u → is_loaded (moved_methods o) (text_token o u) ≡ true
@@ -284,11 +283,12 @@ module _ (o : Output) where
 place_within : (written : List ℕ → List ℕ) (at : ℕ) (xs : List (List ℕ)) (x : List ℕ) → place_among written at xs x ≤ at + length (flat_map written xs)
 unfolding place_among
 place_within written at [] x = omega arith
-place_within written at (y ∷ ys) x = by_test (bytes_eq y x)
+place_within written at (y ∷ ys) x = by_test (bytes_eq y x) (place_within written (at + length (written y)) ys x)
   where
-    by_test : (b : Bool) → (if b then at else place_among written (at + length (written y)) ys x) ≤ at + length (written y ++ flat_map written ys)
-    by_test true = omega arith
-    by_test false = omega (arith, place_within written (at + length (written y)) ys x, length-append (written y) (flat_map written ys))
+    by_test : (b : Bool) → place_among written (at + length (written y)) ys x ≤ at + length (written y) + length (flat_map written ys)
+        → (if b then at else place_among written (at + length (written y)) ys x) ≤ at + length (written y ++ flat_map written ys)
+    by_test true le = omega arith
+    by_test false le = omega (arith, le, length-append (written y) (flat_map written ys))
 
 -- ---- all of it
 

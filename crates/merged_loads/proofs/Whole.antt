@@ -1,44 +1,42 @@
 -- What is left of files' records can be laid out.
-use Rattle.std.proofs.Common.{◌≡◌, ℕ, zero, suc, ◌%◌, ◌<◌, ◌≤◌, ◌^◌, List, [], ◌∷◌, ◌++◌, length, map, Bool, true, false, ◌⊎◌, inl, inr, Option, Some, None, refl, sym, ap, subst, ◌∙◌, arith, length-append}
-use Rattle.std.specs.Prelude.{slice_get, ◌==◌, position, if◌then◌else◌}
+use Rattle.std.proofs.Common.{◌≡◌, ℕ, suc, ◌<◌, ◌≤◌, ◌^◌, List, [], ◌∷◌, ◌++◌, length, map, Bool, true, false, ◌⊎◌, inl, inr, Option, Some, None, refl, sym, ap, subst, ◌∙◌, arith, length-append}
+use Rattle.std.specs.Prelude.{slice_get, ◌==◌, if◌then◌else◌}
 use Rattle.std.specs.List.{Contains}
 use Rattle.std.proofs.lemmas.List.{length-map}
 use Rattle.std.proofs.lemmas.Option.{none-some}
 use Rattle.il_base.specs.declared.table.TheConstants as table
-use Rattle.blob_grammar.specs.Laws.{AreBytes}
 use Rattle.world_model.specs.declared.types.GenericParamRow.{GenericParamRow}
 use Rattle.world_model.specs.declared.extras.FieldRvaRow.{FieldRvaRow}
 use Rattle.world_model.specs.declared.record.UserText.{UserText}
 use Rattle.world_model.specs.declared.record.AsmRec.{AsmRec}
 use Rattle.world_model.specs.Tokens.{table_of}
-use Rattle.world_model.specs.Records.{Each, rows_in, IsRecord}
+use Rattle.world_model.specs.Records.{Each, IsRecord}
 use Rattle.cli_format.specs.Columns.{columns_of, schema}
 use Rattle.core_table.specs.Record.{core_record, record_with}
 use Rattle.record_format.specs.Record.{HasRecord}
 use Rattle.file_layout.specs.Heaps.{users_heap}
 use Rattle.link_rules.specs.CoreNames.{missing_names, core_with}
 use Rattle.link_rules.specs.Linked.{assemblies}
-use Rattle.record_layout.specs.Laid.{users_of, laid}
 use Rattle.record_layout.specs.Limits.{limit_of}
-use Rattle.record_writer.specs.CanWrite.{CanWrite}
+use Rattle.merged_loads.specs.CanWrite.{CanWrite}
 use Rattle.layout_laws.specs.Parts.{DataFits}
 use Rattle.layout_laws.specs.OfFile.{IsKnown}
 use Rattle.layout_laws.specs.CanBeLaid.{HeaderFits, CanBeLaid}
 use Rattle.layout_laws.proofs.FileDemands.{at_end}
 use Rattle.merge_rules.specs.Numbers.{Kept, kept_types, kept_fields}
 use Rattle.merge_rules.specs.Keys.{MethodKey, own_method, found_method, absent_method, InstanceKey, method_key, instance_key}
-use Rattle.merge_rules.specs.Refs.{Output, row_token, kept_token, member_token, method_token, instance_token}
+use Rattle.merge_rules.specs.Refs.{Output, row_token, method_token, instance_token}
 use Rattle.merge_rules.specs.Moved.{kept_texts, token_or_none, moved_callee}
 use Rattle.merge_rules.specs.Restricted.{placed_methods, moved_methods, moved_assembly, new_text, restricted_by, output_of, restricted}
 use Rattle.merged_record.specs.Laws.{InputsAreRecords, NumbersFit, RowsFit}
 use Rattle.merged_record.proofs.Lists.{map_some, OfInput}
 use Rattle.merged_record.proofs.Sizes.{left, types, fields}
-use Rattle.merged_loads.specs.Laws.{IsOfFile, AreOfFiles, PartsStand, IsLeft, LeftCanBeLaid, FieldDataStays}
+use Rattle.merged_loads.specs.Laws.{AreOfFiles, PartsStand, IsLeft, LeftCanBeLaid, FieldDataStays}
 use Rattle.merged_loads.proofs.Header.{bits_small, bits_il_only, bits_not_native}
-use Rattle.merged_loads.proofs.Lists.{Every, to_place, option_holds, every_row, each_row_of}
+use Rattle.merged_loads.proofs.Lists.{Every, to_place, option_holds, each_row_of}
 use Rattle.merged_loads.proofs.FileRows.{FileFits, file_fits}
 use Rattle.merged_loads.proofs.Names.{Named, world_named}
-use Rattle.merged_loads.proofs.Met.{MetNamed, all_named}
+use Rattle.merged_loads.proofs.MetNames.{MetNamed, all_named}
 use Rattle.merged_loads.proofs.Limits.{rows_few, users_few}
 use Rattle.merged_loads.proofs.TextsStand.{texts_stand}
 use Rattle.merged_loads.proofs.Parts.{Values, signatures_fit, methods_fit}

@@ -1,7 +1,7 @@
 -- The members without a row that the output refers to have names of files' records.
-use Rattle.std.proofs.Common.{◌≡◌, ℕ, suc, List, [], ◌∷◌, ◌++◌, map, Bool, true, false, Option, Some, None, refl, subst}
-use Rattle.std.specs.Prelude.{slice_get, ◌==◌, ◌&&◌, ◌||◌, if◌then◌else◌}
-use Rattle.std.specs.List.{Contains, flat_map, filter, list_any}
+use Rattle.std.proofs.Common.{◌≡◌, ℕ, suc, List, [], ◌∷◌, ◌++◌, map, Bool, true, false, Option, Some, None, subst}
+use Rattle.std.specs.Prelude.{slice_get, ◌==◌, ◌||◌, if◌then◌else◌}
+use Rattle.std.specs.List.{Contains, flat_map, filter}
 use Rattle.std.specs.Option.{option_map, option_and_then}
 use Rattle.il_base.specs.declared.table.TheConstants.{TYPE_DEF, METHOD_DEF, MEMBER_REF, METHOD_SPEC, STAND_ALONE_SIG, GENERIC_PARAM}
 use Rattle.il_base.specs.declared.sig.Sig.{Sig}
@@ -26,31 +26,29 @@ use Rattle.world_model.specs.declared.members.MethodDefRow.{MethodDefRow}
 use Rattle.world_model.specs.declared.members.MemberRefRow.{MemberRefRow}
 use Rattle.world_model.specs.declared.members.MethodSpecRow.{MethodSpecRow}
 use Rattle.world_model.specs.declared.members.MethodImplRow.{MethodImplRow}
-use Rattle.world_model.specs.declared.members.StandAloneSigRow.{StandAloneSigRow}
 use Rattle.world_model.specs.declared.members.PropertyRow.{PropertyRow}
 use Rattle.world_model.specs.declared.members.EventRow.{EventRow}
-use Rattle.world_model.specs.declared.extras.CustomAttributeRow.{CustomAttributeRow}
 use Rattle.world_model.specs.declared.record.AsmRec.{AsmRec}
 use Rattle.world_model.specs.Tokens.{token_of, table_of, index_in}
 use Rattle.link_rules.specs.declared.row_at.RowAt.{RowAt}
 use Rattle.link_rules.specs.Types.{or_else}
 use Rattle.link_rules.specs.Cycles.{listed}
-use Rattle.type_rules.specs.Rows.{rec_at, each_row, methods_of_type, fields_of_type}
+use Rattle.type_rules.specs.Rows.{rec_at, each_row, methods_of_type}
 use Rattle.mark_rules.specs.Attributes.{ref_sig}
 use Rattle.mark_rules.specs.Bodies.{body_of, is_field_token, is_method_token, is_catch}
 use Rattle.mark_rules.specs.Naming.{method_named}
-use Rattle.mark_rules.specs.Places.{method_item, field_item, prop_item, event_item, impl_item}
+use Rattle.mark_rules.specs.Places.{method_item}
 use Rattle.merge_rules.specs.Numbers.{Kept, kept_types}
 use Rattle.merge_rules.specs.Keys.{TypeKey, MethodKey, own_method, found_method, absent_method, FieldKey, own_field, found_field, InstanceKey, good, world_sig, world_sigs, world_method_sig, is_plain_owner, method_key_of, method_key, field_key, instance_by, instance_key, type_key}
 use Rattle.merge_rules.specs.Order.{Met, met_type, met_sig, met_method, met_field, met_instance, met_locals, met_types, met_token, met_good_sig, met_method_sig, met_callee, met_field_token, met_any, met_by_form, met_operand, met_locals_row, met_locals_token, met_body, met_method_row, met_field_row, met_property_row, met_event_row, met_constraint, met_param, met_constraints, is_impl_of, met_impls, met_extends, met_interface, met_interfaces, those, met_in_type, met_by_types}
 use Rattle.merge_rules.specs.Attributes.{Attribute, is_copied, absent_constructor, copied_constructor, is_in_input, constructor_key, attribute_with, attribute_in, kept_attributes, met_by_attributes}
 use Rattle.merge_rules.specs.Rows.{all_rows, kept_row_token}
 use Rattle.merge_rules.specs.Restricted.{output_of}
-use Rattle.merge_rules.specs.Refs.{Output, MemberKey, a_method, a_field, an_absent, same_member, member_of_method, member_of_field, members_of_met, member_refs}
+use Rattle.merge_rules.specs.Refs.{MemberKey, a_method, a_field, an_absent, same_member, member_of_method, member_of_field, members_of_met, member_refs}
 use Rattle.written_tables.specs.Written.{IsText}
 use Rattle.merged_record.proofs.Lists.{place_in, and_then_some, map_some, from_all}
 use Rattle.merged_record.proofs.Sorting.{sorted_in}
-use Rattle.merged_loads.proofs.Lists.{Every, every_none, every_one, every_join, every_flat, every_map, every_if, every_option, every_listed, every_each, every_once}
+use Rattle.merged_loads.proofs.Lists.{Every, every_none, every_one, every_join, every_flat, every_map, every_if, every_listed, every_each, every_once}
 use Rattle.merged_loads.proofs.Names.{Named}
 
 -- one that names nothing has a name that is a text

@@ -1,0 +1,17 @@
+-- Which records can be written: each signature and body that has a reading has a spelling.
+use Rattle.std.specs.Prelude.{All, Option, Some, None}
+use Rattle.il_base.specs.declared.body.Body.{Body}
+use Rattle.body_grammar.specs.BodySpelling.{HasSpelling}
+use Rattle.world_model.specs.declared.known.Known.{Known}
+use Rattle.world_model.specs.declared.known.Known.TheVariants.{Good, Bad}
+use Rattle.world_model.specs.declared.record.AsmRec.{AsmRec}
+use Rattle.row_writer.specs.CanWrite.{CanWriteRows}
+
+abbrev pub HasBody : Option (Known Body) → Type 0
+HasBody None = Unit {0}
+HasBody (Some (Good b)) = HasSpelling b
+HasBody (Some (Bad why)) = Unit {0}
+
+pub record CanWrite (rec : AsmRec) : Type 0 where
+  pub rows : CanWriteRows rec
+  pub bodies : All (λ m. HasBody m.body) rec.method_def
