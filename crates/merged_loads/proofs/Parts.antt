@@ -24,7 +24,7 @@ use Rattle.world_model.specs.declared.record.AsmRec.{AsmRec}
 use Rattle.world_model.specs.Records.{Each}
 use Rattle.link_rules.specs.Cycles.{listed}
 use Rattle.row_writer.specs.CanWrite.{HasSpelling, HasMemberSpelling}
-use Rattle.merged_loads.specs.CanWrite.{HasBody, CanWrite}
+use Rattle.record_writer.specs.CanWrite.{HasBody, CanWrite}
 use Rattle.layout_laws.specs.Parts.{IsGood, FitsMember, SignaturesFit, FitsBody, MethodFits}
 use Rattle.layout_laws.specs.OfFile.{IsKnown, HasReading}
 use Rattle.merge_rules.specs.Numbers.{kept_methods}

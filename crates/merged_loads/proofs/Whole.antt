@@ -18,7 +18,7 @@ use Rattle.file_layout.specs.Heaps.{users_heap}
 use Rattle.link_rules.specs.CoreNames.{missing_names, core_with}
 use Rattle.link_rules.specs.Linked.{assemblies}
 use Rattle.record_layout.specs.Limits.{limit_of}
-use Rattle.merged_loads.specs.CanWrite.{CanWrite}
+use Rattle.record_writer.specs.CanWrite.{CanWrite}
 use Rattle.layout_laws.specs.Parts.{DataFits}
 use Rattle.layout_laws.specs.OfFile.{IsKnown}
 use Rattle.layout_laws.specs.CanBeLaid.{HeaderFits, CanBeLaid}

@@ -15,7 +15,7 @@ use Rattle.link_rules.specs.Linked.{assemblies}
 use Rattle.mark_rules.specs.Places.{type_item}
 use Rattle.record_layout.specs.Laid.{laid}
 use Rattle.record_layout.specs.Limits.{limit_of}
-use Rattle.merged_loads.specs.CanWrite.{CanWrite}
+use Rattle.record_writer.specs.CanWrite.{CanWrite}
 use Rattle.layout_laws.specs.Parts.{DataFits}
 use Rattle.layout_laws.specs.OfFile.{IsKnown, HasReading}
 use Rattle.layout_laws.specs.CanBeLaid.{CanBeLaid}
