@@ -1,0 +1,45 @@
+-- A merge: the inputs, the kept items, and the record that is left of them (`merge_rules/specs/Restricted`). Assemblies are counted
+-- from 0; the core library is the last assembly of both worlds.
+use Rattle.std.specs.Prelude.{◌≡◌, ◌<◌, ℕ, List, [], ◌∷◌, ◌++◌, length, Some, None, slice_get, Bool}
+use Rattle.world_model.specs.declared.record.AsmRec.{AsmRec}
+use Rattle.world_model.specs.Records.{IsRecord, rows_in}
+use Rattle.core_table.specs.Record.{core_record}
+use Rattle.link_rules.specs.CoreNames.{missing_names}
+use Rattle.link_rules.specs.Linked.{assemblies, link_fault_of}
+use Rattle.merge_rules.specs.Numbers.{Kept}
+use Rattle.merge_rules.specs.Refs.{Output}
+use Rattle.merge_rules.specs.Restricted.{restricted, output_of}
+
+pub record Merge : Type 0 where
+  pub inputs : List AsmRec
+  -- whether public types of later inputs become internal
+  pub internal : Bool
+  pub kept : Kept
+  pub left : AsmRec
+
+-- the world of the inputs
+abbrev pub before : Merge → List AsmRec
+before m = assemblies m.inputs
+
+-- the world of what is left alone
+abbrev pub after : Merge → List AsmRec
+after m = assemblies (m.left ∷ [])
+
+-- what the output refers to
+abbrev pub output : Merge → Output
+output m = output_of (before m) m.kept
+
+-- tokens have three bytes for a row (II.22)
+abbrev pub HasFewRows : AsmRec → Type 0
+HasFewRows rec = (t : ℕ) → rows_in rec t < 16777216
+
+-- The record is what is left of inputs that are records and link, of which there is one. Modifiers find the same names in both worlds
+-- that the core library lacks, as they do where they use none (II.7.1.1).
+pub record IsMerge (m : Merge) : Type 0 where
+  pub some : 0 < length m.inputs
+  pub restricts : restricted m.internal (before m) m.kept ≡ Some m.left
+  pub records : (a : ℕ) (rec : AsmRec) → slice_get m.inputs a ≡ Some rec → IsRecord rec
+  pub links : link_fault_of m.inputs ≡ None
+  pub few_inputs : (a : ℕ) (rec : AsmRec) → slice_get m.inputs a ≡ Some rec → HasFewRows rec
+  pub few : HasFewRows m.left
+  pub names : missing_names (m.left ∷ core_record ∷ []) ≡ missing_names (m.inputs ++ core_record ∷ [])
