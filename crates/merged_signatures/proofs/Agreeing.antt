@@ -133,7 +133,7 @@ module _ (internal : Bool) (inputs : List AsmRec) (names : List CoreTypeName) (k
     added_number : type_id world 1 d.at.row ≡ move_type r t
     unfolding rows_before
     added_number =
-        let new : r.typ t.0 ≡ length left.type_def + d.at.row = core_new internal inputs names kept mets left p r number t d.at added_home d.last in
+        let new : r.typ t.0 ≡ length left.type_def + d.at.row = ap (λ (u : TypeId). r.typ u.0) (sym d.is) ∙ core_new internal inputs names kept mets left p r number t d.at added_home d.last in
         ap (λ (k : ℕ). record { 0 = k }) (omega (arith, new))
 
     added_moved : Has t → added_by world 0 left (type_token (joined.o internal inputs names kept mets left) t) ≡ Some (move_type r t)
@@ -161,7 +161,7 @@ module _ (internal : Bool) (inputs : List AsmRec) (names : List CoreTypeName) (k
     named token e f =
         let d = defines recs a rec token e f in
         let k = key_of internal inputs names kept mets left p r number d.at (stand token d.at d.is) in
-        record { at = d.at; gives = d.gives; key = k; class = class_by token e k.t.0 f (ap (λ (x : TypeExpr). number_of recs (Good x)) (sym d.gives) ∙ k.number) }
+        record { at = d.at; gives = d.gives; key = k; class = class_by token e k.t.0 f (ap (λ (x : TypeExpr). number_of recs (Good x)) (sym d.gives) ∙ k.numbered) }
 
     token_by : (n : ℕ) (t : TypeId) → n ≡ suc t.0 → number_token (joined.o internal inputs names kept mets left) n ≡ type_token (joined.o internal inputs names kept mets left) t
     token_by n t e = ap (number_token (joined.o internal inputs names kept mets left)) e
@@ -172,7 +172,7 @@ module _ (internal : Bool) (inputs : List AsmRec) (names : List CoreTypeName) (k
         let n = named token e (named_good recs a rec token e f) in
         let t : TypeId = n.key.t in
         ap (named_in (names_at world 0 left).types) (token_by (class_number recs a rec token) t n.class)
-        ∙ good_named world 0 left (type_token (joined.o internal inputs names kept mets left) t) (move_expr r (definition_expr recs n.at)) (n.key.names (w t n.class))
+        ∙ good_named world 0 left (type_token (joined.o internal inputs names kept mets left) t) (move_expr r (definition_expr recs n.at)) (n.key.token_names (w t n.class))
         ∙ ap (λ (x : TypeExpr). Good (move_expr r x)) n.gives
 
     same_type : (x y : TypeId) (k : Known TypeId) → k ≡ Good x → k ≡ Good y → x ≡ y

@@ -139,9 +139,9 @@ module _ (internal : Bool) (inputs : List AsmRec) (names : List CoreTypeName) (k
   -- the number of a definition, and what its token names
   pub record Key (at : RowAt) : Type 0 where
     pub t : TypeId
-    pub number : number_of recs (Good (definition_expr recs at)) ≡ suc t.0
+    pub numbered : number_of recs (Good (definition_expr recs at)) ≡ suc t.0
     pub defined : definition_of (prim_type recs) (definition_expr recs at) ≡ Good t
-    pub names : HasType t → named_type world 0 left (type_token o t) ≡ Good (move_expr r (definition_expr recs at))
+    pub token_names : HasType t → named_type world 0 left (type_token o t) ≡ Good (move_expr r (definition_expr recs at))
     pub moved : definition_of (prim_type world) (move_expr r (definition_expr recs at)) ≡ Good (move_type r t)
     pub none : HasType t → added_by world 0 left (type_token o t) ≡ None
 
@@ -160,9 +160,9 @@ module _ (internal : Bool) (inputs : List AsmRec) (names : List CoreTypeName) (k
         let home : type_home recs t ≡ Some at = home_of_row at n.stands.rec n.stands.there n.stands.below in
         record {
           t = t;
-          number = ap (λ (x : TypeExpr). number_of recs (Good x)) is ∙ def_number recs t;
+          numbered = ap (λ (x : TypeExpr). number_of recs (Good x)) is ∙ def_number recs t;
           defined = ap (definition_of (prim_type recs)) is ∙ def_defined (prim_type recs) t;
-          names = has_named t at home n.listed;
+          token_names = has_named t at home n.listed;
           moved = ap (λ (x : TypeExpr). definition_of (prim_type world) (move_expr r x)) is ∙ ap (definition_of (prim_type world)) (move_def r t) ∙ def_defined (prim_type world) (move_type r t);
           none = has_not_added t at home n.listed;
         }
@@ -232,9 +232,9 @@ module _ (internal : Bool) (inputs : List AsmRec) (names : List CoreTypeName) (k
     prim_key : Key at
     prim_key = record {
       t = first_type;
-      number = ap (λ (x : TypeExpr). number_of recs (Good x)) (prim_is at n e) ∙ prim_number recs n first_type prim_before;
+      numbered = ap (λ (x : TypeExpr). number_of recs (Good x)) (prim_is at n e) ∙ prim_number recs n first_type prim_before;
       defined = ap (definition_of (prim_type recs)) (prim_is at n e) ∙ prim_defined (prim_type recs) n first_type prim_before;
-      names = λ h. has_named first_type first_at first_home first_listed h ∙ ap (λ (x : TypeExpr). Good (move_expr r x)) (prim_is first_at n first_prim ∙ sym (prim_is at n e));
+      token_names = λ h. has_named first_type first_at first_home first_listed h ∙ ap (λ (x : TypeExpr). Good (move_expr r x)) (prim_is first_at n first_prim ∙ sym (prim_is at n e));
       moved = ap (λ (x : TypeExpr). definition_of (prim_type world) (move_expr r x)) (prim_is at n e) ∙ ap (definition_of (prim_type world)) (move_prim r n)
           ∙ prim_defined (prim_type world) n (type_id world 1 place.index) prim_after ∙ ap Good moved_number;
       none = has_not_added first_type first_at first_home first_listed;

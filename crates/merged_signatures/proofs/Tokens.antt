@@ -72,7 +72,7 @@ module _ (m : Merge) (is : IsMerge m) (rows : HasReferenceRows m) where
     unfolding table_sizes
     low =
         let few : length m.left.type_spec < 16777216 = is.few 0x1b in
-        let n : length m.left.type_spec ≡ length (type_specs (before m) (output m).mets) = ap length specs_are ∙ length-map _ (type_specs (before m) (output m).mets) in
+        let n : length m.left.type_spec ≡ length (type_specs (before m) (output m).mets) = ap length specs_are ∙ length-map (type_specs (before m) (output m).mets) _ in
         let lt = place.below in
         omega (arith, few, n, lt)
 
@@ -122,7 +122,7 @@ module _ (m : Merge) (is : IsMerge m) (rows : HasReferenceRows m) where
         let k = other_key t b n.class in
         let w = (met (named t) k).1 t (contains (t ∷ []) t (inl refl)) in
         ap (token_type here 0 m.left) (by_key (named t) k ∙ named_token t)
-        ∙ good_token here 0 m.left (type_token (output m) t) (move_expr (rho_of m) (definition_expr (before m) n.at)) (n.key.names (has m is rows t w))
+        ∙ good_token here 0 m.left (type_token (output m) t) (move_expr (rho_of m) (definition_expr (before m) n.at)) (n.key.token_names (has m is rows t w))
         ∙ ap (λ (x : TypeExpr). Good (move_expr (rho_of m) x)) n.gives
 
     -- ---- a TypeSpec token
