@@ -3,9 +3,7 @@
 use Rattle.std.proofs.Common.{◌≡◌, ◌<◌, ◌+◌, ℕ, zero, suc, List, [], ◌∷◌, ◌++◌, length, map, Bool, true, false, Option, Some, None, refl, sym, ap, ◌∙◌, ◌&&◌, arith, eqb-true}
 use Rattle.std.specs.Prelude.{slice_get, ◌==◌}
 use Rattle.std.proofs.lemmas.Bool.{and_parts}
-use Rattle.std.proofs.lemmas.List.{length-append}
 use Rattle.world_model.specs.declared.types.TypeDefRow.{TypeDefRow}
-use Rattle.world_model.specs.declared.types.NestedClassRow.{NestedClassRow}
 use Rattle.world_model.specs.declared.record.AsmRec.{AsmRec}
 use Rattle.world_model.specs.Tokens.{token_of}
 use Rattle.core_table.specs.declared.types.TheConstants.{TYPE_COUNT}
@@ -57,7 +55,7 @@ module _ (names : List CoreTypeName) where
   unfolding core_with
   rows_are = refl
 
-  count : length core_record.type_def ≡ TYPE_COUNT
+  pub count : length core_record.type_def ≡ TYPE_COUNT
   unfolding core_record record_with type_rows
   count = refl
 

@@ -14,7 +14,7 @@ use Rattle.core_table.specs.declared.types.TheConstants.{TYPE_COUNT}
 use Rattle.link_rules.specs.declared.row_at.RowAt.{RowAt}
 use Rattle.type_laws.proofs.Places.{place_within}
 use Rattle.merged_references.proofs.Scopes.{names_decide}
-use Rattle.link_rules.specs.Types.{or_else, at_row, assembly_at, same_place, encloser, type_from, type_in, forwarded_to, top_type, nested_type, type_of_scope, ref_type_by, ref_type, ref_at, is_added, listed_at, added_at, ref_definition, added_type, definition_at, added_by}
+use Rattle.link_rules.specs.Types.{or_else, at_row, assembly_at, same_place, encloser, type_from, type_in, forwarded_to, top_type, nested_type, ref_type_by, ref_type, ref_at, is_added, listed_at, added_at, ref_definition, added_type, definition_at, added_by}
 
 -- ---- by cases on options
 

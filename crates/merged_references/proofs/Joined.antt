@@ -1,41 +1,40 @@
 -- What is known of an output, and so what the tokens of its types name.
-use Rattle.std.proofs.Common.{◌≡◌, ◌<◌, ◌≤◌, ◌+◌, ℕ, zero, suc, List, [], ◌∷◌, ◌++◌, length, Bool, true, false, Option, Some, None, inl, inr, refl, sym, ap, subst, ◌∙◌, arith}
-use Rattle.std.specs.Prelude.{slice_get, position, if◌then◌else◌}
-use Rattle.std.specs.List.{flat_map, filter, list_any}
+use Rattle.std.proofs.Common.{◌≡◌, ◌<◌, ◌≤◌, ◌+◌, ◌-◌, ℕ, zero, suc, List, [], ◌∷◌, length, Bool, true, Some, None, inl, inr, refl, sym, ap, subst, ◌∙◌, arith}
+use Rattle.std.specs.Prelude.{slice_get, if◌then◌else◌}
+use Rattle.std.specs.List.{flat_map, filter}
 use Rattle.std.proofs.lemmas.List.Quantifiers.{position-Some}
-use Rattle.std.proofs.lemmas.Bool.{or_right, eq-eqb}
+use Rattle.std.specs.Option.{option_map, option_and_then}
+use Rattle.std.proofs.lemmas.Bool.{lt-ltb, eq-eqb}
 use Rattle.il_base.specs.declared.ids.TypeId.{TypeId}
-use Rattle.il_base.specs.declared.ids.Item.TheVariants as item
 use Rattle.world_model.specs.declared.known.Known.TheVariants.{Good}
 use Rattle.world_model.specs.declared.types.TypeDefRow.{TypeDefRow}
 use Rattle.world_model.specs.declared.types.TypeRefRow.{TypeRefRow}
 use Rattle.world_model.specs.declared.record.AsmRec.{AsmRec}
 use Rattle.world_model.specs.Records.{table_sizes, rows_in}
-use Rattle.world_model.specs.Worlds.{types_in, type_id}
+use Rattle.world_model.specs.Worlds.{types_in, type_id, prim_of}
 use Rattle.core_table.specs.declared.types.TheConstants.{TYPE_COUNT}
 use Rattle.core_table.specs.Record.{core_record}
 use Rattle.link_rules.specs.declared.row_at.RowAt.{RowAt}
 use Rattle.link_rules.specs.declared.core_type_name.CoreTypeName.{CoreTypeName}
-use Rattle.link_rules.specs.CoreNames.{core_with}
-use Rattle.link_rules.specs.Types.{at_row, type_in, added_by}
+use Rattle.link_rules.specs.Types.{type_in, added_by}
 use Rattle.link_rules.specs.Signatures.{definition_expr, known_expr, named_type}
 use Rattle.link_rules.specs.Members.{type_home}
 use Rattle.link_rules.specs.Faults.{link_fault}
 use Rattle.link_rules.specs.Cycles.{listed, same_row}
 use Rattle.type_laws.proofs.Within.{In, in_behind, flat_in}
-use Rattle.type_laws.proofs.Places.{home_is_type, place_has}
-use Rattle.mark_rules.specs.Places.{type_item}
+use Rattle.type_laws.proofs.Places.{home_is_type}
 use Rattle.merge_rules.specs.Numbers.{Kept, kept_types, new_row}
 use Rattle.merge_rules.specs.Order.{Met}
 use Rattle.merge_rules.specs.Refs.{Output, same_id, is_reference, types_of_met, scope_type, with_scopes, most_scopes, type_refs, type_ref_row, type_token}
 use Rattle.change_rules.specs.Change.{Rho}
 use Rattle.change_rules.specs.Moves.{move_expr}
 use Rattle.world_change_rules.specs.Places.{type_number}
-use Rattle.merged_world_rules.specs.NewNumbers.{new_number}
+use Rattle.merged_world_rules.specs.Numbering.{CoreRows, new_number}
+use Rattle.merged_world_rules.specs.NewNumbers.{place_of_name, core_rows}
 use Rattle.merged_references.proofs.Lists.{Placed, has_place}
 use Rattle.merged_references.proofs.Left.{IsLeft, left_refs, left_assemblies}
-use Rattle.merged_references.proofs.Core.{found_by_name, in_table}
-use Rattle.merged_references.proofs.Kept.{IsRow, behind_if, kept_placed}
+use Rattle.merged_references.proofs.Core.{count, found_by_name, table_row, in_table}
+use Rattle.merged_references.proofs.Kept.{behind_if}
 use Rattle.merged_references.proofs.Rows as rows
 use Rattle.merged_references.proofs.Rows.{IsCoreType, is_core_type}
 use Rattle.merged_references.proofs.Named.{ids_decide, Writes, core_definition, added_definition, none_added, own_definition, own_not_added, referred}
@@ -70,7 +69,7 @@ met_referred recs mets x t h g r =
 
 -- ---- an output of inputs that link
 
-module _ (internal : Bool) (inputs : List AsmRec) (names : List CoreTypeName) (kept : Kept) (mets : List Met) (left : AsmRec) where
+module _ (internal : Bool) (inputs : List AsmRec) (names those : List CoreTypeName) (kept : Kept) (mets : List Met) (left : AsmRec) where
   abbrev pub core : AsmRec
   core = rows.core inputs names
 
@@ -80,8 +79,16 @@ module _ (internal : Bool) (inputs : List AsmRec) (names : List CoreTypeName) (k
   abbrev pub o : Output
   o = record { recs = recs; kept = kept; mets = mets }
 
+  -- the core library of the output's world
+  abbrev pub core_after : AsmRec
+  core_after = rows.core inputs those
+
   abbrev pub world : List AsmRec
-  world = left ∷ core ∷ []
+  world = left ∷ core_after ∷ []
+
+  -- what rows of the core library become
+  abbrev pub core_to : CoreRows
+  core_to = core_rows (length core_record.type_def) names those
 
   pub record Premises : Type 0 where
     pub is : IsLeft internal o left
@@ -104,7 +111,7 @@ module _ (internal : Bool) (inputs : List AsmRec) (names : List CoreTypeName) (k
       one = p.one;
     }
 
-    module _ (r : Rho) (number : (n : ℕ) → r.typ n ≡ new_number types_in recs (kept_types recs kept) n) (t : TypeId) (at : RowAt) (home : type_home recs t ≡ Some at) where
+    module _ (r : Rho) (number : (n : ℕ) → r.typ n ≡ new_number types_in core_to recs (kept_types recs kept) n) (t : TypeId) (at : RowAt) (home : type_home recs t ≡ Some at) where
       pub new_below : (k : ℕ) → new_row (kept_types recs kept) at ≡ Some k → k < length left.type_def
       new_below k e =
           let lt = (position-Some (same_row at) (kept_types recs kept) k at e).0 in
@@ -114,16 +121,16 @@ module _ (internal : Bool) (inputs : List AsmRec) (names : List CoreTypeName) (k
       pub input_named : suc at.asm < length recs → (k : ℕ) → new_row (kept_types recs kept) at ≡ Some k → named_type world 0 left (type_token o t) ≡ Good (move_expr r (definition_expr recs at))
       unfolding named_type
       input_named lt k new =
-          ap (known_expr world) (own_definition inputs names kept mets left writes t at home lt k new (new_below k new))
-          ∙ ap Good (input_moved inputs core left r at k lt (number (type_number recs at) ∙ kept_number recs (kept_types recs kept) (type_number recs at) at (home_is_type recs t at home) k new))
+          ap (known_expr world) (own_definition inputs names those kept mets left writes t at home lt k new (new_below k new))
+          ∙ ap Good (input_moved inputs core core_after left r at k lt (number (type_number recs at) ∙ kept_number core_to recs (kept_types recs kept) (type_number recs at) at (home_is_type recs t at home) k new))
 
       before : (x : RowAt) → In x (kept_types recs kept) → suc x.asm < length recs
       before x h = (types_stand recs kept x h).before
 
-      pub core_new : suc at.asm ≡ length recs → r.typ (type_number recs at) ≡ length left.type_def + at.row
-      core_new last =
-          let n : new_number types_in recs (kept_types recs kept) (type_number recs at) ≡ length (kept_types recs kept) + at.row =
-          core_number recs (kept_types recs kept) (type_number recs at) at (home_is_type recs t at home) before last in
+      pub core_new : suc at.asm ≡ length recs → (s : ℕ) → core_to.to at.row ≡ Some s → r.typ (type_number recs at) ≡ length left.type_def + s
+      core_new last s to =
+          let n : new_number types_in core_to recs (kept_types recs kept) (type_number recs at) ≡ length (kept_types recs kept) + s =
+          core_number core_to recs (kept_types recs kept) (type_number recs at) at (home_is_type recs t at home) before last s to in
           let m = number (type_number recs at) in
           let same = types_count internal o left p.is in
           omega (arith, m, n, same)
@@ -132,36 +139,49 @@ module _ (internal : Bool) (inputs : List AsmRec) (names : List CoreTypeName) (k
       same_row_of k x y e f = let g : Some x ≡ Some y = sym e ∙ f in cc
 
       pub input_not_added : suc at.asm < length recs → (k : ℕ) → new_row (kept_types recs kept) at ≡ Some k → added_by world 0 left (type_token o t) ≡ None
-      input_not_added lt k new = own_not_added inputs names kept mets left writes t at home lt k new (new_below k new)
+      input_not_added lt k new = own_not_added inputs names those kept mets left writes t at home lt k new (new_below k new)
 
       module _ (last : suc at.asm ≡ length recs) (h : In t (type_refs recs mets)) where
         abbrev c : IsCoreType inputs names t at
         c = is_core_type inputs names t at home last
 
-        table_first : at.row < TYPE_COUNT → type_in core None c.row.namespace c.row.name ≡ Some at.row
-        table_first lt =
-            let i = in_table names at.row lt in
-            let same : i.row ≡ c.row = same_row_of at.row i.row c.row i.here c.there in
-            subst (λ (x : TypeDefRow). type_in core None x.namespace x.name ≡ Some at.row) same (found_by_name names at.row i.row i.there)
+        -- a row of the table
+        module _ (lt : at.row < TYPE_COUNT) where
+          own_row : slice_get core_record.type_def at.row ≡ Some c.row
+          own_row =
+              let i = in_table names at.row lt in
+              i.there ∙ ap (λ (x : TypeDefRow). Some x) (same_row_of at.row i.row c.row i.here c.there)
+
+          table_first : type_in core_after None c.row.namespace c.row.name ≡ Some at.row
+          table_first = found_by_name those at.row c.row own_row
+
+          table_to : core_to.to at.row ≡ Some at.row
+          table_to =
+              let n = count names in
+              ap (λ (b : Bool). if b then Some at.row else option_map (λ j. length core_record.type_def + j) (option_and_then (place_of_name those) (slice_get names (at.row - length core_record.type_def))))
+              (lt-ltb at.row (length core_record.type_def) (omega (arith, lt, n)))
+
+          same_prim : option_and_then prim_of (slice_get core_after.type_def at.row) ≡ option_and_then prim_of (slice_get core.type_def at.row)
+          same_prim = ap (option_and_then prim_of) (table_row those at.row c.row own_row ∙ sym c.there)
 
         pub core_named : at.row < TYPE_COUNT → named_type world 0 left (type_token o t) ≡ Good (move_expr r (definition_expr recs at))
         unfolding named_type
         core_named lt =
-            ap (known_expr world) (core_definition inputs names kept mets left writes t at c h (table_first lt) lt)
-            ∙ ap Good (core_moved inputs core left r at last (core_new last))
+            ap (known_expr world) (core_definition inputs names those kept mets left writes t at c h at.row (table_first lt) lt)
+            ∙ ap Good (core_moved inputs core core_after left r at last at.row (same_prim lt) (core_new last at.row (table_to lt)))
 
         pub core_not_added : at.row < TYPE_COUNT → added_by world 0 left (type_token o t) ≡ None
-        core_not_added lt = none_added inputs names kept mets left writes t at c h (table_first lt) lt
+        core_not_added lt = none_added inputs names those kept mets left writes t at c h at.row (table_first lt) lt
 
-        -- a name that modifiers alone find, where it is the first of its name
-        pub added_named : TYPE_COUNT ≤ at.row → (row : TypeDefRow) → slice_get core.type_def at.row ≡ Some row → type_in core None row.namespace row.name ≡ Some at.row
-            → added_by world 0 left (type_token o t) ≡ Some (type_id world 1 at.row)
-        added_named le row there first =
-            added_definition inputs names kept mets left writes t at c h
-            (subst (λ (x : TypeDefRow). type_in core None x.namespace x.name ≡ Some at.row) (same_row_of at.row row c.row there c.there) first) le
+        -- a name that modifiers alone find, where the output's world has it, and it is the first of its name there
+        pub added_named : (k : ℕ) → TYPE_COUNT ≤ k → (row : TypeDefRow) → slice_get core.type_def at.row ≡ Some row → type_in core_after None row.namespace row.name ≡ Some k
+            → added_by world 0 left (type_token o t) ≡ Some (type_id world 1 k)
+        added_named k le row there first =
+            added_definition inputs names those kept mets left writes t at c h k
+            (subst (λ (x : TypeDefRow). type_in core_after None x.namespace x.name ≡ Some k) (same_row_of at.row row c.row there c.there) first) le
 
     -- ---- what is met is written
 
     module _ (t : TypeId) (at : RowAt) (home : type_home recs t ≡ Some at) where
       pub core_met : (x : Met) → suc at.asm ≡ length recs → In x mets → In t (types_of_met recs x) → In t (type_refs recs mets)
-      core_met x last h g = met_referred recs mets x t h g (referred inputs names kept mets left writes t at (is_core_type inputs names t at home last))
+      core_met x last h g = met_referred recs mets x t h g (referred inputs names those kept mets left writes t at (is_core_type inputs names t at home last))

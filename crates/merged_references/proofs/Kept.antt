@@ -1,17 +1,16 @@
 -- Kept rows of inputs: each stands in its table, and has one row in the output.
-use Rattle.std.proofs.Common.{◌≡◌, ◌<◌, ◌+◌, ◌-◌, ℕ, zero, suc, List, [], ◌∷◌, ◌++◌, length, map, Bool, true, false, Option, Some, None, ◌⊎◌, inl, inr, refl, sym, ap, subst, ◌∙◌, arith}
-use Rattle.std.specs.Prelude.{slice_get, position, nat_lt, IsTrue, if◌then◌else◌}
-use Rattle.std.specs.List.{flat_map, filter, list_any, range_with_len}
-use Rattle.std.proofs.lemmas.Bool.{lt-ltb}
+use Rattle.std.proofs.Common.{◌≡◌, ◌<◌, ◌+◌, ℕ, zero, suc, List, [], ◌∷◌, ◌++◌, length, map, Bool, true, false, Option, Some, inl, inr, sym, ap, subst, ◌∙◌, arith}
+use Rattle.std.specs.Prelude.{slice_get, if◌then◌else◌}
+use Rattle.std.specs.List.{flat_map, filter, range_with_len}
 use Rattle.il_base.specs.declared.ids.Item.{Item}
 use Rattle.world_model.specs.declared.record.AsmRec.{AsmRec}
 use Rattle.link_rules.specs.declared.row_at.RowAt.{RowAt}
 use Rattle.link_rules.specs.Types.{at_row}
 use Rattle.link_rules.specs.Cycles.{listed, same_row}
 use Rattle.type_rules.specs.Rows.{rec_at}
-use Rattle.type_laws.proofs.Within.{In, in_front, in_behind, in_flat, flat_in, in_map, in_filter, any_in}
+use Rattle.type_laws.proofs.Within.{In, in_flat, flat_in, in_map, in_filter, any_in}
 use Rattle.type_laws.proofs.Places.{rows_decide, place_has}
-use Rattle.merge_rules.specs.Numbers.{Kept, inputs_from, inputs, rows_of_kind, kept_rows, new_row}
+use Rattle.merge_rules.specs.Numbers.{Kept, inputs_from, inputs, rows_of_kind, kept_rows}
 use Rattle.merge_rules.specs.Restricted.{each_at}
 use Rattle.merged_references.proofs.Lists.{Placed, placed, single_at, single_length}
 

@@ -1,9 +1,7 @@
 -- The tables of a restricted record that references are looked up in.
-use Rattle.std.proofs.Common.{◌≡◌, List, [], map, Option, Some, None, Bool, refl, sym, ap, ◌∙◌}
+use Rattle.std.proofs.Common.{◌≡◌, List, map, Option, Some, None, Bool, refl, ap}
 use Rattle.std.specs.Prelude.{slice_get}
 use Rattle.std.specs.Option.{option_map}
-use Rattle.world_model.specs.declared.types.TypeRefRow.{TypeRefRow}
-use Rattle.world_model.specs.declared.members.MethodDefRow.{MethodDefRow}
 use Rattle.world_model.specs.declared.record.AsmRec.{AsmRec}
 use Rattle.merge_rules.specs.Numbers.{Kept, kept_types, kept_fields}
 use Rattle.merge_rules.specs.Refs.{Output, type_ref_rows, type_spec_rows, member_ref_rows, method_spec_rows, locals_rows, assembly_refs}

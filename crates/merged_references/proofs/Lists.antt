@@ -3,7 +3,6 @@ use Rattle.std.proofs.Common.{◌≡◌, ◌<◌, ℕ, zero, suc, ◌+◌, List,
 use Rattle.std.specs.Prelude.{slice_get, position, nat_lt, Contains, if◌then◌else◌}
 use Rattle.std.specs.List.{list_any, flat_map, position_or_len}
 use Rattle.std.proofs.lemmas.Bool.{lt-ltb, or_left, or_right}
-use Rattle.std.proofs.lemmas.List.{length-append}
 use Rattle.std.proofs.lemmas.List.Folds.{list_any-append}
 use Rattle.type_rules.specs.Rows.{each_from}
 use Rattle.merge_rules.specs.Refs.{met_once, all_once, each_once}

@@ -1,6 +1,6 @@
 -- What the token of a type names in the world of the output: a kept type of an input, its new row; a type of the core library, its row.
-use Rattle.std.proofs.Common.{◌≡◌, ◌<◌, ◌≤◌, ◌+◌, ◌-◌, ℕ, suc, List, [], ◌∷◌, ◌++◌, length, Bool, true, false, Option, Some, None, refl, sym, ap, subst, ◌∙◌, arith, eq-eqb, eqb-true}
-use Rattle.std.specs.Prelude.{slice_get, position, nat_le, nat_lt, nat_eq, ◌==◌, ◌||◌, ◌&&◌, if◌then◌else◌}
+use Rattle.std.proofs.Common.{◌≡◌, ◌<◌, ◌≤◌, ℕ, suc, List, [], ◌∷◌, length, Bool, true, false, Option, Some, None, refl, sym, ap, ◌∙◌, arith, eq-eqb, eqb-true}
+use Rattle.std.specs.Prelude.{slice_get, position, nat_le, ◌==◌, ◌||◌, if◌then◌else◌}
 use Rattle.std.specs.Bool.{Decides}
 use Rattle.std.specs.List.{list_any}
 use Rattle.std.specs.Option.{option_map, option_and_then}
@@ -9,14 +9,13 @@ use Rattle.il_base.specs.declared.ids.TypeId.{TypeId}
 use Rattle.il_base.specs.declared.ids.Item.TheVariants as item
 use Rattle.world_model.specs.declared.types.TypeRefRow.{TypeRefRow}
 use Rattle.world_model.specs.declared.record.AsmRec.{AsmRec}
-use Rattle.world_model.specs.Tokens.{table_of, index_in}
+use Rattle.world_model.specs.Tokens.{index_in}
 use Rattle.world_model.specs.Core.{is_core_name}
 use Rattle.world_model.specs.Worlds.{row_below, types_in, type_id}
 use Rattle.core_table.specs.declared.types.TheConstants.{TYPE_COUNT}
-use Rattle.core_table.specs.Record.{core_record}
 use Rattle.link_rules.specs.declared.row_at.RowAt.{RowAt}
 use Rattle.link_rules.specs.declared.core_type_name.CoreTypeName.{CoreTypeName}
-use Rattle.link_rules.specs.Types.{at_row, type_in, ref_at, is_added, listed_at, added_at, ref_definition, added_type, definition_at, added_by}
+use Rattle.link_rules.specs.Types.{at_row, type_in, ref_at, listed_at, added_at, ref_definition, added_type, definition_at, added_by}
 use Rattle.link_rules.specs.Members.{type_home}
 use Rattle.link_rules.specs.Faults.{own_name}
 use Rattle.link_rules.specs.Cycles.{listed}
@@ -47,7 +46,7 @@ pub record Writes (recs : List AsmRec) (kept : Kept) (mets : List Met) (left : A
   -- each type that is referred to has one row
   pub one : (t : TypeId) → In t (type_refs recs mets) → (row : TypeRefRow) × (type_ref_row (record { recs = recs; kept = kept; mets = mets }) t ≡ row ∷ [])
 
-module _ (inputs : List AsmRec) (names : List CoreTypeName) (kept : Kept) (mets : List Met) (left : AsmRec) where
+module _ (inputs : List AsmRec) (names those : List CoreTypeName) (kept : Kept) (mets : List Met) (left : AsmRec) where
   abbrev core : AsmRec
   core = rows.core inputs names
 
@@ -57,8 +56,12 @@ module _ (inputs : List AsmRec) (names : List CoreTypeName) (kept : Kept) (mets 
   abbrev o : Output
   o = record { recs = recs; kept = kept; mets = mets }
 
+  -- the core library of the output's world, which may lack names that modifiers use
+  abbrev core_after : AsmRec
+  core_after = rows.core inputs those
+
   abbrev world : List AsmRec
-  world = left ∷ core ∷ []
+  world = left ∷ core_after ∷ []
 
   module _ (w : Writes recs kept mets left) where
     -- ---- types of the core library
@@ -96,13 +99,13 @@ module _ (inputs : List AsmRec) (names : List CoreTypeName) (kept : Kept) (mets 
             ∙ single_at (type_ref_row o) (type_refs recs mets) place.index t (found_ref o t c.row) w.one
             (place.there ∙ ap (λ (u : TypeId). Some u) (sym ((ids_decide t place.item).0 place.passes))) (own_row inputs names t at c kept mets)
 
-        module _ (first : type_in core None c.row.namespace c.row.name ≡ Some at.row) where
-          ref_here : ref_at world 0 left place.index ≡ Some (at_row 1 at.row)
+        module _ (k : ℕ) (first : type_in core_after None c.row.namespace c.row.name ≡ Some k) where
+          ref_here : ref_at world 0 left place.index ≡ Some (at_row 1 k)
           ref_here =
-              ref_found left core w.own place.index at.row (found_ref o t c.row) row_there
+              ref_found left core_after w.own place.index k (found_ref o t c.row) row_there
               (row_refers inputs names t at c kept mets left w.assemblies w.few_assemblies h) first
 
-          pub core_definition : at.row < TYPE_COUNT → definition_at world 0 left (type_token o t) ≡ Some (at_row 1 at.row)
+          pub core_definition : k < TYPE_COUNT → definition_at world 0 left (type_token o t) ≡ Some (at_row 1 k)
           unfolding definition_at ref_definition
           core_definition lt =
               ap (definition_at world 0 left) token
@@ -110,24 +113,24 @@ module _ (inputs : List AsmRec) (names : List CoreTypeName) (kept : Kept) (mets 
               (token_table 0x01 place.index (omega arith) low)
               ∙ ap (option_and_then (ref_definition world 0 left)) (token_index 0x01 place.index (omega arith) low)
               ∙ ap (option_and_then (listed_at world)) ref_here
-              ∙ ap (λ (b : Bool). if b then None else Some (at_row 1 at.row)) (lt-leb TYPE_COUNT at.row lt)
+              ∙ ap (λ (b : Bool). if b then None else Some (at_row 1 k)) (lt-leb TYPE_COUNT k lt)
 
-          pub added_definition : TYPE_COUNT ≤ at.row → added_by world 0 left (type_token o t) ≡ Some (type_id world 1 at.row)
+          pub added_definition : TYPE_COUNT ≤ k → added_by world 0 left (type_token o t) ≡ Some (type_id world 1 k)
           unfolding added_by added_type
           added_definition le =
               ap (added_by world 0 left) token
               ∙ ap (option_and_then (added_type world 0 left)) (token_index 0x01 place.index (omega arith) low)
               ∙ ap (λ (o : Option RowAt). option_map (λ (at : RowAt). type_id world at.asm at.row) (option_and_then (added_at world) o)) ref_here
-              ∙ ap (λ (b : Bool). option_map (λ (at : RowAt). type_id world at.asm at.row) (if b then Some (at_row 1 at.row) else None)) (le-leb TYPE_COUNT at.row le)
+              ∙ ap (λ (b : Bool). option_map (λ (at : RowAt). type_id world at.asm at.row) (if b then Some (at_row 1 k) else None)) (le-leb TYPE_COUNT k le)
 
           -- a type that modifiers alone find isn't one that others find, and the other way round
-          pub none_added : at.row < TYPE_COUNT → added_by world 0 left (type_token o t) ≡ None
+          pub none_added : k < TYPE_COUNT → added_by world 0 left (type_token o t) ≡ None
           unfolding added_by added_type
           none_added lt =
               ap (added_by world 0 left) token
               ∙ ap (option_and_then (added_type world 0 left)) (token_index 0x01 place.index (omega arith) low)
               ∙ ap (λ (o : Option RowAt). option_map (λ (at : RowAt). type_id world at.asm at.row) (option_and_then (added_at world) o)) ref_here
-              ∙ ap (λ (b : Bool). option_map (λ (at : RowAt). type_id world at.asm at.row) (if b then Some (at_row 1 at.row) else None)) (lt-leb TYPE_COUNT at.row lt)
+              ∙ ap (λ (b : Bool). option_map (λ (at : RowAt). type_id world at.asm at.row) (if b then Some (at_row 1 k) else None)) (lt-leb TYPE_COUNT k lt)
 
     -- ---- types of inputs
 

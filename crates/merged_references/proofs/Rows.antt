@@ -1,12 +1,11 @@
 -- The TypeRef row of a type of the core library: its name, and a scope that names the core library.
-use Rattle.std.proofs.Common.{◌≡◌, ◌<◌, ◌≤◌, ◌+◌, ◌-◌, ℕ, zero, suc, List, [], ◌∷◌, ◌++◌, length, map, Bool, true, false, Option, Some, None, inl, refl, sym, ap, subst, ◌∙◌, arith, eq-eqb}
-use Rattle.std.specs.Prelude.{slice_get, position, nat_le, ◌==◌, ◌||◌, if◌then◌else◌}
-use Rattle.std.specs.List.{flat_map, list_any}
+use Rattle.std.proofs.Common.{◌≡◌, ◌<◌, ◌+◌, ◌-◌, ℕ, zero, suc, List, [], ◌∷◌, ◌++◌, length, map, Bool, Option, Some, None, inl, refl, sym, ap, subst, ◌∙◌, arith}
+use Rattle.std.specs.Prelude.{slice_get, if◌then◌else◌}
+use Rattle.std.specs.List.{flat_map}
 use Rattle.std.specs.Option.{option_map, option_and_then}
-use Rattle.std.proofs.lemmas.Bool.{lt-leb, or_right}
+use Rattle.std.proofs.lemmas.Bool.{lt-leb}
 use Rattle.std.proofs.lemmas.List.{length-append}
 use Rattle.il_base.specs.declared.ids.TypeId.{TypeId}
-use Rattle.il_base.specs.declared.ids.Item.TheVariants as item
 use Rattle.world_model.specs.declared.types.TypeDefRow.{TypeDefRow}
 use Rattle.world_model.specs.declared.types.TypeRefRow.{TypeRefRow}
 use Rattle.world_model.specs.declared.assemblies.AssemblyRefRow.{AssemblyRefRow}
@@ -23,13 +22,12 @@ use Rattle.link_rules.specs.Members.{type_home}
 use Rattle.link_rules.specs.Cycles.{listed}
 use Rattle.type_rules.specs.Rows.{rec_at, type_row_at}
 use Rattle.type_laws.proofs.Within.{In, flat_in}
-use Rattle.type_laws.proofs.Places.{home_is, home_is_type, type_at, place_has, place_within}
-use Rattle.mark_rules.specs.Places.{row_of, is_core}
+use Rattle.type_laws.proofs.Places.{home_is, home_is_type, type_at, place_has}
 use Rattle.merge_rules.specs.Absent.{same_assembly}
 use Rattle.merge_rules.specs.Absent as absent
 use Rattle.merge_rules.specs.Numbers.{Kept}
 use Rattle.merge_rules.specs.Order.{Met}
-use Rattle.merge_rules.specs.Refs.{Output, row_token, enclosing_type, scope_type_by, scope_type, scope_of, assemblies_of, assembly_refs, type_refs, is_reference, first_or, own_scope, assembly_token, scope_token, found_ref, absent_ref, type_ref_row, type_token}
+use Rattle.merge_rules.specs.Refs.{Output, row_token, enclosing_type, scope_type_by, scope_type, scope_of, assemblies_of, assembly_refs, type_refs, first_or, own_scope, assembly_token, scope_token, found_ref, absent_ref, type_ref_row, type_token}
 use Rattle.merged_references.proofs.Lists.{Placed, has_place}
 use Rattle.merged_references.proofs.Tokens.{token_table, token_index}
 use Rattle.merged_references.proofs.Core.{top_level}

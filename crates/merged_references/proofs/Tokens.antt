@@ -1,7 +1,7 @@
 -- The table and the row of a token that is written.
-use Rattle.std.proofs.Common.{◌≡◌, ◌<◌, ◌+◌, ◌*◌, ◌/◌, ◌%◌, ℕ, suc, Bool, false, Option, Some, None, refl, ap, ◌∙◌, arith, eq-eqb}
+use Rattle.std.proofs.Common.{◌≡◌, ◌<◌, ◌+◌, ◌*◌, ℕ, suc, Bool, false, Some, None, ap, ◌∙◌, arith, eq-eqb}
 use Rattle.std.specs.Prelude.{◌==◌, if◌then◌else◌}
-use Rattle.world_model.specs.Tokens.{token_of, table_of, row_of, index_from, row_index, index_in}
+use Rattle.world_model.specs.Tokens.{table_of, row_of, index_from, row_index, index_in}
 use Rattle.merge_rules.specs.Refs.{row_token}
 
 module _ (table k : ℕ) (low : table < 256) (few : suc k < 16777216) where

@@ -1,11 +1,11 @@
 -- A change whose flags say what a merge keeps.
-use Rattle.std.specs.Prelude.{◌≡◌, Bool, Some}
+use Rattle.std.specs.Prelude.{◌≡◌, ◌<◌, suc, length, Bool, Some, IsTrue, slice_get}
+use Rattle.std.specs.Option.{is_some}
 use Rattle.world_model.specs.declared.types.TypeDefRow.{TypeDefRow}
 use Rattle.world_model.specs.declared.types.InterfaceImplRow.{InterfaceImplRow}
 use Rattle.world_model.specs.declared.members.FieldRow.{FieldRow}
 use Rattle.world_model.specs.declared.members.MethodDefRow.{MethodDefRow}
 use Rattle.world_model.specs.declared.record.AsmRec.{AsmRec}
-use Rattle.std.specs.Prelude.{ℕ, suc, ◌<◌, length, slice_get}
 use Rattle.link_rules.specs.declared.row_at.RowAt.{RowAt}
 use Rattle.type_rules.specs.Rows.{type_row_at, field_row_at}
 use Rattle.type_rules.specs.Slots.{method_row_at}
@@ -14,12 +14,18 @@ use Rattle.change_rules.specs.Change.{Keep}
 use Rattle.world_change_rules.specs.Places.{keeps_type_row, keeps_method_row, keeps_field_row}
 use Rattle.world_change_rules.specs.Kept.{KeepsRows}
 use Rattle.merged_world_rules.specs.Merge.{Merge, before}
+use Rattle.merged_world_rules.specs.NewNumbers.{type_core}
 
--- The flags of rows that are there, and of interface rows, are those of their items; and what rows of kept items name is kept.
+-- The flags of rows that are there, and of interface rows, are those of their items; what rows of kept items name is kept. So is the core
+-- library, and of names that only modifiers use those that the output has too.
 pub record HasFlags (m : Merge) (k : Keep) (kept : RowAt → Bool) : Type 0 where
-  pub types : (at : RowAt) (t : TypeDefRow) → type_row_at (before m) at ≡ Some t → keeps_type_row k (before m) at ≡ m.kept (type_item (before m) at)
+  pub types : (at : RowAt) (t : TypeDefRow) → suc at.asm < length (before m) → type_row_at (before m) at ≡ Some t → keeps_type_row k (before m) at ≡ m.kept (type_item (before m) at)
   pub methods : (at : RowAt) (r : MethodDefRow) → method_row_at (before m) at ≡ Some r → keeps_method_row k (before m) at ≡ m.kept (method_item (before m) at)
   pub fields : (at : RowAt) (f : FieldRow) → field_row_at (before m) at ≡ Some f → keeps_field_row k (before m) at ≡ m.kept (field_item (before m) at)
   pub interfaces : (at : RowAt) (rec : AsmRec) (row : InterfaceImplRow) → slice_get (before m) at.asm ≡ Some rec → slice_get rec.interface_impl at.row ≡ Some row
       → kept at ≡ m.kept (impl_item (before m) at)
+  -- the core library
+  pub core_types : (at : RowAt) (t : TypeDefRow) → suc at.asm ≡ length (before m) → type_row_at (before m) at ≡ Some t → keeps_type_row k (before m) at ≡ is_some ((type_core m).to at.row)
+  pub core_methods : (at : RowAt) (r : MethodDefRow) → suc at.asm ≡ length (before m) → method_row_at (before m) at ≡ Some r → IsTrue (keeps_method_row k (before m) at)
+  pub core_fields : (at : RowAt) (f : FieldRow) → suc at.asm ≡ length (before m) → field_row_at (before m) at ≡ Some f → IsTrue (keeps_field_row k (before m) at)
   pub keeps : KeepsRows k kept (before m)

@@ -1,3 +1,4 @@
 pub mod Merge
+pub mod Numbering
 pub mod NewNumbers
 pub mod Kept

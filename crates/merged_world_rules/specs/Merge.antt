@@ -4,6 +4,7 @@ use Rattle.std.specs.Prelude.{◌≡◌, ◌<◌, ℕ, List, [], ◌∷◌, ◌+
 use Rattle.world_model.specs.declared.record.AsmRec.{AsmRec}
 use Rattle.world_model.specs.Records.{IsRecord, rows_in}
 use Rattle.core_table.specs.Record.{core_record}
+use Rattle.link_rules.specs.declared.core_type_name.CoreTypeName.{CoreTypeName}
 use Rattle.link_rules.specs.CoreNames.{missing_names}
 use Rattle.link_rules.specs.Linked.{assemblies, link_fault_of}
 use Rattle.merge_rules.specs.Numbers.{Kept}
@@ -29,12 +30,18 @@ after m = assemblies (m.left ∷ [])
 abbrev pub output : Merge → Output
 output m = output_of (before m) m.kept
 
+-- the names that only modifiers use (II.7.1.1), which stand behind the core library's own types in either world
+abbrev pub names_before : Merge → List CoreTypeName
+names_before m = missing_names (m.inputs ++ core_record ∷ [])
+
+abbrev pub names_after : Merge → List CoreTypeName
+names_after m = missing_names (m.left ∷ core_record ∷ [])
+
 -- tokens have three bytes for a row (II.22)
 abbrev pub HasFewRows : AsmRec → Type 0
 HasFewRows rec = (t : ℕ) → rows_in rec t < 16777216
 
--- The record is what is left of inputs that are records and link, of which there is one. Modifiers find the same names in both worlds
--- that the core library lacks, as they do where they use none (II.7.1.1).
+-- The record is what is left of inputs that are records and link, of which there is one.
 pub record IsMerge (m : Merge) : Type 0 where
   pub some : 0 < length m.inputs
   pub restricts : restricted m.internal (before m) m.kept ≡ Some m.left
@@ -42,4 +49,3 @@ pub record IsMerge (m : Merge) : Type 0 where
   pub links : link_fault_of m.inputs ≡ None
   pub few_inputs : (a : ℕ) (rec : AsmRec) → slice_get m.inputs a ≡ Some rec → HasFewRows rec
   pub few : HasFewRows m.left
-  pub names : missing_names (m.left ∷ core_record ∷ []) ≡ missing_names (m.inputs ++ core_record ∷ [])

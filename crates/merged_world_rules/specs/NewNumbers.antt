@@ -1,76 +1,65 @@
--- New numbers of types, methods and fields. Kept rows of inputs are counted in their order, behind them the rows of the core library,
--- which stay in theirs. Any other number goes behind all rows, so that no two numbers become one.
-use Rattle.std.specs.Prelude.{ℕ, ◌+◌, ◌-◌, List, length, Option, slice_get, nat_le, nat_lt, ◌&&◌, unwrap_or, if◌then◌else◌}
+-- The new numbers and places of types, methods and fields of a merge.
+use Rattle.std.specs.Prelude.{ℕ, ◌+◌, ◌-◌, List, length, Option, Some, slice_get, nat_lt, position, unwrap_or, if◌then◌else◌}
 use Rattle.std.specs.Option.{option_map, option_and_then}
-use Rattle.world_model.specs.declared.record.AsmRec.{AsmRec}
-use Rattle.world_model.specs.Worlds.{rows_before, types_in}
-use Rattle.link_rules.specs.declared.row_at.RowAt.{RowAt}
-use Rattle.link_rules.specs.Types.{at_row}
-use Rattle.link_rules.specs.Members.{home_from, methods_in, fields_in}
-use Rattle.merge_rules.specs.Numbers.{Kept, kept_types, kept_methods, kept_fields, new_row}
+use Rattle.world_model.specs.Worlds.{types_in}
+use Rattle.core_table.specs.Record.{core_record}
+use Rattle.link_rules.specs.declared.core_type_name.CoreTypeName.{CoreTypeName}
+use Rattle.link_rules.specs.CoreNames.{same_core_name}
+use Rattle.link_rules.specs.Members.{methods_in, fields_in}
+use Rattle.merge_rules.specs.Numbers.{kept_types, kept_methods, kept_fields}
 use Rattle.change_rules.specs.Change.{Rho, Keep, Undone, Change}
-use Rattle.world_change_rules.specs.Places.{Places, type_number, method_number}
-use Rattle.view_rules.specs.Layouts.{field_number}
-use Rattle.merged_world_rules.specs.Merge.{Merge, before, after}
+use Rattle.world_change_rules.specs.Places.{Places}
+use Rattle.merged_world_rules.specs.Merge.{Merge, before, after, names_before, names_after}
+use Rattle.merged_world_rules.specs.Numbering.{CoreRows, same_rows, new_number, old_number, new_place}
 
--- ---- numbers of one kind
+-- ---- the core library: its own rows stay, and a name that only modifiers use is found again by itself
 
--- how many rows the inputs have, and how many with the core library, the last assembly
-abbrev pub in_inputs : (AsmRec → ℕ) → List AsmRec → ℕ
-in_inputs count recs = rows_before count recs (length recs - 1)
+abbrev pub place_of_name : List CoreTypeName → CoreTypeName → Option ℕ
+place_of_name names x = position (same_core_name x) names
 
-abbrev pub in_all : (AsmRec → ℕ) → List AsmRec → ℕ
-in_all count recs = rows_before count recs (length recs)
+-- the row among so many own rows and these names of a row among so many and those names
+abbrev pub named_row : ℕ → List CoreTypeName → List CoreTypeName → ℕ → Option ℕ
+named_row own names those r =
+    if nat_lt r own then Some r else option_map (λ j. own + j) (option_and_then (place_of_name those) (slice_get names (r - own)))
 
--- the number of a row
-abbrev pub number_at : (AsmRec → ℕ) → List AsmRec → RowAt → ℕ
-number_at count recs at = rows_before count recs at.asm + at.row
+abbrev pub core_rows : ℕ → List CoreTypeName → List CoreTypeName → CoreRows
+core_rows own names those = record {
+  to = named_row own names those;
+  back = λ s. unwrap_or (named_row own those names s) 0;
+  count = own + length those;
+}
 
--- the new number of a number that isn't of a kept row of an input, where so many rows are kept, the inputs and the world have so many
-abbrev pub other_number : ℕ → ℕ → ℕ → ℕ → ℕ
-other_number kept below all n = if nat_le below n && nat_lt n all then kept + (n - below) else kept + all + n
+abbrev pub type_core : Merge → CoreRows
+type_core m = core_rows (length core_record.type_def) (names_before m) (names_after m)
 
--- with these kept rows of inputs
-unfoldable pub new_number : (AsmRec → ℕ) → List AsmRec → List RowAt → ℕ → ℕ
-new_number count recs kept n =
-    unwrap_or (option_and_then (new_row kept) (home_from count 0 recs n)) (other_number (length kept) (in_inputs count recs) (in_all count recs) n)
+abbrev pub method_core : CoreRows
+method_core = same_rows (length core_record.method_def)
 
-abbrev pub other_back : ℕ → ℕ → ℕ → ℕ → ℕ
-other_back kept below all n = if nat_lt n (kept + all) then n - kept + below else n - (kept + all)
+abbrev pub field_core : CoreRows
+field_core = same_rows (length core_record.field)
 
--- the number that has a new one
-unfoldable pub old_number : (AsmRec → ℕ) → List AsmRec → List RowAt → ℕ → ℕ
-old_number count recs kept n =
-    unwrap_or (option_map (number_at count recs) (slice_get kept n)) (other_back (length kept) (in_inputs count recs) (in_all count recs) n)
-
--- ---- all kinds
+-- ---- numbers and places
 
 abbrev pub rho_of : Merge → Rho
 rho_of m = record {
-  typ = new_number types_in (before m) (kept_types (before m) m.kept);
-  method = new_number methods_in (before m) (kept_methods (before m) m.kept);
-  field = new_number fields_in (before m) (kept_fields (before m) m.kept);
+  typ = new_number types_in (type_core m) (before m) (kept_types (before m) m.kept);
+  method = new_number methods_in method_core (before m) (kept_methods (before m) m.kept);
+  field = new_number fields_in field_core (before m) (kept_fields (before m) m.kept);
 }
 
 abbrev pub back_of : Merge → Rho
 back_of m = record {
-  typ = old_number types_in (before m) (kept_types (before m) m.kept);
-  method = old_number methods_in (before m) (kept_methods (before m) m.kept);
-  field = old_number fields_in (before m) (kept_fields (before m) m.kept);
+  typ = old_number types_in (type_core m) (before m) (kept_types (before m) m.kept);
+  method = old_number methods_in method_core (before m) (kept_methods (before m) m.kept);
+  field = old_number fields_in field_core (before m) (kept_fields (before m) m.kept);
 }
 
 abbrev pub change_of : (m : Merge) → Undone (back_of m) (rho_of m) → Keep → Change
 change_of m undone keep = record { rho = rho_of m; back = back_of m; undone = undone; keep = keep }
 
--- ---- places
-
--- the row with a number; where there is none, one that would have it
-abbrev pub place_numbered : (AsmRec → ℕ) → List AsmRec → ℕ → RowAt
-place_numbered count recs n = unwrap_or (home_from count 0 recs n) (at_row 0 n)
-
 abbrev pub places_of : Merge → Places
 places_of m = record {
-  typ = λ at. place_numbered types_in (after m) ((rho_of m).typ (type_number (before m) at));
-  method = λ at. place_numbered methods_in (after m) ((rho_of m).method (method_number (before m) at));
-  field = λ at. place_numbered fields_in (after m) ((rho_of m).field (field_number (before m) at));
+  typ = new_place types_in (type_core m) (after m) (before m) (kept_types (before m) m.kept);
+  method = new_place methods_in method_core (after m) (before m) (kept_methods (before m) m.kept);
+  field = new_place fields_in field_core (after m) (before m) (kept_fields (before m) m.kept);
 }
