@@ -67,6 +67,13 @@ met_referred recs mets x t h g r =
     let p : Placed (same_id t) (type_refs recs mets) = has_place same_id all t (eq-eqb t.0 t.0 refl) i in
     in_place (type_refs recs mets) p.index t (p.there ∙ ap (λ (u : TypeId). Some u) (sym ((ids_decide t p.item).0 p.passes)))
 
+-- a row of the core library's own table stays where it is
+pub table_stays : (names those : List CoreTypeName) (k : ℕ) → k < TYPE_COUNT → (core_rows (length core_record.type_def) names those).to k ≡ Some k
+table_stays names those k lt =
+    let n = count names in
+    ap (λ (b : Bool). if b then Some k else option_map (λ j. length core_record.type_def + j) (option_and_then (place_of_name those) (slice_get names (k - length core_record.type_def))))
+    (lt-ltb k (length core_record.type_def) (omega (arith, lt, n)))
+
 -- ---- an output of inputs that link
 
 module _ (internal : Bool) (inputs : List AsmRec) (names those : List CoreTypeName) (kept : Kept) (mets : List Met) (left : AsmRec) where
@@ -156,10 +163,7 @@ module _ (internal : Bool) (inputs : List AsmRec) (names those : List CoreTypeNa
           table_first = found_by_name those at.row c.row own_row
 
           table_to : core_to.to at.row ≡ Some at.row
-          table_to =
-              let n = count names in
-              ap (λ (b : Bool). if b then Some at.row else option_map (λ j. length core_record.type_def + j) (option_and_then (place_of_name those) (slice_get names (at.row - length core_record.type_def))))
-              (lt-ltb at.row (length core_record.type_def) (omega (arith, lt, n)))
+          table_to = table_stays names those at.row lt
 
           same_prim : option_and_then prim_of (slice_get core_after.type_def at.row) ≡ option_and_then prim_of (slice_get core.type_def at.row)
           same_prim = ap (option_and_then prim_of) (table_row those at.row c.row own_row ∙ sym c.there)

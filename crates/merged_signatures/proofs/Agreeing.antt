@@ -10,6 +10,7 @@ use Rattle.world_model.specs.declared.expr.TypeExpr.{TypeExpr}
 use Rattle.world_model.specs.declared.record.AsmRec.{AsmRec}
 use Rattle.world_model.specs.Tokens.{table_of, row_index, index_in}
 use Rattle.world_model.specs.Worlds.{rows_before, row_below, types_in, type_id, prim_type, known_or, known_then, named_in, definition_of, definition_named, found_or_named, modifier_named}
+use Rattle.core_table.specs.declared.types.TheConstants.{TYPE_COUNT}
 use Rattle.link_rules.specs.declared.row_at.RowAt.{RowAt}
 use Rattle.link_rules.specs.declared.core_type_name.CoreTypeName.{CoreTypeName}
 use Rattle.world_model.specs.declared.types.TypeDefRow.{TypeDefRow}
@@ -23,12 +24,13 @@ use Rattle.merge_rules.specs.Keys.{number_of, number_or, absent_number, found_or
 use Rattle.merge_rules.specs.Refs.{type_token, number_token}
 use Rattle.change_rules.specs.Change.{Rho}
 use Rattle.change_rules.specs.Moves.{move_type, move_expr}
-use Rattle.merged_world_rules.specs.NewNumbers.{new_number}
+use Rattle.merged_world_rules.specs.Numbering.{CoreRows, new_number}
 use Rattle.merged_references.proofs.Found.{Chained, chained, IsFirst, Names, Added, added_names}
 use Rattle.merged_references.proofs.Core.{top_level}
 use Rattle.merged_references.proofs.Joined as joined
 use Rattle.merged_references.proofs.Joined.{Premises, core_new, added_named}
 use Rattle.merged_signatures.proofs.Reading.{Agrees, GoodThen, good_then}
+use Rattle.merged_signatures.proofs.Added.{added_again}
 use Rattle.merged_signatures.proofs.Keys as keys
 use Rattle.merged_signatures.proofs.Keys.{HasType, Key, key_of, of_input, of_core, core_there, home_of_row, one_row}
 
@@ -84,25 +86,31 @@ good_token recs a rec token e f =
     let d = defines recs a rec token e f in
     ap (λ (b : Bool). if b then spec_type_at recs a rec (option_and_then (slice_get rec.type_spec) (index_in 0x1b token)) else named_type recs a rec token) (not_spec recs a rec token d.at d.is) ∙ f
 
-module _ (internal : Bool) (inputs : List AsmRec) (names : List CoreTypeName) (kept : Kept) (mets : List Met) (left : AsmRec) (p : Premises internal inputs names kept mets left) (r : Rho)
-    (number : (n : ℕ) → r.typ n ≡ new_number types_in (joined.recs internal inputs names kept mets left) (kept_types (joined.recs internal inputs names kept mets left) kept) n) where
+module _ (internal : Bool) (inputs : List AsmRec) (names those : List CoreTypeName) (kept : Kept) (mets : List Met) (left : AsmRec) (p : Premises internal inputs names those kept mets left) (r : Rho)
+    (number : (n : ℕ) → r.typ n ≡ new_number types_in (joined.core_to internal inputs names those kept mets left) (joined.recs internal inputs names those kept mets left) (kept_types (joined.recs internal inputs names those kept mets left) kept) n) where
   abbrev recs : List AsmRec
-  recs = joined.recs internal inputs names kept mets left
+  recs = joined.recs internal inputs names those kept mets left
 
   abbrev world : List AsmRec
-  world = joined.world internal inputs names kept mets left
+  world = joined.world internal inputs names those kept mets left
 
   abbrev Has : TypeId → Type 0
-  Has t = HasType internal inputs names kept mets left p r number t
+  Has t = HasType internal inputs names those kept mets left p r number t
 
   -- the type of a number
   abbrev pub HasNumber : ℕ → Type 0
-  HasNumber n = (t : TypeId) → n ≡ suc t.0 → HasType internal inputs names kept mets left p r number t
+  HasNumber n = (t : TypeId) → n ≡ suc t.0 → HasType internal inputs names those kept mets left p r number t
 
   -- ---- names that modifiers alone find
 
   abbrev core : AsmRec
-  core = joined.core internal inputs names kept mets left
+  core = joined.core internal inputs names those kept mets left
+
+  abbrev core_after : AsmRec
+  core_after = joined.core_after internal inputs names those kept mets left
+
+  abbrev core_to : CoreRows
+  core_to = joined.core_to internal inputs names those kept mets left
 
   abbrev IsIt : RowAt → TypeDefRow → Option ℕ → AsmRec → Type 0
   IsIt at row around rec = (slice_get rec.type_def at.row ≡ Some row) × (same_place (encloser rec at.row) around ≡ true) × (type_in rec around row.namespace row.name ≡ Some at.row)
@@ -117,7 +125,7 @@ module _ (internal : Bool) (inputs : List AsmRec) (names : List CoreTypeName) (k
   module _ (t : TypeId) (d : Added recs t) where
     is_it : IsIt d.at d.first.row d.first.around core
     is_it =
-        let same : d.first.rec ≡ core = one_rec d.first.rec core (slice_get recs d.at.asm) d.first.there (core_there internal inputs names kept mets left p r number d.at.asm d.last) in
+        let same : d.first.rec ≡ core = one_rec d.first.rec core (slice_get recs d.at.asm) d.first.there (core_there internal inputs names those kept mets left p r number d.at.asm d.last) in
         subst (IsIt d.at d.first.row d.first.around) same (d.first.row_there, d.first.placed, d.first.first)
 
     by_name : type_in core None d.first.row.namespace d.first.row.name ≡ Some d.at.row
@@ -128,29 +136,36 @@ module _ (internal : Bool) (inputs : List AsmRec) (names : List CoreTypeName) (k
     added_home : type_home recs t ≡ Some d.at
     added_home =
         ap (type_home recs) (sym d.is)
-        ∙ home_of_row internal inputs names kept mets left p r number d.at d.first.rec d.first.there (place_within d.first.rec.type_def d.at.row d.first.row d.first.row_there)
+        ∙ home_of_row internal inputs names those kept mets left p r number d.at d.first.rec d.first.there (place_within d.first.rec.type_def d.at.row d.first.row d.first.row_there)
 
-    added_number : type_id world 1 d.at.row ≡ move_type r t
+    -- the output's core library has the name, and it is the first there
+    again : (s : ℕ) → core_to.to d.at.row ≡ Some s → (TYPE_COUNT ≤ s) × (type_in core_after None d.first.row.namespace d.first.row.name ≡ Some s)
+    again s to = added_again names those d.at.row s d.first.row d.behind is_it.0 by_name to
+
+    added_number : (s : ℕ) → core_to.to d.at.row ≡ Some s → type_id world 1 s ≡ move_type r t
     unfolding rows_before
-    added_number =
-        let new : r.typ t.0 ≡ length left.type_def + d.at.row = ap (λ (u : TypeId). r.typ u.0) (sym d.is) ∙ core_new internal inputs names kept mets left p r number t d.at added_home d.last in
+    added_number s to =
+        let new : r.typ t.0 ≡ length left.type_def + s = ap (λ (u : TypeId). r.typ u.0) (sym d.is) ∙ core_new internal inputs names those kept mets left p r number t d.at added_home d.last s to in
         ap (λ (k : ℕ). record { 0 = k }) (omega (arith, new))
 
-    added_moved : Has t → added_by world 0 left (type_token (joined.o internal inputs names kept mets left) t) ≡ Some (move_type r t)
+    added_moved : Has t → added_by world 0 left (type_token (joined.o internal inputs names those kept mets left) t) ≡ Some (move_type r t)
     added_moved (of_input x k home lt new) =
-        let same : x ≡ d.at = one_row internal inputs names kept mets left p r number x d.at (type_home recs t) home added_home in
+        let same : x ≡ d.at = one_row internal inputs names those kept mets left p r number x d.at (type_home recs t) home added_home in
         let before : suc d.at.asm < length recs = subst (λ (y : RowAt). suc y.asm < length recs) same lt in
         let last = d.last in
         absurd (omega (arith, before, last))
-    added_moved (of_core x home last g) =
-        added_named internal inputs names kept mets left p r number t d.at added_home d.last g d.behind d.first.row is_it.0 by_name ∙ ap (λ (u : TypeId). Some u) added_number
+    added_moved (of_core x home last g s to) =
+        let same : x ≡ d.at = one_row internal inputs names those kept mets left p r number x d.at (type_home recs t) home added_home in
+        let here : core_to.to d.at.row ≡ Some s = subst (λ (y : RowAt). core_to.to y.row ≡ Some s) same to in
+        let found = again s here in
+        added_named internal inputs names those kept mets left p r number t d.at added_home d.last g s found.0 d.first.row is_it.0 found.1 ∙ ap (λ (u : TypeId). Some u) (added_number s here)
 
   -- an assembly whose tokens name rows that stand in their tables, and types of the core library's table
   module _ (a : ℕ) (rec : AsmRec) (stand : (token : ℕ) (at : RowAt) → definition_at recs a rec token ≡ Some at → Names recs at) where
     pub record Named (token : ℕ) (e : TypeExpr) : Type 0 where
       pub at : RowAt
       pub gives : definition_expr recs at ≡ e
-      pub key : Key internal inputs names kept mets left p r number at
+      pub key : Key internal inputs names those kept mets left p r number at
       pub class : class_number recs a rec token ≡ suc key.t.0
 
     class_by : (token : ℕ) (e : TypeExpr) (n : ℕ) → named_type recs a rec token ≡ Good e → number_of recs (Good e) ≡ suc n → class_number recs a rec token ≡ suc n
@@ -160,26 +175,26 @@ module _ (internal : Bool) (inputs : List AsmRec) (names : List CoreTypeName) (k
     pub named : (token : ℕ) (e : TypeExpr) → named_type recs a rec token ≡ Good e → Named token e
     named token e f =
         let d = defines recs a rec token e f in
-        let k = key_of internal inputs names kept mets left p r number d.at (stand token d.at d.is) in
+        let k = key_of internal inputs names those kept mets left p r number d.at (stand token d.at d.is) in
         record { at = d.at; gives = d.gives; key = k; class = class_by token e k.t.0 f (ap (λ (x : TypeExpr). number_of recs (Good x)) (sym d.gives) ∙ k.numbered) }
 
-    token_by : (n : ℕ) (t : TypeId) → n ≡ suc t.0 → number_token (joined.o internal inputs names kept mets left) n ≡ type_token (joined.o internal inputs names kept mets left) t
-    token_by n t e = ap (number_token (joined.o internal inputs names kept mets left)) e
+    token_by : (n : ℕ) (t : TypeId) → n ≡ suc t.0 → number_token (joined.o internal inputs names those kept mets left) n ≡ type_token (joined.o internal inputs names those kept mets left) t
+    token_by n t e = ap (number_token (joined.o internal inputs names those kept mets left)) e
 
     names_token : (token : ℕ) (e : TypeExpr) → named_in (names_at recs a rec).types token ≡ Good e → HasNumber (class_number recs a rec token)
-        → named_in (names_at world 0 left).types (number_token (joined.o internal inputs names kept mets left) (class_number recs a rec token)) ≡ Good (move_expr r e)
+        → named_in (names_at world 0 left).types (number_token (joined.o internal inputs names those kept mets left) (class_number recs a rec token)) ≡ Good (move_expr r e)
     names_token token e f w =
         let n = named token e (named_good recs a rec token e f) in
         let t : TypeId = n.key.t in
         ap (named_in (names_at world 0 left).types) (token_by (class_number recs a rec token) t n.class)
-        ∙ good_named world 0 left (type_token (joined.o internal inputs names kept mets left) t) (move_expr r (definition_expr recs n.at)) (n.key.token_names (w t n.class))
+        ∙ good_named world 0 left (type_token (joined.o internal inputs names those kept mets left) t) (move_expr r (definition_expr recs n.at)) (n.key.token_names (w t n.class))
         ∙ ap (λ (x : TypeExpr). Good (move_expr r x)) n.gives
 
     same_type : (x y : TypeId) (k : Known TypeId) → k ≡ Good x → k ≡ Good y → x ≡ y
     same_type x y k e f = let g : Good x ≡ Good y = sym e ∙ f in cc
 
     defined_token : (token : ℕ) (t : TypeId) → definition_named (names_at recs a rec) token ≡ Good t → HasNumber (class_number recs a rec token)
-        → definition_named (names_at world 0 left) (number_token (joined.o internal inputs names kept mets left) (class_number recs a rec token)) ≡ Good (move_type r t)
+        → definition_named (names_at world 0 left) (number_token (joined.o internal inputs names those kept mets left) (class_number recs a rec token)) ≡ Good (move_type r t)
     unfolding definition_named
     defined_token token t f w =
         let g = good_then (definition_of (prim_type recs)) (named_in (names_at recs a rec).types token) t f in
@@ -189,7 +204,7 @@ module _ (internal : Bool) (inputs : List AsmRec) (names : List CoreTypeName) (k
         ∙ ap (λ (x : TypeExpr). definition_of (prim_type world) (move_expr r x)) (sym n.gives) ∙ n.key.moved ∙ ap (λ (u : TypeId). Good (move_type r u)) same
 
     not_added_token : (token : ℕ) (t : TypeId) → definition_named (names_at recs a rec) token ≡ Good t → HasNumber (class_number recs a rec token)
-        → added_by world 0 left (number_token (joined.o internal inputs names kept mets left) (class_number recs a rec token)) ≡ None
+        → added_by world 0 left (number_token (joined.o internal inputs names those kept mets left) (class_number recs a rec token)) ≡ None
     unfolding definition_named
     not_added_token token t f w =
         let g = good_then (definition_of (prim_type recs)) (named_in (names_at recs a rec).types token) t f in
@@ -200,20 +215,20 @@ module _ (internal : Bool) (inputs : List AsmRec) (names : List CoreTypeName) (k
 
     modifies_by : (token : ℕ) (t : TypeId) (o : Option TypeId) → added_by recs a rec token ≡ o → found_or_named o (definition_named (names_at recs a rec) token) ≡ Good t
         → HasNumber (number_or o (class_number recs a rec token))
-        → modifier_named (names_at world 0 left) (number_token (joined.o internal inputs names kept mets left) (number_or o (class_number recs a rec token))) ≡ Good (move_type r t)
+        → modifier_named (names_at world 0 left) (number_token (joined.o internal inputs names those kept mets left) (number_or o (class_number recs a rec token))) ≡ Good (move_type r t)
     unfolding modifier_named
     modifies_by token t None e f w =
         (λ i. found_or_named (not_added_token token t f w i) (defined_token token t f w i))
     modifies_by token t (Some u) e f w =
         let same : u ≡ t = cc in
-        let h : HasType internal inputs names kept mets left p r number u = w u refl in
-        ap (λ (o : Option TypeId). found_or_named o (definition_named (names_at world 0 left) (type_token (joined.o internal inputs names kept mets left) u))) (added_moved u (added_names recs a rec token u e) h)
+        let h : HasType internal inputs names those kept mets left p r number u = w u refl in
+        ap (λ (o : Option TypeId). found_or_named o (definition_named (names_at world 0 left) (type_token (joined.o internal inputs names those kept mets left) u))) (added_moved u (added_names recs a rec token u e) h)
         ∙ ap (λ (x : TypeId). Good (move_type r x)) same
 
     modifies : (token : ℕ) (t : TypeId) → modifier_named (names_at recs a rec) token ≡ Good t → HasNumber (modifier_number recs a rec token)
-        → modifier_named (names_at world 0 left) (number_token (joined.o internal inputs names kept mets left) (modifier_number recs a rec token)) ≡ Good (move_type r t)
+        → modifier_named (names_at world 0 left) (number_token (joined.o internal inputs names those kept mets left) (modifier_number recs a rec token)) ≡ Good (move_type r t)
     unfolding modifier_named
     modifies token t f w = modifies_by token t (added_by recs a rec token) refl f w
 
-    pub agrees : Agrees (joined.o internal inputs names kept mets left) recs a rec (names_at recs a rec) (names_at world 0 left) r HasNumber
+    pub agrees : Agrees (joined.o internal inputs names those kept mets left) recs a rec (names_at recs a rec) (names_at world 0 left) r HasNumber
     agrees = record { named = names_token; defined = defined_token; modifies = modifies }

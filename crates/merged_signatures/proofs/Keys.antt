@@ -29,12 +29,13 @@ use Rattle.merge_rules.specs.Refs.{Output, type_refs, type_token}
 use Rattle.change_rules.specs.Change.{Rho}
 use Rattle.change_rules.specs.Moves.{move_type, move_expr}
 use Rattle.change_laws.proofs.Exprs.{move_prim, move_def}
-use Rattle.merged_world_rules.specs.NewNumbers.{new_number}
+use Rattle.merged_world_rules.specs.Numbering.{new_number}
 use Rattle.merged_references.proofs.Lists.{Placed, placed}
 use Rattle.merged_references.proofs.Found.{Stands, Names}
+use Rattle.merged_references.proofs.Core.{table_row, in_table}
 use Rattle.merged_references.proofs.Numbers.{core_types_are, core_prim}
 use Rattle.merged_references.proofs.Joined as joined
-use Rattle.merged_references.proofs.Joined.{Premises, input_named, core_named, core_new, input_not_added, core_not_added}
+use Rattle.merged_references.proofs.Joined.{Premises, table_stays, input_named, core_named, core_new, input_not_added, core_not_added}
 
 -- ---- the first that passes
 
@@ -94,19 +95,22 @@ prim_defined : (f : ℕ → Option TypeId) (n : ℕ) (t : TypeId) → f n ≡ So
 unfolding definition_of expr.out-TypeExpr denote.Hole.Carrier.out
 prim_defined f n t e = ap known_type e
 
-module _ (internal : Bool) (inputs : List AsmRec) (names : List CoreTypeName) (kept : Kept) (mets : List Met) (left : AsmRec) (p : Premises internal inputs names kept mets left) (r : Rho)
-    (number : (n : ℕ) → r.typ n ≡ new_number types_in (joined.recs internal inputs names kept mets left) (kept_types (joined.recs internal inputs names kept mets left) kept) n) where
+module _ (internal : Bool) (inputs : List AsmRec) (names those : List CoreTypeName) (kept : Kept) (mets : List Met) (left : AsmRec) (p : Premises internal inputs names those kept mets left) (r : Rho)
+    (number : (n : ℕ) → r.typ n ≡ new_number types_in (joined.core_to internal inputs names those kept mets left) (joined.recs internal inputs names those kept mets left) (kept_types (joined.recs internal inputs names those kept mets left) kept) n) where
   abbrev core : AsmRec
-  core = joined.core internal inputs names kept mets left
+  core = joined.core internal inputs names those kept mets left
+
+  abbrev core_after : AsmRec
+  core_after = joined.core_after internal inputs names those kept mets left
 
   abbrev pub recs : List AsmRec
-  recs = joined.recs internal inputs names kept mets left
+  recs = joined.recs internal inputs names those kept mets left
 
   abbrev pub o : Output
-  o = joined.o internal inputs names kept mets left
+  o = joined.o internal inputs names those kept mets left
 
   abbrev pub world : List AsmRec
-  world = joined.world internal inputs names kept mets left
+  world = joined.world internal inputs names those kept mets left
 
   long : length recs ≡ suc (length inputs)
   long = length-append inputs (core ∷ []) ∙ omega arith
@@ -114,7 +118,7 @@ module _ (internal : Bool) (inputs : List AsmRec) (names : List CoreTypeName) (k
   -- a type that the output has
   pub data HasType (t : TypeId) : Type 0 where
     of_input : (at : RowAt) (k : ℕ) → type_home recs t ≡ Some at → suc at.asm < length recs → new_row (kept_types recs kept) at ≡ Some k → HasType t
-    of_core : (at : RowAt) → type_home recs t ≡ Some at → suc at.asm ≡ length recs → In t (type_refs recs mets) → HasType t
+    of_core : (at : RowAt) → type_home recs t ≡ Some at → suc at.asm ≡ length recs → In t (type_refs recs mets) → (s : ℕ) → (joined.core_to internal inputs names those kept mets left).to at.row ≡ Some s → HasType t
 
   pub one_row : (x y : RowAt) (o : Option RowAt) → o ≡ Some x → o ≡ Some y → x ≡ y
   one_row x y o e f = let g : Some x ≡ Some y = sym e ∙ f in cc
@@ -123,18 +127,18 @@ module _ (internal : Bool) (inputs : List AsmRec) (names : List CoreTypeName) (k
     pub has_named : HasType t → named_type world 0 left (type_token o t) ≡ Good (move_expr r (definition_expr recs at))
     has_named (of_input x k h lt new) =
         let same : x ≡ at = one_row x at (type_home recs t) h home in
-        subst (λ (y : RowAt). named_type world 0 left (type_token o t) ≡ Good (move_expr r (definition_expr recs y))) same (input_named internal inputs names kept mets left p r number t x h lt k new)
-    has_named (of_core x h last g) =
+        subst (λ (y : RowAt). named_type world 0 left (type_token o t) ≡ Good (move_expr r (definition_expr recs y))) same (input_named internal inputs names those kept mets left p r number t x h lt k new)
+    has_named (of_core x h last g s to) =
         let same : x ≡ at = one_row x at (type_home recs t) h home in
         let end : suc at.asm ≡ length recs = subst (λ (y : RowAt). suc y.asm ≡ length recs) same last in
-        core_named internal inputs names kept mets left p r number t at home end g (listed end)
+        core_named internal inputs names those kept mets left p r number t at home end g (listed end)
 
     pub has_not_added : HasType t → added_by world 0 left (type_token o t) ≡ None
-    has_not_added (of_input x k h lt new) = input_not_added internal inputs names kept mets left p r number t x h lt k new
-    has_not_added (of_core x h last g) =
+    has_not_added (of_input x k h lt new) = input_not_added internal inputs names those kept mets left p r number t x h lt k new
+    has_not_added (of_core x h last g s to) =
         let same : x ≡ at = one_row x at (type_home recs t) h home in
         let end : suc at.asm ≡ length recs = subst (λ (y : RowAt). suc y.asm ≡ length recs) same last in
-        core_not_added internal inputs names kept mets left p r number t at home end g (listed end)
+        core_not_added internal inputs names those kept mets left p r number t at home end g (listed end)
 
   -- the number of a definition, and what its token names
   pub record Key (at : RowAt) : Type 0 where
@@ -182,7 +186,7 @@ module _ (internal : Bool) (inputs : List AsmRec) (names : List CoreTypeName) (k
 
     passes : is_code_of n row ≡ true
     passes =
-        let f : prim_of row ≡ Some n = sym (ap (option_and_then prim_of) there) ∙ sym (core_prim inputs core left r at last) ∙ e in
+        let f : prim_of row ≡ Some n = sym (ap (option_and_then prim_of) there) ∙ sym (core_prim inputs core core_after left r at last) ∙ e in
         ap (is_code n) f ∙ eq-eqb n n refl
 
     place : Placed (is_code_of n) core.type_def
@@ -210,15 +214,43 @@ module _ (internal : Bool) (inputs : List AsmRec) (names : List CoreTypeName) (k
         ap (λ (rows : List TypeDefRow). option_map (λ k. type_id recs (length recs - 1) k) (position (is_code_of n) rows)) (core_types_are inputs core)
         ∙ ap (option_map (λ k. type_id recs (length recs - 1) k)) place.is
 
+    place_listed : place.index < TYPE_COUNT
+    place_listed = let le = first_below in omega (arith, le, listed)
+
+    one_item : (x y : TypeDefRow) (o : Option TypeDefRow) → o ≡ Some x → o ≡ Some y → x ≡ y
+    one_item x y o f g = let h : Some x ≡ Some y = sym f ∙ g in cc
+
+    -- rows of the table are those of both core libraries
+    row_after : (k : ℕ) (x : TypeDefRow) → k < TYPE_COUNT → slice_get core.type_def k ≡ Some x → slice_get core_after.type_def k ≡ Some x
+    row_after k x lt f = let i = in_table names k lt in table_row those k x (i.there ∙ ap (λ (y : TypeDefRow). Some y) (one_item i.row x (slice_get core.type_def k) i.here f))
+
+    row_before : (k : ℕ) (x : TypeDefRow) → k < TYPE_COUNT → slice_get core_after.type_def k ≡ Some x → slice_get core.type_def k ≡ Some x
+    row_before k x lt f = let i = in_table those k lt in table_row names k x (i.there ∙ ap (λ (y : TypeDefRow). Some y) (one_item i.row x (slice_get core_after.type_def k) i.here f))
+
+    place_after : Placed (is_code_of n) core_after.type_def
+    place_after = placed (is_code_of n) core_after.type_def (any_at (is_code_of n) core_after.type_def at.row row (row_after at.row row listed there) passes)
+
+    same_place : place_after.index ≡ place.index
+    same_place =
+        let a : position_or_len (is_code_of n) core.type_def ≡ place.index =
+        placed_len (position_or_len (is_code_of n) core.type_def) place.index (nat_lt (position_or_len (is_code_of n) core.type_def) (length core.type_def)) place.is in
+        let b : position_or_len (is_code_of n) core_after.type_def ≡ place_after.index =
+        placed_len (position_or_len (is_code_of n) core_after.type_def) place_after.index (nat_lt (position_or_len (is_code_of n) core_after.type_def) (length core_after.type_def)) place_after.is in
+        let l = place_listed in
+        let c : position_or_len (is_code_of n) core_after.type_def ≤ place.index = not_behind (is_code_of n) core_after.type_def place.index place.item (row_after place.index place.item l place.there) place.passes in
+        let m : place_after.index < TYPE_COUNT = omega (arith, b, c, l) in
+        let d : position_or_len (is_code_of n) core.type_def ≤ place_after.index = not_behind (is_code_of n) core.type_def place_after.index place_after.item (row_before place_after.index place_after.item m place_after.there) place_after.passes in
+        omega (arith, a, b, c, d)
+
     prim_after : prim_type world n ≡ Some (type_id world 1 place.index)
     unfolding prim_type core_types
-    prim_after = ap (option_map (λ k. type_id world 1 k)) place.is
+    prim_after = ap (option_map (λ k. type_id world 1 k)) (place_after.is ∙ ap (λ (k : ℕ). Some k) same_place)
 
     first_home : type_home recs first_type ≡ Some first_at
     first_home = home_of_row first_at core (core_there (length recs - 1) first_last) place.below
 
     first_prim : prim_at recs first_at ≡ Some n
-    first_prim = core_prim inputs core left r first_at first_last ∙ ap (option_and_then prim_of) place.there ∙ code_is n (prim_of place.item) place.passes
+    first_prim = core_prim inputs core core_after left r first_at first_last ∙ ap (option_and_then prim_of) place.there ∙ code_is n (prim_of place.item) place.passes
 
     first_listed : suc (length recs - 1) ≡ length recs → place.index < TYPE_COUNT
     first_listed l = let le = first_below in omega (arith, le, listed)
@@ -226,7 +258,7 @@ module _ (internal : Bool) (inputs : List AsmRec) (names : List CoreTypeName) (k
     moved_number : type_id world 1 place.index ≡ move_type r first_type
     unfolding rows_before
     moved_number =
-        let new : r.typ first_type.0 ≡ length left.type_def + place.index = core_new internal inputs names kept mets left p r number first_type first_at first_home first_last in
+        let new : r.typ first_type.0 ≡ length left.type_def + place.index = core_new internal inputs names those kept mets left p r number first_type first_at first_home first_last place.index (table_stays names those place.index place_listed) in
         ap (λ (k : ℕ). record { 0 = k }) (omega (arith, new))
 
     prim_key : Key at

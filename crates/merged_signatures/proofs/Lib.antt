@@ -1,4 +1,5 @@
 pub mod Reading
+pub mod Added
 pub mod Keys
 pub mod Agreeing
 pub mod Merges

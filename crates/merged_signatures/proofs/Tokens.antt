@@ -26,7 +26,8 @@ use Rattle.key_codes.proofs.SameSig.{sig_decides}
 use Rattle.change_rules.specs.Moves.{move_expr}
 use Rattle.merged_world_rules.specs.Merge.{Merge, IsMerge, before, after, output}
 use Rattle.merged_world_rules.specs.NewNumbers.{rho_of}
-use Rattle.merged_references.specs.Written.{HasReferenceRows, AreWritten}
+use Rattle.merged_references.specs.Written.{HasReferenceRows}
+use Rattle.merged_signatures.specs.Laws.{AreThere}
 use Rattle.merged_references.proofs.Lists.{Placed, has_place, contains, contained}
 use Rattle.merged_references.proofs.Tokens.{token_table, token_index}
 use Rattle.merged_references.proofs.Left.{left_specs}
@@ -96,7 +97,7 @@ module _ (m : Merge) (is : IsMerge m) (rows : HasReferenceRows m) where
         ∙ ap (spec_type_at here 0 m.left) row_is
 
   module _ (a : ℕ) (rec : AsmRec) (there : slice_get (before m) a ≡ Some rec) (input : suc a < length (before m)) (token : ℕ) (e : TypeExpr)
-      (met : (k : TypeKey) → type_key (before m) a rec token ≡ Some k → Contains (output m).mets (met_type k) × AreWritten m (types_of_key k)) where
+      (met : (k : TypeKey) → type_key (before m) a rec token ≡ Some k → Contains (output m).mets (met_type k) × AreThere m (types_of_key k)) where
     abbrev Moves : Type 0
     Moves = token_type here 0 m.left (moved_type (output m) a rec token) ≡ Good (move_expr (rho_of m) e)
 
@@ -117,7 +118,7 @@ module _ (m : Merge) (is : IsMerge m) (rows : HasReferenceRows m) where
     other_moves : (table_of token == 0x1b) ≡ false → named_type (before m) a rec token ≡ Good e → Moves
     unfolding assemblies output_of
     other_moves b f =
-        let n = agreeing.named m.internal m.inputs (merges.names m is rows) m.kept (output m).mets m.left (premises m is rows) (rho_of m) (number_is m is rows) a rec (stand m is rows a rec there input) token e f in
+        let n = agreeing.named m.internal m.inputs (merges.names m is rows) (merges.those m is rows) m.kept (output m).mets m.left (premises m is rows) (rho_of m) (number_is m is rows) a rec (stand m is rows a rec there input) token e f in
         let t : TypeId = n.key.t in
         let k = other_key t b n.class in
         let w = (met (named t) k).1 t (contains (t ∷ []) t (inl refl)) in
