@@ -1,5 +1,5 @@
 -- A name that only modifiers use is the first of its name again in another core library that has it.
-use Rattle.std.proofs.Common.{◌≡◌, ◌<◌, ◌≤◌, ◌+◌, ◌-◌, ℕ, zero, suc, List, [], ◌∷◌, ◌++◌, length, map, get_or, Bool, true, false, Option, Some, None, ◌⊎◌, inl, inr, refl, sym, ap, subst, ◌∙◌, ◌&&◌, arith, le-ltb}
+use Rattle.std.proofs.Common.{◌≡◌, ◌<◌, ◌≤◌, ◌+◌, ◌-◌, ℕ, zero, suc, List, [], ◌∷◌, ◌++◌, length, map, get_or, Bool, true, false, Option, Some, None, inl, inr, refl, sym, ap, subst, ◌∙◌, ◌&&◌, arith, le-ltb}
 use Rattle.std.specs.Prelude.{slice_get, position, nat_lt, if◌then◌else◌}
 use Rattle.std.specs.Option.{option_map, option_and_then}
 use Rattle.std.proofs.lemmas.Bool.{and_parts, and_from, cases_lt}
@@ -206,9 +206,9 @@ module _ (names those : List CoreTypeName) where
     none_new i u lt e = elim (cases_lt i own) [
       | inl below ↦ none_own i u below (in_front core_record.type_def (map (added_row core_record) those) i u e below)
       | inr above ↦ (
-        let f : slice_get (map (added_row core_record) those) (i - own) ≡ Some u = sym (in_behind core_record.type_def (map (added_row core_record) those) i (i - own) (omega (arith, above))) ∙ e in
-        let m = of_map (added_row core_record) those (i - own) u f in
-        subst (λ (t : TypeDefRow). passes_new (0 + i) t ≡ false) m.2 (fails_other (0 + i) m.0 (none_earlier (i - own) m.0 (omega (arith, lt, above)) m.1)))
+          let f : slice_get (map (added_row core_record) those) (i - own) ≡ Some u = sym (in_behind core_record.type_def (map (added_row core_record) those) i (i - own) (omega (arith, above))) ∙ e in
+          let m = of_map (added_row core_record) those (i - own) u f in
+          subst (λ (t : TypeDefRow). passes_new (0 + i) t ≡ false) m.2 (fails_other (0 + i) m.0 (none_earlier (i - own) m.0 (omega (arith, lt, above)) m.1)))
     ]
 
     pub found_again : type_in new None row.namespace row.name ≡ Some s

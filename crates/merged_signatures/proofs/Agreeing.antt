@@ -1,5 +1,5 @@
 -- The tokens of the output name what those of an input do, moved, where the output has the types.
-use Rattle.std.proofs.Common.{◌≡◌, ◌<◌, ◌≤◌, ◌+◌, ℕ, zero, suc, List, [], ◌∷◌, ◌++◌, length, Bool, true, false, Option, Some, None, refl, sym, ap, subst, ◌∙◌, arith, eqb-true}
+use Rattle.std.proofs.Common.{◌≡◌, ◌<◌, ◌≤◌, ◌+◌, ℕ, suc, List, length, Bool, true, false, Option, Some, None, refl, sym, ap, subst, ◌∙◌, arith, eqb-true}
 use Rattle.std.specs.Prelude.{slice_get, ◌==◌, if◌then◌else◌}
 use Rattle.std.specs.Option.{option_map, option_and_then}
 use Rattle.il_base.specs.declared.ids.TypeId.{TypeId}
@@ -9,7 +9,7 @@ use Rattle.world_model.specs.declared.known.BadKind.TheVariants.{Unresolved}
 use Rattle.world_model.specs.declared.expr.TypeExpr.{TypeExpr}
 use Rattle.world_model.specs.declared.record.AsmRec.{AsmRec}
 use Rattle.world_model.specs.Tokens.{table_of, row_index, index_in}
-use Rattle.world_model.specs.Worlds.{rows_before, row_below, types_in, type_id, prim_type, known_or, known_then, named_in, definition_of, definition_named, found_or_named, modifier_named}
+use Rattle.world_model.specs.Worlds.{rows_before, row_below, types_in, type_id, prim_type, known_then, named_in, definition_of, definition_named, found_or_named, modifier_named}
 use Rattle.core_table.specs.declared.types.TheConstants.{TYPE_COUNT}
 use Rattle.link_rules.specs.declared.row_at.RowAt.{RowAt}
 use Rattle.link_rules.specs.declared.core_type_name.CoreTypeName.{CoreTypeName}
@@ -25,13 +25,12 @@ use Rattle.merge_rules.specs.Refs.{type_token, number_token}
 use Rattle.change_rules.specs.Change.{Rho}
 use Rattle.change_rules.specs.Moves.{move_type, move_expr}
 use Rattle.merged_world_rules.specs.Numbering.{CoreRows, new_number}
-use Rattle.merged_references.proofs.Found.{Chained, chained, IsFirst, Names, Added, added_names}
+use Rattle.merged_references.proofs.Found.{chained, Names, Added, added_names}
 use Rattle.merged_references.proofs.Core.{top_level}
 use Rattle.merged_references.proofs.Joined as joined
 use Rattle.merged_references.proofs.Joined.{Premises, core_new, added_named}
-use Rattle.merged_signatures.proofs.Reading.{Agrees, GoodThen, good_then}
+use Rattle.merged_signatures.proofs.Reading.{Agrees, good_then}
 use Rattle.merged_signatures.proofs.Added.{added_again}
-use Rattle.merged_signatures.proofs.Keys as keys
 use Rattle.merged_signatures.proofs.Keys.{HasType, Key, key_of, of_input, of_core, core_there, home_of_row, one_row}
 
 -- ---- a token that names a definition is none of a signature's

@@ -1,13 +1,12 @@
 -- What a definition is as a number in a signature, and what that number's token names in the world of the output.
-use Rattle.std.proofs.Common.{◌≡◌, ◌<◌, ◌≤◌, ◌+◌, ◌-◌, ℕ, zero, suc, List, [], ◌∷◌, ◌++◌, length, cond, Bool, true, false, Option, Some, None, refl, sym, ap, subst, ◌∙◌, ◌||◌, not, arith, eq-eqb, eqb-true}
+use Rattle.std.proofs.Common.{◌≡◌, ◌<◌, ◌≤◌, ◌+◌, ◌-◌, ℕ, zero, suc, List, [], ◌∷◌, ◌++◌, length, cond, Bool, true, false, Option, Some, None, refl, sym, ap, subst, ◌∙◌, not, arith, eq-eqb, eqb-true}
 use Rattle.std.specs.Prelude.{slice_get, position, nat_lt, ◌==◌, if◌then◌else◌}
 use Rattle.std.specs.List.{list_any, position_or_len}
 use Rattle.std.specs.Option.{option_map, option_and_then}
 use Rattle.std.proofs.lemmas.Bool.{or_left, or_right}
 use Rattle.std.proofs.lemmas.List.{length-append}
 use Rattle.il_base.specs.declared.ids.TypeId.{TypeId}
-use Rattle.world_model.specs.declared.known.Known.{Known}
-use Rattle.world_model.specs.declared.known.Known.TheVariants.{Good, Bad}
+use Rattle.world_model.specs.declared.known.Known.TheVariants.{Good}
 use Rattle.world_model.specs.declared.expr.TypeExpr.{TypeExpr}
 use Rattle.world_model.specs.declared.expr.TypeExpr as expr
 use Rattle.world_model.specs.declared.types.TypeDefRow.{TypeDefRow}
@@ -31,7 +30,7 @@ use Rattle.change_rules.specs.Moves.{move_type, move_expr}
 use Rattle.change_laws.proofs.Exprs.{move_prim, move_def}
 use Rattle.merged_world_rules.specs.Numbering.{new_number}
 use Rattle.merged_references.proofs.Lists.{Placed, placed}
-use Rattle.merged_references.proofs.Found.{Stands, Names}
+use Rattle.merged_references.proofs.Found.{Names}
 use Rattle.merged_references.proofs.Core.{table_row, in_table}
 use Rattle.merged_references.proofs.Numbers.{core_types_are, core_prim}
 use Rattle.merged_references.proofs.Joined as joined

@@ -1,5 +1,5 @@
 -- The laws, for a merge.
-use Rattle.std.proofs.Common.{◌≡◌, ◌<◌, ℕ, suc, List, [], ◌∷◌, ◌++◌, length, map, Some, inl, inr, refl, sym, ap, subst}
+use Rattle.std.proofs.Common.{◌≡◌, ◌<◌, ℕ, suc, List, [], ◌∷◌, length, map, Some, inl, inr, refl, sym, ap, subst}
 use Rattle.std.specs.Prelude.{slice_get}
 use Rattle.std.specs.List.{flat_map}
 use Rattle.il_base.specs.declared.ids.TypeId.{TypeId}
@@ -17,7 +17,7 @@ use Rattle.link_rules.specs.Types.{definition_at}
 use Rattle.link_rules.specs.Signatures.{names_at, method_type}
 use Rattle.type_laws.proofs.Within.{In, flat_in}
 use Rattle.merge_rules.specs.Keys.{world_sig, world_method_sig}
-use Rattle.merge_rules.specs.Refs.{Output, numbers_in, type_of_number, types_of_sig, types_of_method_sig, type_refs, new_sig, new_method_sig}
+use Rattle.merge_rules.specs.Refs.{numbers_in, type_of_number, types_of_sig, types_of_method_sig, type_refs, new_sig, new_method_sig}
 use Rattle.merge_rules.specs.Restricted.{output_of}
 use Rattle.change_rules.specs.Moves.{move_expr, move_exprs}
 use Rattle.merged_world_rules.specs.Merge.{Merge, IsMerge, before, after, output}

@@ -1,5 +1,5 @@
 -- A signature over the types of a world, written with other tokens, names the moved type where each of its tokens does.
-use Rattle.std.proofs.Common.{◌≡◌, ℕ, Bool, true, false, List, [], ◌∷◌, ◌++◌, map, inl, inr, refl, sym, ap, subst, ◌∙◌}
+use Rattle.std.proofs.Common.{◌≡◌, ℕ, Bool, List, [], ◌∷◌, map, inl, inr, refl, sym, ap, subst, ◌∙◌}
 use Rattle.std.specs.List.{flat_map}
 use Rattle.il_base.specs.declared.ids.TypeId.{TypeId}
 use Rattle.il_base.specs.declared.sig.Sig.{Sig, roll-Sig, fold-roll-Sig, ind-Sig}
@@ -238,4 +238,3 @@ module _ (o : Output) (recs : List AsmRec) (a : ℕ) (rec : AsmRec) (m n : Names
         let params : all_known (map (sig_expr n) (map (new_sig o) (map world s.params))) ≡ Good (move_exprs r i.from) = sigs_read s.params i.from i.is (λ x v. w x (inr v)) in
         (λ j. known_then (λ (y : TypeExpr). known_map (λ ys. method_type_of new y ys) (params j)) (ret j))
         ∙ ap (λ (u : MethodType). Good (record u { ret = move_expr r u.ret; params = move_exprs r u.params })) i.gives
-

@@ -1,25 +1,25 @@
 -- A type token that is written names the moved type: a TypeSpec token by its signature, another by its type.
-use Rattle.std.proofs.Common.{◌≡◌, ◌<◌, ℕ, zero, suc, List, [], ◌∷◌, ◌++◌, length, map, Bool, true, false, Option, Some, None, inl, refl, sym, ap, subst, ◌∙◌, arith, eqb-true}
-use Rattle.std.specs.Prelude.{slice_get, position, Contains, ◌==◌, if◌then◌else◌}
+use Rattle.std.proofs.Common.{◌≡◌, ◌<◌, ℕ, zero, suc, List, [], ◌∷◌, length, map, Bool, true, false, Option, Some, None, inl, refl, sym, ap, subst, ◌∙◌, arith}
+use Rattle.std.specs.Prelude.{slice_get, Contains, ◌==◌, if◌then◌else◌}
 use Rattle.std.specs.List.{flat_map}
 use Rattle.std.specs.Option.{option_and_then}
 use Rattle.std.proofs.lemmas.List.{length-map}
 use Rattle.il_base.specs.declared.ids.TypeId.{TypeId}
 use Rattle.il_base.specs.declared.sig.Sig.{Sig}
 use Rattle.world_model.specs.declared.known.Known.{Known}
-use Rattle.world_model.specs.declared.known.Known.TheVariants.{Good, Bad}
+use Rattle.world_model.specs.declared.known.Known.TheVariants.{Good}
 use Rattle.world_model.specs.declared.expr.TypeExpr.{TypeExpr}
 use Rattle.world_model.specs.declared.types.TypeSpecRow.{TypeSpecRow}
 use Rattle.world_model.specs.declared.record.AsmRec.{AsmRec}
-use Rattle.world_model.specs.Records.{table_sizes, rows_in}
+use Rattle.world_model.specs.Records.{table_sizes}
 use Rattle.world_model.specs.Tokens.{table_of, index_in}
-use Rattle.world_model.specs.Worlds.{sig_expr, known_then}
+use Rattle.world_model.specs.Worlds.{sig_expr}
 use Rattle.link_rules.specs.Linked.{assemblies}
 use Rattle.link_rules.specs.Signatures.{definition_expr, named_type, names_at, spec_type_at, token_type}
-use Rattle.type_laws.proofs.Within.{In, flat_in}
+use Rattle.type_laws.proofs.Within.{flat_in}
 use Rattle.merge_rules.specs.Keys.{TypeKey, named, spec, same_sig, numbered_key, spec_key, type_key, class_number, world_sig}
-use Rattle.merge_rules.specs.Order.{Met, met_type}
-use Rattle.merge_rules.specs.Refs.{Output, row_token, types_of_key, specs_of_met, type_specs, type_spec_rows, type_token, key_token, new_sig}
+use Rattle.merge_rules.specs.Order.{met_type}
+use Rattle.merge_rules.specs.Refs.{row_token, types_of_key, specs_of_met, type_specs, type_spec_rows, type_token, key_token, new_sig}
 use Rattle.merge_rules.specs.Moved.{token_or_none, moved_type}
 use Rattle.merge_rules.specs.Restricted.{output_of}
 use Rattle.key_codes.proofs.SameSig.{sig_decides}
@@ -33,7 +33,7 @@ use Rattle.merged_references.proofs.Tokens.{token_table, token_index}
 use Rattle.merged_references.proofs.Left.{left_specs}
 use Rattle.merged_references.proofs.Merges as merges
 use Rattle.merged_references.proofs.Merges.{after_is, premises, number_is}
-use Rattle.merged_signatures.proofs.Reading.{GoodThen, good_then}
+use Rattle.merged_signatures.proofs.Reading.{good_then}
 use Rattle.merged_signatures.proofs.Agreeing as agreeing
 use Rattle.merged_signatures.proofs.Agreeing.{good_token}
 use Rattle.merged_signatures.proofs.Merges.{world, has, stand, sig_here}
