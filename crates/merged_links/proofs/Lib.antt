@@ -1,0 +1,6 @@
+pub mod Enclosers
+pub mod Nesting
+pub mod Rounds
+pub mod Cycles
+pub mod Repeats
+pub mod Joined

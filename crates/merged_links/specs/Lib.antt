@@ -1,0 +1,4 @@
+pub mod Laws
+pub mod Cycles
+pub mod Repeats
+pub mod Joined

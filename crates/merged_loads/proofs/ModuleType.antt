@@ -1,0 +1,81 @@
+-- `<Module>` of the first input is left of it.
+use Rattle.std.proofs.Common.{◌≡◌, ◌<◌, ◌≤◌, suc, List, [], ◌∷◌, ◌++◌, length, Bool, true, Option, Some, refl, sym, ap, subst, arith, eq-eqb}
+use Rattle.std.specs.Prelude.{slice_get, if◌then◌else◌}
+use Rattle.std.specs.List.{Contains, flat_map, list_any}
+use Rattle.std.specs.Option.{is_some}
+use Rattle.std.proofs.lemmas.Bool.{or_right}
+use Rattle.std.proofs.lemmas.List.Elements.{Contains-append_left, Contains-append_right}
+use Rattle.il_base.specs.declared.ids.Item.TheVariants as item
+use Rattle.descriptor_file.specs.declared.root.Root.{Root}
+use Rattle.world_model.specs.declared.types.TypeDefRow.{TypeDefRow}
+use Rattle.world_model.specs.declared.record.AsmRec.{AsmRec}
+use Rattle.world_model.specs.Records.{table_sizes}
+use Rattle.world_model.specs.Worlds.{types_in}
+use Rattle.link_rules.specs.declared.row_at.RowAt.{RowAt}
+use Rattle.link_rules.specs.Types.{at_row}
+use Rattle.link_rules.specs.Cycles.{listed}
+use Rattle.type_rules.specs.Rows.{is_module_type}
+use Rattle.mark_rules.specs.Facts.{Fact, start}
+use Rattle.mark_rules.specs.Facts.Fact.{marked}
+use Rattle.mark_rules.specs.Places.{row_of, marks_type, type_item}
+use Rattle.mark_rules.specs.Roots.{root_facts, module_facts, entry_facts, start_facts}
+use Rattle.mark_rules.specs.Marking.{same_fact, is_core_fact, given, marking, Marks}
+use Rattle.merge_rules.specs.Numbers.{kept_types}
+use Rattle.merge_rules.specs.Refs.{Output}
+use Rattle.merge_rules.specs.Restricted.{placed_methods, moved_methods, restricted_by, output_of, restricted}
+use Rattle.merged_record.proofs.Lists.{first_in, below_length, map_some, OfInput}
+use Rattle.merged_record.proofs.Sizes.{left, types}
+use Rattle.merged_record.proofs.Owned.{to_kept}
+use Rattle.merged_loads.specs.Marked.{ModuleStays}
+use Rattle.merged_loads.proofs.TextsStand.{any_in}
+use Rattle.merged_loads.proofs.Flawless.{to_option, own_home}
+
+has_some : {A : Type 0} (xs : List A) (x : A) → Contains xs x → 1 ≤ length xs
+has_some xs x c = let lt = c.1 in omega arith
+
+module _ (recs : List AsmRec) (entry : Option RowAt) (roots : List Root) (rec : AsmRec) (row : TypeDefRow) (first : slice_get recs 0 ≡ Some rec) (is : slice_get rec.type_def 0 ≡ Some row) (named : is_module_type 0 row ≡ true) where
+  abbrev fact : Fact
+  fact = marks_type recs (at_row 0 0)
+
+  in_module : Contains (module_facts recs) fact
+  in_module =
+      to_option (λ (r : AsmRec). flat_map (λ (t : TypeDefRow). if is_module_type 0 t then marks_type recs (at_row 0 0) ∷ [] else []) (listed (slice_get r.type_def 0))) (slice_get recs 0) rec fact first
+      (to_option (λ (t : TypeDefRow). if is_module_type 0 t then marks_type recs (at_row 0 0) ∷ [] else []) (slice_get rec.type_def 0) row fact is
+      (subst (λ (b : Bool). Contains (if b then marks_type recs (at_row 0 0) ∷ [] else []) fact) (sym named) (first_in fact [])))
+
+  in_start : Contains (start_facts recs entry roots) fact
+  unfolding start_facts
+  in_start =
+      Contains-append_left (marked (item.Asm (record { 0 = 0 })) ∷ module_facts recs ++ entry_facts recs entry) (flat_map (root_facts recs) roots) fact
+      (Contains-append_left (marked (item.Asm (record { 0 = 0 })) ∷ module_facts recs) (entry_facts recs entry) fact (Contains-append_right (marked (item.Asm (record { 0 = 0 })) ∷ []) (module_facts recs) fact in_module))
+
+  same_self : same_fact fact fact ≡ true
+  same_self = eq-eqb _ _ refl
+
+  module_marked : Marks recs entry roots fact
+  unfolding marking given
+  module_marked = start fact (or_right (is_core_fact recs fact) (list_any (same_fact fact) (start_facts recs entry roots)) (any_in (same_fact fact) (start_facts recs entry roots) fact in_start same_self))
+
+  module_there : row_of recs (type_item recs (at_row 0 0)) ≡ Some (at_row 0 0)
+  unfolding row_of
+  module_there = own_home types_in recs (at_row 0 0) rec first (below_length rec.type_def 0 row is)
+
+module _ (internal : Bool) (o : Output) (primary : AsmRec) where
+  some_left : 1 ≤ length (kept_types o.recs o.kept) → 1 ≤ length (left internal o primary).type_def
+  unfolding table_sizes
+  some_left h = let n = types internal o primary in omega (arith, h, n)
+
+  has_kept : (rec : AsmRec) (row : TypeDefRow) → slice_get o.recs 0 ≡ Some rec → suc 0 < length o.recs → slice_get rec.type_def 0 ≡ Some row → o.kept (type_item o.recs (at_row 0 0)) ≡ true → 1 ≤ length (kept_types o.recs o.kept)
+  unfolding kept_types
+  has_kept rec row first within is kept =
+      let input : OfInput o.recs 0 rec = record { there = first; within = within } in
+      has_some _ (at_row 0 0) (to_kept types_in (type_item o.recs) o.recs o.kept (at_row 0 0) rec input (below_length rec.type_def 0 row is) kept)
+
+pub module_stays : ModuleStays
+unfolding restricted output_of
+module_stays internal recs entry roots kept rec e within keeps first row there is named =
+    let o : Output = output_of recs kept in
+    let m = map_some (restricted_by internal o (placed_methods (moved_methods o))) (slice_get recs 0) rec e in
+    let known : kept (type_item recs (at_row 0 0)) ≡ true =
+    keeps (type_item recs (at_row 0 0)) (ap (λ (x : Option RowAt). is_some x) (module_there recs entry roots first row there is named)) (module_marked recs entry roots first row there is named) in
+    subst (λ (r : AsmRec). 1 ≤ length r.type_def) m.2 (some_left internal o m.0 (has_kept internal o m.0 first row there within is known))

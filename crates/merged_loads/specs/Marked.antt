@@ -1,0 +1,51 @@
+-- Where what is kept is needed, and nothing that is needed has a flaw, the parts of kept rows have a meaning in what is left.
+use Rattle.std.specs.Prelude.{◌≡◌, ◌<◌, ◌≤◌, List, length, Option, Some, None, slice_get, Bool, true}
+use Rattle.std.specs.Option.{is_some}
+use Rattle.il_base.specs.declared.ids.Item.{Item}
+use Rattle.descriptor_file.specs.declared.root.Root.{Root}
+use Rattle.world_model.specs.declared.types.TypeDefRow.{TypeDefRow}
+use Rattle.world_model.specs.declared.record.AsmRec.{AsmRec}
+use Rattle.world_model.specs.Records.{Each}
+use Rattle.link_rules.specs.declared.row_at.RowAt.{RowAt}
+use Rattle.type_rules.specs.Rows.{is_module_type}
+use Rattle.layout_laws.specs.OfFile.{IsKnown, HasReading}
+use Rattle.mark_rules.specs.Facts.Fact.{marked}
+use Rattle.mark_rules.specs.Marking.{Marks}
+use Rattle.mark_rules.specs.BadItems.{IsFirstFlaw}
+use Rattle.mark_rules.specs.Places.{row_of}
+use Rattle.merge_rules.specs.Numbers.{Kept}
+use Rattle.merge_rules.specs.Restricted.{restricted}
+use Rattle.merged_record.specs.Laws.{InputsAreRecords}
+use Rattle.merged_loads.specs.Laws.{FieldTypesAreKept}
+
+-- each kept item is needed from an entry and the elements of descriptors
+abbrev pub AreMarked : List AsmRec → Option RowAt → List Root → Kept → Type 0
+AreMarked recs entry roots kept = (i : Item) → kept i ≡ true → Marks recs entry roots (marked i)
+
+-- each item of the world that is needed is kept
+abbrev pub AreKept : List AsmRec → Option RowAt → List Root → Kept → Type 0
+AreKept recs entry roots kept = (i : Item) → is_some (row_of recs i) ≡ true → Marks recs entry roots (marked i) → kept i ≡ true
+
+-- the signatures and bodies of kept rows have a reading, and the bytes of kept fields a meaning
+pub record AreRead (left : AsmRec) : Type 0 where
+  pub fields : Each (λ row. IsKnown row.signature) left.field
+  pub methods : Each (λ row. IsKnown row.signature) left.method_def
+  pub properties : Each (λ row. IsKnown row.signature) left.property
+  pub bodies : Each (λ row. HasReading row.body) left.method_def
+  pub field_data : Each (λ row. IsKnown row.bytes) left.field_rva
+
+abbrev pub PartsAreRead : Type 0
+PartsAreRead =
+    (internal : Bool) (recs : List AsmRec) (entry : Option RowAt) (roots : List Root) (kept : Kept) (left : AsmRec) → restricted internal recs kept ≡ Some left → InputsAreRecords recs → AreMarked recs entry roots kept
+    → IsFirstFlaw recs entry (Marks recs entry roots) None → AreRead left
+
+abbrev pub FieldTypesKept : Type 0
+FieldTypesKept =
+    (recs : List AsmRec) (entry : Option RowAt) (roots : List Root) (kept : Kept) → InputsAreRecords recs → AreMarked recs entry roots kept → AreKept recs entry roots kept
+    → IsFirstFlaw recs entry (Marks recs entry roots) None → FieldTypesAreKept recs kept
+
+-- `<Module>` of the first input is always needed (II.22.37)
+abbrev pub ModuleStays : Type 0
+ModuleStays =
+    (internal : Bool) (recs : List AsmRec) (entry : Option RowAt) (roots : List Root) (kept : Kept) (left : AsmRec) → restricted internal recs kept ≡ Some left → 1 < length recs → AreKept recs entry roots kept
+    → (first : AsmRec) (row : TypeDefRow) → slice_get recs 0 ≡ Some first → slice_get first.type_def 0 ≡ Some row → is_module_type 0 row ≡ true → 1 ≤ length left.type_def

@@ -1,0 +1,14 @@
+pub mod Lists
+pub mod Tokens
+pub mod Left
+pub mod Core
+pub mod Scopes
+pub mod Names
+pub mod Rows
+pub mod Kept
+pub mod Named
+pub mod Own
+pub mod Found
+pub mod Numbers
+pub mod Joined
+pub mod Merges
