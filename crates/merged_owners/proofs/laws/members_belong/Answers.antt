@@ -1,0 +1,4 @@
+use Rattle.merged_owners.proofs.laws.members_belong.Goals as goal
+
+pub returns : goal.returns
+returns c = ?
