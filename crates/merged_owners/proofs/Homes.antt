@@ -40,7 +40,7 @@ passes_any test [] k x e h = absurd (cc)
 passes_any test (y ∷ xs) zero x e h = let same : y ≡ x = cc in let g : test y ≡ true = ap test same ∙ h in rw g refl
 passes_any test (y ∷ xs) (suc k) x e h = or_true (test y) (list_any test xs) (passes_any test xs k x e h)
 
-to_place : {A : Type 0} (xs : List A) (x : A) → Contains xs x → (k : ℕ) × (slice_get xs k ≡ Some x)
+pub to_place : {A : Type 0} (xs : List A) (x : A) → Contains xs x → (k : ℕ) × (slice_get xs k ≡ Some x)
 to_place [] x c = absurd (none_in x c)
 to_place (y ∷ xs) x c = elim (head_or y xs x c) [ inl e ↦ (0, ap Some e) | inr t ↦ (let r = to_place xs x t in (suc r.0, r.1)) ]
 
