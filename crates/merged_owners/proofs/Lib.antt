@@ -5,3 +5,6 @@ pub mod Runs
 pub mod Dispatched
 pub mod Uses
 pub mod Rules
+pub mod Members
+pub mod Starts
+pub mod Belong
