@@ -1,7 +1,6 @@
 -- What is marked belongs to something.
-use Rattle.std.proofs.Common.{◌≡◌, ◌<◌, ℕ, suc, List, [], ◌∷◌, ◌++◌, length, map, Bool, true, Option, Some, None, refl, sym, ap, subst, ◌∙◌}
-use Rattle.std.specs.Prelude.{slice_get}
-use Rattle.std.specs.List.{Contains, flat_map}
+use Rattle.std.proofs.Common.{List, ◌++◌, map, Option}
+use Rattle.std.specs.List.{flat_map}
 use Rattle.il_base.specs.declared.ids.TypeId.{TypeId}
 use Rattle.il_base.specs.declared.ids.Item.{Item}
 use Rattle.il_base.specs.declared.ids.Item.TheVariants as item
@@ -13,8 +12,7 @@ use Rattle.link_rules.specs.Types.{encloser}
 use Rattle.link_rules.specs.Members.{type_home, methods_in, fields_in}
 use Rattle.link_rules.specs.Cycles.{listed}
 use Rattle.type_rules.specs.Rows.{rec_at}
-use Rattle.known_laws.proofs.Lists.{none_in}
-use Rattle.mark_rules.specs.Facts.{Fact, Derived, start, by_one, by_two, by_three}
+use Rattle.mark_rules.specs.Facts.{Fact, start, by_one, by_two, by_three}
 use Rattle.mark_rules.specs.Facts.Fact.{marked, instantiated, reflected, shown}
 use Rattle.mark_rules.specs.Places.{row_of, method_item, field_item, prop_item, event_item, props_in, events_in}
 use Rattle.mark_rules.specs.Types.{rows_for}
@@ -28,7 +26,7 @@ use Rattle.merged_record.specs.Laws.{InputsAreRecords}
 use Rattle.merged_owners.specs.Laws.{MarkedBelong, MembersBelong}
 use Rattle.merged_owners.proofs.Homes.{own_home}
 use Rattle.merged_owners.proofs.Every.{all_none, all_join, all_option, all_map}
-use Rattle.merged_owners.proofs.Runs.{OfItem, OfFact, Fine}
+use Rattle.merged_owners.proofs.Runs.{OfFact, Fine}
 use Rattle.merged_owners.proofs.Dispatched.{class_runs_fine, class_fills_fine, interface_runs_fine, interface_fills_fine}
 use Rattle.merged_owners.proofs.Rules.{row_fine, rows_fine}
 use Rattle.merged_owners.proofs.Members.{attributes_fine, dependencies_fine}

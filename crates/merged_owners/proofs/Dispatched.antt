@@ -1,7 +1,7 @@
 -- Methods that dispatch, overriding and initializers give are in a run.
-use Rattle.std.proofs.Common.{◌≡◌, ◌<◌, ◌≤◌, ℕ, zero, suc, ◌+◌, ◌-◌, List, [], ◌∷◌, ◌++◌, length, map, Bool, true, false, Option, Some, None, inl, inr, refl, sym, ap, subst, ◌∙◌, arith}
+use Rattle.std.proofs.Common.{◌≡◌, ℕ, suc, ◌-◌, List, [], ◌∷◌, ◌++◌, length, map, Bool, true, false, Option, Some, None, inl, inr, refl, subst, ◌∙◌}
 use Rattle.std.specs.Prelude.{slice_get, if◌then◌else◌, ◌==◌, ◌&&◌, not}
-use Rattle.std.specs.List.{Contains, flat_map, list_any, range_with_len}
+use Rattle.std.specs.List.{flat_map, list_any, range_with_len}
 use Rattle.std.specs.Option.{option_and_then, option_map}
 use Rattle.std.proofs.lemmas.Bool.{and_parts}
 use Rattle.il_base.specs.declared.table.TheConstants as table
@@ -20,8 +20,7 @@ use Rattle.link_rules.specs.Types.{at_row, or_else}
 use Rattle.link_rules.specs.Signatures.{subst_method}
 use Rattle.link_rules.specs.Members.{args_of, with_bases, run_of, find_in_run, open_parent, generic_method}
 use Rattle.link_rules.specs.Cycles.{listed, same_row, home_of, only_interface}
-use Rattle.type_rules.specs.Rows.{rec_at, type_row_at}
-use Rattle.type_rules.specs.Slots.{is_virtual, is_new_slot, method_row_at, method_home, type_of_method, type_of_row, open_type, is_match, match_in, nearest, bases_above, inherited_by, inherited, slot_of, has_slot}
+use Rattle.type_rules.specs.Slots.{is_virtual, is_new_slot, method_row_at, method_home, type_of_method, type_of_row, open_type, is_match, match_in, bases_above, inherited_by, inherited, slot_of, has_slot}
 use Rattle.type_rules.specs.Dispatch.{Choice, good_use, have_method, is_instance_virtual, is_body, body_at, impl_body, impl_of_row, first_impl, impl_in_row, impl_in, declares_slot, find_row_in_run, slot_in_run, slot_in, class_dispatch, implied, declares_in, is_public_virtual, public_match_in, interface_method_in, good_signature, from_choice, in_interface}
 use Rattle.type_rules.specs.Initializers.{is_initializer, initializer_in, initializer}
 use Rattle.walk_laws.proofs.Finds as finds
@@ -33,7 +32,7 @@ use Rattle.mark_rules.specs.Calls.{overridden, initializer_of, class_answer, is_
 use Rattle.merged_record.specs.Laws.{InputsAreRecords}
 use Rattle.merged_owners.specs.Laws.{has_method}
 use Rattle.merged_owners.proofs.Homes.{passing}
-use Rattle.merged_owners.proofs.Every.{Every, all_none, all_join, all_listed, all_if, all_flat, all_option, all_map, every_map, some_of}
+use Rattle.merged_owners.proofs.Every.{Every, all_join, all_listed, all_if, all_flat, all_option, every_map, some_of}
 use Rattle.merged_owners.proofs.Runs.{OfFact, Fine, Has, place_in, of_run, of_found, method_begins, method_fine, method_looked, typed_has}
 
 module _ (recs : List AsmRec) (records : InputsAreRecords recs) where

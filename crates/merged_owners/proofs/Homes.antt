@@ -1,5 +1,5 @@
 -- Items by their rows: the number of a row stands for that row, and for none of an earlier assembly.
-use Rattle.std.proofs.Common.{◌≡◌, ◌<◌, ◌≤◌, ℕ, zero, suc, ◌+◌, ◌-◌, List, [], ◌∷◌, length, Bool, true, false, nat_lt, Option, Some, None, inl, inr, refl, sym, ap, subst, ◌∙◌, arith}
+use Rattle.std.proofs.Common.{◌≡◌, ◌<◌, ◌≤◌, ℕ, zero, suc, ◌+◌, ◌-◌, List, [], ◌∷◌, length, Bool, true, false, nat_lt, Some, inl, inr, refl, sym, ap, subst, ◌∙◌, arith}
 use Rattle.std.specs.Prelude.{slice_get, ◌||◌, if◌then◌else◌, position}
 use Rattle.std.specs.List.{Contains, list_any}
 use Rattle.std.specs.Option.{is_some}

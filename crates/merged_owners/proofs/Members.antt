@@ -1,10 +1,8 @@
 -- The members that attributes, kinds of members and dependencies name belong to something.
-use Rattle.std.proofs.Common.{◌≡◌, ◌<◌, ℕ, zero, suc, ◌+◌, List, [], ◌∷◌, ◌++◌, length, map, Bool, true, false, Option, Some, None, refl, sym, ap, subst, ◌∙◌}
+use Rattle.std.proofs.Common.{◌≡◌, ℕ, zero, suc, List, [], ◌∷◌, ◌++◌, length, map, Bool, true, false, Option, Some, None, refl, ap, subst}
 use Rattle.std.specs.Prelude.{slice_get, if◌then◌else◌, ◌==◌, ◌&&◌, ◌%◌}
 use Rattle.std.specs.List.{Contains, flat_map, filter}
-use Rattle.std.specs.Option.{option_and_then, option_map}
 use Rattle.il_base.specs.declared.ids.Item.{Item}
-use Rattle.il_base.specs.declared.ids.Item.TheVariants as item
 use Rattle.il_base.specs.declared.table.TheConstants as table
 use Rattle.il_base.specs.declared.semantics.TheConstants.{SETTER}
 use Rattle.attr_blobs.specs.declared.value.NamedArg.{NamedArg}
@@ -13,7 +11,6 @@ use Rattle.world_model.specs.declared.known.Known.{Known}
 use Rattle.world_model.specs.declared.known.Known.TheVariants.{Good, Bad}
 use Rattle.world_model.specs.declared.expr.TypeExpr.{TypeExpr}
 use Rattle.world_model.specs.declared.expr.MethodUse.{MethodUse}
-use Rattle.world_model.specs.declared.members.MethodSemanticsRow.{MethodSemanticsRow}
 use Rattle.world_model.specs.declared.extras.CustomAttributeRow.{CustomAttributeRow}
 use Rattle.world_model.specs.declared.record.AsmRec.{AsmRec}
 use Rattle.world_model.specs.Tokens.{token_of, index_in}
@@ -35,7 +32,7 @@ use Rattle.mark_rules.specs.Naming.{of_expr, of_method_use, mark_types, method_n
 use Rattle.mark_rules.specs.Properties.{property_owner, event_owner, is_there, accessor_in, accessors_by, property_accessors, event_accessors, whole_property, whole_event}
 use Rattle.mark_rules.specs.Attributes.{attributes_of, value_of, value_types, is_field_named, fields_named_in, head_of, field_facts, is_property_called, properties_called_in, setter_in, setters_of, setter_facts, flat, named_member, is_input_method, value_facts, row_facts, good_uses, attribute_facts, attribute_needs}
 use Rattle.mark_rules.specs.Members.{pair, lineage, is_own, is_constructor, has_method_row, constructor_counts, constructors_by, method_counts, methods_by, has_field_row, counts, fields_by, properties_of_type, events_of_type, accessors_count, properties_by, events_by, nested_in, nested_counts, whole_type, whole_within, whole_nested, nested_by, impls_by, members_by}
-use Rattle.mark_rules.specs.Annotations.{Dependency, dependencies}
+use Rattle.mark_rules.specs.Annotations.{dependencies}
 use Rattle.mark_rules.specs.Dependencies.{sought_in, plain, has_parameters, is_method_called, is_event_called, with_made, methods_called, others_called, members_called, members_of_kinds, dependency_members, dependency_facts, dependency_needs}
 use Rattle.merged_record.specs.Laws.{InputsAreRecords}
 use Rattle.merged_owners.specs.Laws.{has_method, has_field, has_property, has_event}

@@ -1,12 +1,11 @@
 -- Each kept member is in a run, and what has the run is kept.
-use Rattle.std.proofs.Common.{◌≡◌, ◌<◌, ◌≤◌, ℕ, zero, suc, ◌+◌, List, [], ◌∷◌, ◌++◌, length, map, Bool, true, false, nat_le, nat_lt, Option, Some, None, refl, sym, ap, subst, ◌∙◌, arith}
-use Rattle.std.specs.Prelude.{slice_get, ◌==◌, ◌&&◌, if◌then◌else◌, ◌||◌}
+use Rattle.std.proofs.Common.{◌≡◌, ◌<◌, ◌≤◌, ℕ, zero, suc, List, [], ◌∷◌, ◌++◌, map, Bool, true, false, nat_le, nat_lt, Option, Some, None, refl, sym, ap, ◌∙◌, arith}
+use Rattle.std.specs.Prelude.{slice_get, if◌then◌else◌, ◌||◌}
 use Rattle.std.specs.List.{Contains, flat_map, list_any, position_from}
 use Rattle.std.specs.Option.{is_some, option_and_then, option_map}
 use Rattle.std.proofs.lemmas.Bool.{and_parts, leb-true, ltb-true, eq-eqb}
 use Rattle.std.proofs.lemmas.List.Elements.{Contains-append_left}
 use Rattle.il_base.specs.declared.ids.Item.{Item}
-use Rattle.il_base.specs.declared.ids.Item.TheVariants as item
 use Rattle.il_base.specs.declared.table.TheConstants as table
 use Rattle.descriptor_file.specs.declared.root.Root.{Root}
 use Rattle.cli_format.specs.declared.column.Column.TheVariants.{Index}
@@ -37,16 +36,16 @@ use Rattle.mark_rules.specs.Attributes.{attribute_needs}
 use Rattle.mark_rules.specs.Dependencies.{dependency_needs}
 use Rattle.mark_rules.specs.Shown.{item_shows}
 use Rattle.mark_rules.specs.Roots.{waiting_facts}
-use Rattle.mark_rules.specs.Marking.{row_needs, item_needs, one, marking, Marks}
+use Rattle.mark_rules.specs.Marking.{row_needs, one, marking, Marks}
 use Rattle.merge_rules.specs.Numbers.{Kept, kept_types, kept_methods, kept_fields, kept_properties, kept_events, new_row}
 use Rattle.merge_rules.specs.Rows.{token_32, place_token, class_token}
 use Rattle.merged_record.specs.Laws.{InputsAreRecords, HasOwner, OwnersAreKept}
 use Rattle.merged_record.proofs.Lists.{OfInput}
-use Rattle.merged_record.proofs.Tokens.{NamedRow, of_index, one_table}
-use Rattle.merged_record.proofs.Rows.{IsKept, from_kept}
+use Rattle.merged_record.proofs.Tokens.{of_index, one_table}
+use Rattle.merged_record.proofs.Rows.{from_kept}
 use Rattle.merged_record.proofs.Owned.{to_kept}
 use Rattle.merged_owners.specs.Laws.{AreMarked, AreKept, MarkedBelong, MembersBelong, OwnersStay, owns_property, owns_event}
-use Rattle.merged_owners.proofs.Homes.{Passing, passing, position_some, own_home}
+use Rattle.merged_owners.proofs.Homes.{passing, position_some, own_home}
 
 -- ---- runs
 

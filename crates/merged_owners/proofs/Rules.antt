@@ -1,9 +1,8 @@
 -- What parts, rows and attributes of items mark belongs to something.
-use Rattle.std.proofs.Common.{◌≡◌, ◌<◌, ℕ, zero, suc, ◌+◌, List, [], ◌∷◌, ◌++◌, length, map, Bool, true, false, Option, Some, None, inl, inr, refl, sym, ap, subst, ◌∙◌, arith}
-use Rattle.std.specs.Prelude.{slice_get, if◌then◌else◌, ◌==◌, ◌&&◌, ◌||◌, not, ◌%◌}
-use Rattle.std.specs.List.{Contains, flat_map, filter, list_any}
+use Rattle.std.proofs.Common.{◌≡◌, ℕ, suc, List, [], ◌∷◌, ◌++◌, map, Bool, true, false, Option, Some, None, refl, subst}
+use Rattle.std.specs.Prelude.{slice_get, if◌then◌else◌, ◌==◌, ◌&&◌, ◌||◌}
+use Rattle.std.specs.List.{flat_map, filter, list_any}
 use Rattle.std.specs.Option.{option_and_then, option_map}
-use Rattle.std.proofs.lemmas.Bool.{and_parts}
 use Rattle.il_base.specs.declared.ids.Item.{Item}
 use Rattle.il_base.specs.declared.ids.Item.TheVariants as item
 use Rattle.il_base.specs.declared.sig.Sig.{Sig}
@@ -13,10 +12,8 @@ use Rattle.il_base.specs.declared.body.Form.TheVariants as form
 use Rattle.il_base.specs.declared.body.Operand.{Operand}
 use Rattle.il_base.specs.declared.body.Operand.TheVariants as operand
 use Rattle.il_base.specs.declared.body.Instr.{Instr}
-use Rattle.il_base.specs.declared.body.Handler.{Handler}
 use Rattle.il_base.specs.declared.body.Body.{Body}
 use Rattle.il_base.specs.declared.table.TheConstants as table
-use Rattle.il_base.specs.declared.semantics.TheConstants.{SETTER}
 use Rattle.world_model.specs.declared.known.Known.{Known}
 use Rattle.world_model.specs.declared.known.Known.TheVariants.{Good, Bad}
 use Rattle.world_model.specs.declared.known.BadKind.{BadKind}
@@ -26,8 +23,6 @@ use Rattle.world_model.specs.declared.expr.MethodUse.{MethodUse}
 use Rattle.world_model.specs.declared.expr.FieldUse.{FieldUse}
 use Rattle.world_model.specs.declared.types.TypeDefRow.{TypeDefRow}
 use Rattle.world_model.specs.declared.types.InterfaceImplRow.{InterfaceImplRow}
-use Rattle.world_model.specs.declared.types.GenericParamRow.{GenericParamRow}
-use Rattle.world_model.specs.declared.types.GenericParamConstraintRow.{GenericParamConstraintRow}
 use Rattle.world_model.specs.declared.members.FieldRow.{FieldRow}
 use Rattle.world_model.specs.declared.members.MethodDefRow.{MethodDefRow}
 use Rattle.world_model.specs.declared.members.PropertyRow.{PropertyRow}
@@ -38,11 +33,9 @@ use Rattle.world_model.specs.declared.members.StandAloneSigRow.{StandAloneSigRow
 use Rattle.world_model.specs.declared.members.PropertyMapRow.{PropertyMapRow}
 use Rattle.world_model.specs.declared.members.EventMapRow.{EventMapRow}
 use Rattle.world_model.specs.declared.record.AsmRec.{AsmRec}
-use Rattle.world_model.specs.declared.record.UserText.{UserText}
 use Rattle.world_model.specs.Tokens.{token_of, index_in}
 use Rattle.world_model.specs.Worlds.{known_map, known_then, sig_expr, type_id}
 use Rattle.link_rules.specs.declared.row_at.RowAt.{RowAt}
-use Rattle.link_rules.specs.declared.member_type.MethodType.{MethodType}
 use Rattle.link_rules.specs.Types.{at_row, encloser}
 use Rattle.link_rules.specs.Signatures.{names_at, token_type, method_type}
 use Rattle.link_rules.specs.Members.{arguments_of, generic_method, good_type, owner_of}
@@ -51,11 +44,9 @@ use Rattle.type_rules.specs.Rows.{each_row, field_row_at, rec_at, owner_of_field
 use Rattle.type_rules.specs.Slots.{type_of_method, method_row_at}
 use Rattle.type_rules.specs.Dispatch.{good_use}
 use Rattle.type_rules.specs.Searches.{has_owner}
-use Rattle.known_laws.proofs.Lists.{and_then_some}
-use Rattle.mark_rules.specs.Facts.{Fact}
 use Rattle.mark_rules.specs.Facts.Fact.{marked, instantiated}
-use Rattle.mark_rules.specs.Places.{marks_type, marks_method, marks_field, prop_item, event_item, impl_item}
-use Rattle.mark_rules.specs.Naming.{Part, Named, of_expr, of_exprs, of_named, of_known, of_parts, of_method_use, good_part, bad_part, type_parts, parts_of, sig_parts, sigs_parts, method_type_parts, method_sig_parts, type_token_part, method_token_part, field_token_part, method_named, field_named}
+use Rattle.mark_rules.specs.Places.{marks_type, marks_field, prop_item, event_item, impl_item}
+use Rattle.mark_rules.specs.Naming.{Part, of_expr, of_named, of_known, of_parts, of_method_use, good_part, bad_part, type_parts, parts_of, sig_parts, sigs_parts, method_type_parts, method_sig_parts, type_token_part, method_token_part, field_token_part, method_named, field_named}
 use Rattle.mark_rules.specs.Naming.Named.{type, method, field}
 use Rattle.mark_rules.specs.Types.{constraint_of, constraints_of_param, constraints_of, encloser_of, extends_of, parts_of_type, type_needs, laid_fields, layout_needs, parts_of_field, field_needs, parts_of_impl, impl_needs, implies_one, row_for, rows_for}
 use Rattle.mark_rules.specs.Calls.{owner_facts, row_parts, parts_of_method, method_needs, makes_type, makes_by, made_in, makes, code_of, overridden, has_body, declared_by, declared_in, overrides_of, initializer_of, method_starts, field_starts}
@@ -64,9 +55,9 @@ use Rattle.mark_rules.specs.Properties.{property_owner_in, event_owner_in, prope
 use Rattle.mark_rules.specs.Marking.{row_needs}
 use Rattle.merged_record.specs.Laws.{InputsAreRecords}
 use Rattle.merged_owners.specs.Laws.{owns_property, owns_event, has_method, has_field, has_property, has_event}
-use Rattle.merged_owners.proofs.Every.{Every, all_none, all_more, all_one, all_join, all_listed, all_if, all_either, all_filter, all_passing, all_flat, all_option, all_map, all_each, every_map}
+use Rattle.merged_owners.proofs.Every.{Every, all_none, all_more, all_one, all_join, all_if, all_either, all_filter, all_passing, all_flat, all_option, all_map, all_each, every_map}
 use Rattle.merged_owners.proofs.Runs.{OfItem, OfFact, Fine, Has, fields_have, field_fine, property_fine, event_fine}
-use Rattle.merged_owners.proofs.Uses.{types_fine, expr_fine, method_use_fine, field_use_fine, generic_fine, method_named_fine, field_named_fine}
+use Rattle.merged_owners.proofs.Uses.{expr_fine, method_use_fine, field_use_fine, generic_fine, method_named_fine, field_named_fine}
 use Rattle.merged_owners.proofs.Dispatched.{overridden_fine, initializer_fine}
 
 good_used : (x : Known MethodUse) (u : MethodUse) → good_use x ≡ Some u → x ≡ Good u

@@ -1,8 +1,8 @@
 -- Members that searches in runs find are in a run.
-use Rattle.std.proofs.Common.{◌≡◌, ◌<◌, ◌≤◌, ℕ, zero, suc, ◌+◌, ◌-◌, List, [], ◌∷◌, length, map, Bool, true, false, nat_le, nat_lt, Option, Some, None, inl, inr, refl, sym, ap, subst, ◌∙◌, arith}
+use Rattle.std.proofs.Common.{◌≡◌, ◌<◌, ◌≤◌, ℕ, suc, ◌+◌, List, [], ◌∷◌, length, map, Bool, true, false, nat_le, nat_lt, Some, subst, arith}
 use Rattle.std.specs.Prelude.{slice_get, if◌then◌else◌, ◌==◌}
-use Rattle.std.specs.List.{Contains, flat_map, list_any, position_from, range_with_len}
-use Rattle.std.specs.Option.{option_and_then, option_map}
+use Rattle.std.specs.List.{Contains, flat_map, list_any, position_from}
+use Rattle.std.specs.Option.{option_map}
 use Rattle.std.proofs.lemmas.Bool.{and_from, le-leb, lt-ltb}
 use Rattle.il_base.specs.declared.table.TheConstants as table
 use Rattle.world_model.specs.declared.expr.TypeExpr.{TypeExpr}
@@ -11,15 +11,14 @@ use Rattle.world_model.specs.declared.members.PropertyMapRow.{PropertyMapRow}
 use Rattle.world_model.specs.declared.members.EventMapRow.{EventMapRow}
 use Rattle.world_model.specs.declared.record.AsmRec.{AsmRec}
 use Rattle.world_model.specs.Tokens.{token_of}
-use Rattle.world_model.specs.Records.{table_sizes, rows_in, IsRecord}
-use Rattle.world_model.specs.Worlds.{rows_before}
+use Rattle.world_model.specs.Records.{table_sizes, IsRecord}
 use Rattle.link_rules.specs.declared.row_at.RowAt.{RowAt}
 use Rattle.link_rules.specs.Types.{at_row}
-use Rattle.link_rules.specs.Members.{Found, found_in, or_next, search, closed, run_of, find_in_run, is_in_run, in_definition, owns_method, owns_field, methods_in, fields_in}
+use Rattle.link_rules.specs.Members.{find_in_run, is_in_run, in_definition, owns_method, owns_field, methods_in, fields_in}
 use Rattle.link_rules.specs.Cycles.{listed}
 use Rattle.type_rules.specs.Rows.{rec_at, run_places, methods_of_type, fields_of_type}
 use Rattle.type_rules.specs.Slots.{owner_from, type_of_method}
-use Rattle.type_rules.specs.Dispatch.{place_that, find_row_in_run}
+use Rattle.type_rules.specs.Dispatch.{place_that}
 use Rattle.walk_laws.proofs.Finds as finds
 use Rattle.known_laws.proofs.Lists.{first_in, later_in, and_then_some, map_some}
 use Rattle.mark_rules.specs.Facts.{Fact}

@@ -1,7 +1,7 @@
 -- What descriptors keep, and what is marked before any rule is used, belongs to something.
-use Rattle.std.proofs.Common.{◌≡◌, ◌<◌, ℕ, zero, suc, List, [], ◌∷◌, ◌++◌, length, map, Bool, true, false, Option, Some, None, refl, sym, ap, subst, ◌∙◌, arith}
-use Rattle.std.specs.Prelude.{⊤, slice_get, if◌then◌else◌, nat_eq, ◌==◌, ◌||◌}
-use Rattle.std.specs.List.{Contains, flat_map, filter, list_any}
+use Rattle.std.proofs.Common.{◌≡◌, ℕ, suc, List, [], ◌∷◌, ◌++◌, length, map, Bool, true, false, Option, Some, None, refl, sym, ap, subst, arith}
+use Rattle.std.specs.Prelude.{slice_get, if◌then◌else◌, nat_eq, ◌==◌, ◌||◌}
+use Rattle.std.specs.List.{flat_map, filter, list_any}
 use Rattle.std.proofs.lemmas.Bool.{eqb-true}
 use Rattle.il_base.specs.declared.ids.TypeId.{TypeId}
 use Rattle.il_base.specs.declared.ids.Item.{Item}
@@ -32,7 +32,7 @@ use Rattle.mark_rules.specs.Marking.{same_item, same_fact, is_core_fact, given}
 use Rattle.merged_record.specs.Laws.{InputsAreRecords}
 use Rattle.merged_owners.specs.Laws.{has_method, has_field, has_property, has_event}
 use Rattle.merged_owners.proofs.Homes.{Placed}
-use Rattle.merged_owners.proofs.Every.{Every, all_none, all_more, all_one, all_join, all_if, all_either, all_filter, all_flat, all_option, all_map, all_each, every_map, some_of}
+use Rattle.merged_owners.proofs.Every.{Every, all_none, all_more, all_one, all_join, all_if, all_either, all_filter, all_flat, all_option, all_each, every_map, some_of}
 use Rattle.merged_owners.proofs.Runs.{OfItem, OfFact, Fine, Has, methods_have, fields_have, properties_have, events_have, method_fine, field_fine, typed_has}
 use Rattle.merged_owners.proofs.Members.{whole_property_fine, whole_event_fine, kept_method_fine}
 

@@ -1,7 +1,7 @@
 -- Members that tokens name are in a run.
-use Rattle.std.proofs.Common.{◌≡◌, ◌<◌, ◌≤◌, ℕ, zero, suc, ◌+◌, List, [], ◌∷◌, ◌++◌, length, map, Bool, true, false, nat_lt, Option, Some, None, refl, sym, ap, subst, ◌∙◌}
+use Rattle.std.proofs.Common.{◌≡◌, ℕ, suc, ◌+◌, List, [], ◌∷◌, ◌++◌, Bool, true, false, nat_lt, Option, Some, None, refl, subst}
 use Rattle.std.specs.Prelude.{slice_get, if◌then◌else◌, ◌==◌}
-use Rattle.std.specs.List.{Contains, flat_map, position_from}
+use Rattle.std.specs.List.{position_from}
 use Rattle.std.specs.Option.{option_and_then, option_map}
 use Rattle.il_base.specs.declared.ids.TypeId.{TypeId}
 use Rattle.il_base.specs.declared.ids.Item.TheVariants as item
@@ -27,7 +27,6 @@ use Rattle.link_rules.specs.Types.{at_row}
 use Rattle.link_rules.specs.Signatures.{names_at, method_type}
 use Rattle.link_rules.specs.Members.{args_of, Found, found_in, or_next, search, closed, with_bases, open_parent, is_method, is_field, method_of_type, field_of_type, find_method, find_field, methods_in, fields_in, most_levels, method_use, field_use, owns_method, owns_field, own_type, own_member, method_def_use, field_def_use, is_field_sig, is_method_sig, parent_of, method_in_parent, field_in_parent, method_ref_use, field_ref_use, ref_use_at, def_use_at, generic_method, instantiated, arguments_of, method_spec_use}
 use Rattle.known_laws.proofs.Lists.{map_some}
-use Rattle.mark_rules.specs.Facts.{Fact}
 use Rattle.mark_rules.specs.Facts.Fact.{marked}
 use Rattle.mark_rules.specs.Naming.{types_in, mark_types, of_expr, of_exprs, of_method_use, of_field_use, spec_use_at, method_named, field_def_at, field_ref_at, field_named}
 use Rattle.merged_record.specs.Laws.{InputsAreRecords}
