@@ -4,6 +4,7 @@ pub mod Every
 pub mod Runs
 pub mod Dispatched
 pub mod Uses
+pub mod Parts
 pub mod Rules
 pub mod Members
 pub mod Starts
