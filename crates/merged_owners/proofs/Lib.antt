@@ -1,0 +1,11 @@
+pub mod Homes
+pub mod Owners
+pub mod Every
+pub mod Runs
+pub mod Dispatched
+pub mod Uses
+pub mod Parts
+pub mod Rules
+pub mod Members
+pub mod Starts
+pub mod Belong
