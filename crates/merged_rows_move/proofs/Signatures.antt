@@ -1,10 +1,9 @@
 -- A kept method's signature moves with it (II.23.2.1), where the output reads what it wrote; the core library's name its own types.
-use Rattle.std.proofs.Common.{◌≡◌, ◌<◌, ◌≤◌, ℕ, zero, suc, ◌-◌, Bool, true, false, List, [], ◌∷◌, ◌++◌, length, map, Option, Some, None, ◌⊎◌, inl, inr, refl, sym, ap, subst, ◌∙◌, arith}
-use Rattle.std.specs.Prelude.{slice_get, ◌==◌, ◌&&◌, if◌then◌else◌}
+use Rattle.std.proofs.Common.{◌≡◌, ◌<◌, ℕ, zero, suc, Bool, true, false, List, [], ◌∷◌, ◌++◌, length, map, Option, Some, None, inl, inr, refl, sym, ap, ◌∙◌, arith}
+use Rattle.std.specs.Prelude.{slice_get, ◌&&◌, if◌then◌else◌}
 use Rattle.std.specs.List.{list_all}
 use Rattle.std.specs.Option.{option_map, option_and_then}
 use Rattle.std.proofs.lemmas.Bool.{and_parts}
-use Rattle.il_base.specs.declared.table.TheConstants.{TYPE_SPEC}
 use Rattle.il_base.specs.declared.sig.Sig.{Sig, roll-Sig, fold-roll-Sig}
 use Rattle.il_base.specs.declared.sig.Sig.TheFolds.{map-Sig}
 use Rattle.il_base.specs.declared.sig.Sig.TheOpen.{Sig-F}
@@ -17,8 +16,7 @@ use Rattle.world_model.specs.declared.expr.TypeExpr.{TypeExpr}
 use Rattle.world_model.specs.declared.expr.TypeExpr.TheVariants as expr
 use Rattle.world_model.specs.declared.members.MethodDefRow.{MethodDefRow}
 use Rattle.world_model.specs.declared.record.AsmRec.{AsmRec}
-use Rattle.world_model.specs.Tokens.{table_of}
-use Rattle.world_model.specs.Worlds.{types_in, known_map, known_then, known_or, all_known, named_in, sig_layer, sig_expr}
+use Rattle.world_model.specs.Worlds.{types_in, known_map, known_then, all_known, named_in, sig_layer, sig_expr}
 use Rattle.core_table.specs.declared.shape.CoreMethod.{CoreMethod}
 use Rattle.core_table.specs.declared.shape.CoreParams.{CoreParams}
 use Rattle.core_table.specs.declared.shape.CoreParams.TheVariants.{Zero, One, Two, Three, Four}
@@ -29,7 +27,6 @@ use Rattle.core_table.specs.declared.types.TheConstants.{TYPES}
 use Rattle.core_table.specs.Members.{methods_of}
 use Rattle.core_table.specs.Record.{core_record, record_with, sig_of, params_of, signature_of, method_row, method_rows, all_methods}
 use Rattle.link_rules.specs.declared.row_at.RowAt.{RowAt}
-use Rattle.link_rules.specs.declared.member_type.MethodType.{MethodType}
 use Rattle.link_rules.specs.Types.{at_row}
 use Rattle.link_rules.specs.Signatures.{definition_expr, named_type, names_at, method_type_of, method_type}
 use Rattle.link_rules.specs.Members.{methods_in}
@@ -46,10 +43,10 @@ use Rattle.merged_world_rules.specs.NewNumbers.{rho_of}
 use Rattle.merged_places.proofs.Ranks.{rank}
 use Rattle.merged_places.proofs.Rows.{place_has, place_past}
 use Rattle.merged_places.proofs.Kept.{keeps}
-use Rattle.merged_places.proofs.Worlds.{core_of, left_core, after_is, after_left, after_core, core_rec, core_at, before_methods}
+use Rattle.merged_places.proofs.Worlds.{core_of, left_core, after_left, after_core, core_rec, core_at, before_methods}
 use Rattle.merged_places.proofs.CoreTables.{method_same}
 use Rattle.merged_places.proofs.Tables.{number_method, method_kind, method_left}
-use Rattle.merged_places.proofs.Situations.{place, situation, Input, Core, Gone, HasNone}
+use Rattle.merged_places.proofs.Situations.{place, situation, Input, Core, HasNone}
 use Rattle.merged_rows_move.specs.Premises.{ReadsSignatures}
 use Rattle.merged_rows_move.proofs.RowsOf.{MethodStays}
 use Rattle.merged_rows_move.proofs.Core.{types_more}
@@ -258,6 +255,6 @@ module _ (m : Merge) (is : IsMerge m) where
     | inr other ↦ elim other [
       | inl h ↦ core_signature at h
       | inr h ↦ gone_by (after m) (meth at) h.none_after (slice_get (after m) (meth at).asm) refl
-      ∙ sym (ap (option_map (known_map (move_method_type (rho_of m)))) (gone_by (before m) at h.none_before (slice_get (before m) at.asm) refl))
+          ∙ sym (ap (option_map (known_map (move_method_type (rho_of m)))) (gone_by (before m) at h.none_before (slice_get (before m) at.asm) refl))
     ]
   ]
