@@ -135,11 +135,11 @@ row_right names k t e =
     ∙ and_from (list_all is_right core_record.type_def) (list_all is_right (map (added_row core_record) names)) table_right (added_right names)) e
 
 -- a token of such a type
-record Own (w : ℕ) : Type 0 where
-  table : (table_of w == TYPE_DEF) ≡ true
-  row : ℕ
-  names : index_in TYPE_DEF w ≡ Some row
-  low : row < length core_record.type_def
+pub record Own (w : ℕ) : Type 0 where
+  pub table : (table_of w == TYPE_DEF) ≡ true
+  pub row : ℕ
+  pub names : index_in TYPE_DEF w ≡ Some row
+  pub low : row < length core_record.type_def
 
 own_by : (w : ℕ) (b : Bool) → (table_of w == TYPE_DEF) ≡ b → (o : Option ℕ) → row_index w ≡ o → list_any (λ n. nat_lt n (length TYPES)) (listed (if b then o else None)) ≡ true → Own w
 own_by w false t o e h = absurd (cc)
@@ -153,12 +153,12 @@ own_by w true t (Some k) e h =
     or_none true = refl
     or_none false = refl
 
-own_token : (w : ℕ) → is_table_type w ≡ true → Own w
+pub own_token : (w : ℕ) → is_table_type w ≡ true → Own w
 own_token w h = own_by w (table_of w == TYPE_DEF) refl (row_index w) refl h
 
 -- it names that row
 module _ (recs : List AsmRec) (a : ℕ) (rec : AsmRec) (w : ℕ) (own : Own w) (lt : own.row < types_in rec) where
-  not_spec : (table_of w == TYPE_SPEC) ≡ false
+  pub not_spec : (table_of w == TYPE_SPEC) ≡ false
   not_spec = let table = eqb-true (table_of w) TYPE_DEF own.table in ne_eqb (table_of w) TYPE_SPEC (λ e. absurd (omega (arith, e, table)))
 
   placed : definition_at recs a rec w ≡ Some (at_row a own.row)
@@ -167,6 +167,10 @@ module _ (recs : List AsmRec) (a : ℕ) (rec : AsmRec) (w : ℕ) (own : Own w) (
       ap (λ (b : Bool). if b then option_map (at_row a) (row_below (types_in rec) (index_in TYPE_DEF w)) else option_and_then (ref_definition recs a rec) (index_in TYPE_REF w)) own.table
       ∙ ap (λ (o : Option ℕ). option_map (at_row a) (row_below (types_in rec) o)) own.names
       ∙ ap (λ (b : Bool). option_map (at_row a) (if b then Some own.row else None)) (lt-ltb own.row (types_in rec) lt)
+
+  pub named_own : named_type recs a rec w ≡ Good (definition_expr recs (at_row a own.row))
+  unfolding named_type
+  named_own = ap (known_expr recs) placed
 
   names_own : token_type recs a rec w ≡ Good (definition_expr recs (at_row a own.row))
   unfolding token_type named_type
@@ -269,14 +273,14 @@ module _ (m : Merge) (is : IsMerge m) where
   defined_by a k last lt None =
       ap (λ (n : ℕ). expr.Def (record { 0 = n })) (number_moved a k last lt) ∙ sym (move_def (rho_of m) (type_id (before m) a k))
 
-  defined : (a k : ℕ) → suc a ≡ length (before m) → k < length core_record.type_def → definition_expr (after m) (at_row 1 k) ≡ move_expr (rho_of m) (definition_expr (before m) (at_row a k))
+  pub defined : (a k : ℕ) → suc a ≡ length (before m) → k < length core_record.type_def → definition_expr (after m) (at_row 1 k) ≡ move_expr (rho_of m) (definition_expr (before m) (at_row a k))
   unfolding definition_expr
   defined a k last lt =
       ap (λ (o : Option ℕ). elim o [ Some n ↦ expr.Prim n | None ↦ expr.Def (type_id (after m) 1 k) ]) (prim_after k lt)
       ∙ defined_by a k last lt (option_and_then prim_of (slice_get core_record.type_def k))
       ∙ sym (ap (λ (o : Option ℕ). move_expr (rho_of m) (elim o [ Some n ↦ expr.Prim n | None ↦ expr.Def (type_id (before m) a k) ])) (prim_before a k last lt))
 
-  types_left : length core_record.type_def ≤ types_in (left_core m)
+  pub types_left : length core_record.type_def ≤ types_in (left_core m)
   types_left = let long = ap length (left_types m) ∙ length-append core_record.type_def (map (added_row core_record) (names_after m)) in omega (arith, long)
 
   -- a base, or none

@@ -4,7 +4,7 @@ use Rattle.std.specs.Prelude.{IsTrue, slice_get, ◌==◌, ◌&&◌, ◌||◌, i
 use Rattle.std.specs.List.{Contains, list_any, flat_map, filter}
 use Rattle.std.specs.Option.{option_map, option_and_then}
 use Rattle.std.proofs.lemmas.Bool.{eqb-true, eq-eqb, cases_lt, and_from}
-use Rattle.std.proofs.lemmas.List.{append-nil, append_assoc, map-append}
+use Rattle.std.proofs.lemmas.List.{append-nil, map-append}
 use Rattle.std.proofs.lemmas.Grind.{flat_map-append}
 use Rattle.std.proofs.lemmas.List.Elements.{filter-append, Contains-append_left, Contains-append_right}
 use Rattle.il_base.specs.declared.table.TheConstants.{TYPE_DEF}
@@ -27,10 +27,9 @@ use Rattle.type_rules.specs.Rows.{rec_at, each_from}
 use Rattle.mark_rules.specs.Places.{impl_item}
 use Rattle.merge_rules.specs.Numbers.{Kept, inputs_from, inputs, kept_types}
 use Rattle.merge_rules.specs.Keys.{TypeKey, type_key}
-use Rattle.merge_rules.specs.Order.{Met, met_type, met_types, met_token, met_interface, met_interfaces, met_in_type, met_by_types}
+use Rattle.merge_rules.specs.Order.{Met, met_type, met_types, met_interface, met_interfaces, met_in_type, met_by_types}
 use Rattle.merge_rules.specs.Attributes.{met_by_attributes}
 use Rattle.merge_rules.specs.Rows.{all_rows, place_token, SortedRow, sorted_at, class_token, sorted_impl, kept_interfaces}
-use Rattle.merge_rules.specs.Sorted.{by_key}
 use Rattle.merge_rules.specs.Moved.{moved_type}
 use Rattle.merge_rules.specs.Restricted.{each_at, each_sorted, new_impl, output_of}
 use Rattle.change_rules.specs.Change.{Keep}
@@ -46,7 +45,7 @@ use Rattle.merged_world_rules.specs.Kept.{HasFlags}
 use Rattle.merged_places.proofs.Ranks.{rank}
 use Rattle.merged_places.proofs.Rows.{place_within, place_past}
 use Rattle.merged_places.proofs.Kept.{keeps}
-use Rattle.merged_places.proofs.Worlds.{core_of, left_core, after_is, after_left, after_core, core_rec, core_at, left_is}
+use Rattle.merged_places.proofs.Worlds.{core_of, left_core, after_is, after_left, after_core, core_at, left_is}
 use Rattle.merged_places.proofs.Tables.{number_type, type_rows as kept_type_rows, type_kind, those_at}
 use Rattle.merged_places.proofs.Situations.{place, situation, Input, Core, Gone}
 use Rattle.merged_places.proofs.Whole.{undone_of, places_move, type_stays}

@@ -14,4 +14,5 @@ pub mod Nesting
 pub mod Interfaces
 pub mod Impls
 pub mod Names
+pub mod Signatures
 pub mod Whole

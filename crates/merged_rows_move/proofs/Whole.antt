@@ -12,18 +12,19 @@ use Rattle.world_model.specs.declared.members.MethodDefRow.{MethodDefRow}
 use Rattle.world_model.specs.declared.record.AsmRec.{AsmRec}
 use Rattle.core_table.specs.Record.{core_record}
 use Rattle.world_model.specs.Tokens.{token_of, table_of, row_index, index_from}
-use Rattle.world_model.specs.Worlds.{types_in}
+use Rattle.world_model.specs.Worlds.{types_in, known_map}
 use Rattle.link_rules.specs.declared.row_at.RowAt.{RowAt}
 use Rattle.link_rules.specs.Members.{methods_in, fields_in, base_at}
 use Rattle.link_rules.specs.Cycles.{listed, interfaces_at}
 use Rattle.type_rules.specs.Rows.{is_instance_field}
+use Rattle.type_rules.specs.Slots.{type_of_row}
 use Rattle.type_rules.specs.Texts.{name_at}
 use Rattle.view_rules.specs.Members.{core_type_row}
 use Rattle.merge_rules.specs.Numbers.{kept_types, kept_methods, kept_fields}
 use Rattle.change_rules.specs.Change.{Keep, Undone}
 use Rattle.change_rules.specs.Moves.{move_expr}
 use Rattle.world_change_rules.specs.Places.{type_number, keeps_type_row, keeps_method_row, keeps_field_row}
-use Rattle.world_change_rules.specs.Rows.{move_impl, impls_at, keeps_impl, kept_interfaces_at, is_table_type, SameMethod, TypeMoves}
+use Rattle.world_change_rules.specs.Rows.{move_method_type, move_impl, impls_at, keeps_impl, kept_interfaces_at, is_table_type, SameMethod, TypeMoves}
 use Rattle.merged_world_rules.specs.Merge.{Merge, IsMerge, before, after, names_before, names_after}
 use Rattle.merged_world_rules.specs.Numbering.{number_at}
 use Rattle.merged_world_rules.specs.NewNumbers.{type_core, rho_of, back_of, change_of, places_of}
@@ -34,7 +35,7 @@ use Rattle.merged_places.proofs.CoreRows.{row_either}
 use Rattle.merged_places.proofs.Situations.{place, situation, Input, Core, Gone}
 use Rattle.merged_places.proofs.Tables.{number_type, number_method, number_field, type_kind}
 use Rattle.merged_places.proofs.Whole.{row_there, there_row, type_stays, method_stays, field_stays}
-use Rattle.merged_rows_move.specs.Premises.{ReadsTokens, HasGoodBases, HasGoodInterfaces, ReadsImpls, KeepsNames}
+use Rattle.merged_rows_move.specs.Premises.{ReadsTokens, HasGoodBases, HasGoodInterfaces, ReadsImpls, ReadsSignatures, KeepsNames}
 use Rattle.merged_rows_move.specs.Laws.{ReadsRows, MembersMove, TypeMarks, MethodMarks, MarksMove}
 use Rattle.merged_rows_move.proofs.Members.{methods_move, fields_move}
 use Rattle.merged_rows_move.proofs.Owners.{owner_moved}
@@ -42,6 +43,7 @@ use Rattle.merged_rows_move.proofs.Bases.{base_moved}
 use Rattle.merged_rows_move.proofs.Interfaces.{interfaces_moved}
 use Rattle.merged_rows_move.proofs.Impls.{impls_moved}
 use Rattle.merged_rows_move.proofs.Names.{name_moved}
+use Rattle.merged_rows_move.proofs.Signatures.{signature_moved}
 use Rattle.merged_rows_move.proofs.Core.{type_count, type_row_below, types_more}
 use Rattle.merged_rows_move.proofs.Heads.{head_moved, fits_moved}
 use Rattle.merged_rows_move.proofs.RowsOf.{LikeMethod, interface_moved, explicit_moved, method_row_moved, method_row_absent, instance_moved}
@@ -240,3 +242,10 @@ module _ (m : Merge) (k : Keep) (kept : RowAt → Bool) (is : IsMerge m) (flags 
 
   pub marks : MarksMove m k
   marks = record { types = type_marks; methods = method_marks; instance = field_instance }
+
+  -- ---- signatures
+
+  pub signatures : ReadsSignatures m → (at : RowAt) → IsTrue (keeps_method_row k (before m) at)
+      → type_of_row (after m) ((places_of m).method at) ≡ option_map (known_map (move_method_type (rho_of m))) (type_of_row (before m) at)
+  unfolding kept_methods
+  signatures reads at keeps = signature_moved m is reads at (λ h. method_stays m is k kept flags at keeps h)

@@ -7,11 +7,12 @@ use Rattle.core_table.specs.declared.names.CoreName.{CoreName}
 use Rattle.world_model.specs.declared.expr.TypeExpr.{TypeExpr}
 use Rattle.world_model.specs.declared.types.TypeDefRow.{TypeDefRow}
 use Rattle.world_model.specs.declared.members.MethodDefRow.{MethodDefRow}
+use Rattle.world_model.specs.Worlds.{known_map}
 use Rattle.link_rules.specs.declared.row_at.RowAt.{RowAt}
 use Rattle.link_rules.specs.Members.{base_at}
 use Rattle.link_rules.specs.Cycles.{interfaces_at, is_interface_at, is_core_row_at}
 use Rattle.type_rules.specs.Rows.{type_row_at, methods_of_type, fields_of_type, is_instance_field}
-use Rattle.type_rules.specs.Slots.{method_row_at, type_of_method}
+use Rattle.type_rules.specs.Slots.{method_row_at, type_of_method, type_of_row}
 use Rattle.type_rules.specs.Texts.{name_at}
 use Rattle.view_rules.specs.Methods as view
 use Rattle.view_rules.specs.Layouts.{is_core_type, fits_params}
@@ -19,11 +20,11 @@ use Rattle.view_rules.specs.Answers.{core_name_at}
 use Rattle.change_rules.specs.Change.{Keep, Undone}
 use Rattle.change_rules.specs.Moves.{move_expr}
 use Rattle.world_change_rules.specs.Places.{type_number, keeps_type_row, keeps_method_row, keeps_field_row}
-use Rattle.world_change_rules.specs.Rows.{move_impl, impls_at, keeps_impl, kept_interfaces_at, is_table_type, SameMethod, TypeMoves, CoreMoves}
+use Rattle.world_change_rules.specs.Rows.{move_method_type, move_impl, impls_at, keeps_impl, kept_interfaces_at, is_table_type, SameMethod, TypeMoves, CoreMoves}
 use Rattle.merged_world_rules.specs.Merge.{Merge, IsMerge, before, after}
 use Rattle.merged_world_rules.specs.NewNumbers.{rho_of, back_of, change_of, places_of}
 use Rattle.merged_world_rules.specs.Kept.{HasFlags}
-use Rattle.merged_rows_move.specs.Premises.{ReadsTokens, HasGoodBases, HasGoodInterfaces, ReadsImpls, KeepsNames}
+use Rattle.merged_rows_move.specs.Premises.{ReadsTokens, HasGoodBases, HasGoodInterfaces, ReadsImpls, ReadsSignatures, KeepsNames}
 
 abbrev pub ForMerges : ((m : Merge) (k : Keep) → Type 0) → Type 0
 ForMerges P = (m : Merge) (k : Keep) (kept : RowAt → Bool) → IsMerge m → HasFlags m k kept → P m k
@@ -83,6 +84,12 @@ abbrev pub MovesNames : Type 0
 MovesNames =
     ForMerges (λ m k. KeepsNames m k → (at : RowAt) → IsTrue (keeps_type_row k (before m) at) → IsTrue (k.shown (type_number (before m) at))
     → name_at (after m) ((places_of m).typ at) ≡ name_at (before m) at)
+
+-- a method's signature
+abbrev pub MovesSignatures : Type 0
+MovesSignatures =
+    ForMerges (λ m k. ReadsSignatures m → (at : RowAt) → IsTrue (keeps_method_row k (before m) at)
+    → type_of_row (after m) ((places_of m).method at) ≡ option_map (known_map (move_method_type (rho_of m))) (type_of_row (before m) at))
 
 -- all of a type's row
 pub record ReadsRows (m : Merge) (k : Keep) : Type 0 where

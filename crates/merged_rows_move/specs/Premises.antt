@@ -5,28 +5,30 @@ use Rattle.world_model.specs.declared.known.Known.TheVariants.{Good}
 use Rattle.world_model.specs.declared.expr.TypeExpr.{TypeExpr}
 use Rattle.world_model.specs.declared.types.TypeDefRow.{TypeDefRow}
 use Rattle.world_model.specs.declared.types.InterfaceImplRow.{InterfaceImplRow}
+use Rattle.world_model.specs.declared.members.MethodDefRow.{MethodDefRow}
 use Rattle.world_model.specs.declared.members.MethodImplRow.{MethodImplRow}
 use Rattle.world_model.specs.declared.record.AsmRec.{AsmRec}
 use Rattle.world_model.specs.Records.{IsRecord}
+use Rattle.world_model.specs.Worlds.{known_then, known_map}
 use Rattle.link_rules.specs.declared.row_at.RowAt.{RowAt}
 use Rattle.link_rules.specs.Types.{at_row, encloser}
-use Rattle.link_rules.specs.Signatures.{token_type}
+use Rattle.link_rules.specs.Signatures.{token_type, names_at, method_type}
 use Rattle.link_rules.specs.Members.{generic_method}
 use Rattle.link_rules.specs.Cycles.{listed}
 use Rattle.link_rules.specs.Linked.{link_fault_of}
 use Rattle.type_rules.specs.Dispatch.{good_use}
-use Rattle.mark_rules.specs.Places.{type_item, impl_item}
+use Rattle.mark_rules.specs.Places.{type_item, method_item, impl_item}
 use Rattle.merge_rules.specs.Numbers.{kept_types}
 use Rattle.merge_rules.specs.Names.{collision}
 use Rattle.merge_rules.specs.Keys.{TypeKey, type_key}
 use Rattle.merge_rules.specs.Order.{met_type}
-use Rattle.merge_rules.specs.Moved.{moved_type}
+use Rattle.merge_rules.specs.Moved.{moved_type, moved_method_sig}
 use Rattle.merge_rules.specs.Restricted.{impl_row, has_kept_body}
 use Rattle.change_rules.specs.Change.{Keep}
 use Rattle.change_rules.specs.Moves.{move_expr}
 use Rattle.change_rules.specs.Keeps.{keeps_expr}
 use Rattle.world_change_rules.specs.Places.{type_number}
-use Rattle.world_change_rules.specs.Rows.{Impl, move_impl, impl_by, keeps_impl}
+use Rattle.world_change_rules.specs.Rows.{move_method_type, Impl, move_impl, impl_by, keeps_impl}
 use Rattle.merged_world_rules.specs.Merge.{Merge, before, after, output}
 use Rattle.merged_world_rules.specs.NewNumbers.{rho_of}
 
@@ -71,6 +73,14 @@ pub record ReadsImpl (m : Merge) (k : Keep) (a : ℕ) (rec : AsmRec) (row : Meth
 abbrev pub ReadsImpls : Merge → Keep → Type 0
 ReadsImpls m k =
     (a i : ℕ) (rec : AsmRec) (row : MethodImplRow) → slice_get (before m) a ≡ Some rec → slice_get rec.method_impl i ≡ Some row → suc a < length (before m) → ReadsImpl m k a rec row
+
+-- a kept method's signature is read in the output as it was, moved
+abbrev pub ReadsSignatures : Merge → Type 0
+ReadsSignatures m =
+    (at : RowAt) (rec : AsmRec) (row : MethodDefRow) → slice_get (before m) at.asm ≡ Some rec → slice_get rec.method_def at.row ≡ Some row → suc at.asm < length (before m)
+    → m.kept (method_item (before m) at) ≡ true
+    → known_then (method_type (names_at (after m) 0 m.left)) (moved_method_sig (output m) at.asm rec row.signature)
+    ≡ known_map (move_method_type (rho_of m)) (known_then (method_type (names_at (before m) at.asm rec)) row.signature)
 
 -- Enclosers of kept types are kept, and those of shown ones shown; no shown type needs a new name; the output is a record that links.
 pub record KeepsNames (m : Merge) (k : Keep) : Type 0 where

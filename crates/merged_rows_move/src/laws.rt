@@ -1,4 +1,4 @@
-ghost use Rattle.merged_rows_move.specs.Laws.{MovesCore, MovesMembers, MovesMarks, MovesBases, MovesInterfaces, MovesImpls, MovesNames, MovesTypes};
+ghost use Rattle.merged_rows_move.specs.Laws.{MovesCore, MovesMembers, MovesMarks, MovesBases, MovesInterfaces, MovesImpls, MovesNames, MovesTypes, MovesSignatures};
 
 /// A law: the core library's types, members and primitives stand behind the kept rows. It does nothing.
 pub fn core_moves()
@@ -38,4 +38,9 @@ pub fn names_move()
 /// A law: a kept type's row has all in the output that it had, moved, where references are read and names stay. It does nothing.
 pub fn types_move()
     ensures { MovesTypes }
+{}
+
+/// A law: a kept method's signature moves with it, where the output reads what it wrote. It does nothing.
+pub fn signatures_move()
+    ensures { MovesSignatures }
 {}
