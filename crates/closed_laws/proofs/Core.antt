@@ -21,15 +21,17 @@ use Rattle.link_rules.specs.Members.{methods_in, home_from}
 use Rattle.link_rules.specs.Linked.{assemblies}
 use Rattle.descriptor_file.specs.declared.root.Root.{Root}
 use Rattle.mark_rules.specs.Facts.{Fact}
+use Rattle.mark_rules.specs.Facts.Fact.{marked}
 use Rattle.mark_rules.specs.Places.{is_core, row_of}
 use Rattle.view_rules.specs.Members.{core_type_row, is_type_named, is_name, names_of, object_method}
 use Rattle.view_rules.specs.Answers.{core_type_id, core_method_id}
 use Rattle.change_rules.specs.Change.{Keep}
 use Rattle.change_rules.specs.Agree.{keeps_core}
-use Rattle.marked_laws.specs.Flags.{HasMarks, keep_of}
+use Rattle.marked_laws.specs.Flags.{is_added, HasMarks, keep_of}
 use Rattle.marked_laws.proofs.Closing.{by_core}
 use Rattle.marked_laws.proofs.Flags.{typ_is, method_is, shown_core, made_core}
 use Rattle.marked_laws.proofs.Places.{number_home, last_is_core, last_type}
+use Rattle.marked_laws.proofs.Added.{not_added}
 
 below_by : (n l k : ℕ) (b : Bool) → nat_lt n l ≡ b → (if b then Some n else None) ≡ Some k → k < l
 below_by n l k true h e = let same : n ≡ k = cc in subst (λ (m : ℕ). m < l) same (ltb-true n l h)
@@ -100,6 +102,12 @@ module _ (inputs : List AsmRec) where
   type_is_core : (n : CoreName) → is_core (inputs ++ last ∷ []) (item.Typ (type_id (inputs ++ last ∷ []) (length (inputs ++ last ∷ []) - 1) (core_type_row n))) ≡ true
   type_is_core n = last_type (inputs ++ last ∷ []) (core_type_row n) (types_long n) (type_id (inputs ++ last ∷ []) (length (inputs ++ last ∷ []) - 1) (core_type_row n)) refl
 
+  type_not_added : (n : CoreName) → is_added (inputs ++ last ∷ []) (marked (item.Typ (type_id (inputs ++ last ∷ []) (length (inputs ++ last ∷ []) - 1) (core_type_row n)))) ≡ false
+  type_not_added n =
+      let lt = type_row_below n in
+      let same = type_count in
+      not_added (inputs ++ last ∷ []) (core_type_row n) (omega (arith, lt, same)) (types_long n) (type_id (inputs ++ last ∷ []) (length (inputs ++ last ∷ []) - 1) (core_type_row n)) refl
+
   methods_are : last.method_def ≡ core_record.method_def
   unfolding core_with
   methods_are = refl
@@ -131,6 +139,10 @@ module _ (inputs : List AsmRec) (entry : Option RowAt) (roots : List Root) (has 
   unfolding assemblies
   core_type n = type_is_core inputs n
 
+  core_known : (n : CoreName) → is_added recs (marked (item.Typ (type_id recs (length recs - 1) (core_type_row n)))) ≡ false
+  unfolding assemblies
+  core_known n = type_not_added inputs n
+
   core_method : (n : CoreName) → is_core recs (item.Method (record { 0 = core_method_id recs n })) ≡ true
   unfolding assemblies
   core_method n = method_is_core inputs n
@@ -138,8 +150,8 @@ module _ (inputs : List AsmRec) (entry : Option RowAt) (roots : List Root) (has 
   pub known_kept : (n : CoreName) → IsTrue (keeps_core k (core_type_id recs n))
   known_kept n =
       let t : TypeId = type_id recs (length recs - 1) (core_type_row n) in
-      let marks = by_core recs entry roots has m (item.Typ t) (core_type n) in
+      let marks = by_core recs entry roots has m (item.Typ t) (core_type n) (core_known n) in
       and_from (k.typ t.0 && k.made t.0) (k.shown t.0) (and_from (k.typ t.0) (k.made t.0) (typ_is recs has t marks) (made_core recs has t (core_type n))) (shown_core recs has t marks (core_type n))
 
   pub method_kept : (n : CoreName) → IsTrue (k.method (core_method_id recs n))
-  method_kept n = method_is recs has (record { 0 = core_method_id recs n }) (by_core recs entry roots has m (item.Method (record { 0 = core_method_id recs n })) (core_method n))
+  method_kept n = method_is recs has (record { 0 = core_method_id recs n }) (by_core recs entry roots has m (item.Method (record { 0 = core_method_id recs n })) (core_method n) refl)

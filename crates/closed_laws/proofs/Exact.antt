@@ -43,15 +43,17 @@ module _ (recs : List AsmRec) (entry : Option RowAt) (roots : List Root) (holds 
   three_step a b c f d e g i = Derived.by_three a b c f d e g i
 
 pub exact_marks : ExactMarks
-exact_marks recs entry roots holds exact =
-    record {
-      start = λ f h. set recs entry roots holds exact f (start recs entry roots holds exact f h);
-      by_one = λ a f h c. set recs entry roots holds exact f (one_step recs entry roots holds exact a f (marks recs entry roots holds exact a (one_there recs roots a f c) h) c);
-      by_two = λ a b f h g c.
-          let t = two_there recs a b f c in
-          set recs entry roots holds exact f (two_step recs entry roots holds exact a b f (marks recs entry roots holds exact a t.0 h) (marks recs entry roots holds exact b t.1 g) c);
-      by_three = λ a b c f h g u i.
-          let t = three_there recs a b c f i in
-          set recs entry roots holds exact f
-          (three_step recs entry roots holds exact a b c f (marks recs entry roots holds exact a t.0 h) (marks recs entry roots holds exact b t.1 g) (marks recs entry roots holds exact c t.2 u) i);
-    }
+exact_marks recs entry roots holds exact = (
+  record {
+    start = λ f h known. set recs entry roots holds exact f (start recs entry roots holds exact f h);
+    by_one = λ a f h c. set recs entry roots holds exact f (one_step recs entry roots holds exact a f (marks recs entry roots holds exact a (one_there recs roots a f c) h) c);
+    by_two = λ a b f h g c.
+        let t = two_there recs a b f c in
+        set recs entry roots holds exact f (two_step recs entry roots holds exact a b f (marks recs entry roots holds exact a t.0 h) (marks recs entry roots holds exact b t.1 g) c);
+    by_three = λ a b c f h g u i.
+        let t = three_there recs a b c f i in
+        set recs entry roots holds exact f
+        (three_step recs entry roots holds exact a b c f (marks recs entry roots holds exact a t.0 h) (marks recs entry roots holds exact b t.1 g) (marks recs entry roots holds exact c t.2 u) i);
+  },
+  (λ f there h. marks recs entry roots holds exact f there h),
+)

@@ -1,6 +1,6 @@
 -- Where no marked item is bad, signatures and locals of marked methods with bodies have a reading.
 use Rattle.std.proofs.Common.{◌≡◌, ℕ, zero, suc, Bool, true, false, List, [], ◌∷◌, ◌++◌, length, Option, Some, None, inl, refl, sym, ap, subst, ◌∙◌, arith}
-use Rattle.std.specs.Prelude.{IsTrue, slice_get, not, ◌==◌, ◌||◌, ◌↔◌, if◌then◌else◌}
+use Rattle.std.specs.Prelude.{IsTrue, slice_get, not, ◌==◌, ◌||◌, if◌then◌else◌}
 use Rattle.std.specs.List.{list_all, list_any, flat_map}
 use Rattle.std.specs.Option.{is_some, option_and_then}
 use Rattle.std.specs.Cmp.{first_so, second_so}
@@ -40,7 +40,7 @@ use Rattle.mark_rules.specs.Marking.{Marks}
 use Rattle.mark_rules.specs.BadItems.{Flaw, flaw, part_flaw, part_flaws, own_flaws, attribute_flaws, flaws_of, IsFlaw, IsFirstFlaw}
 use Rattle.mark_numbers.specs.Numbers.{is_there}
 use Rattle.marked_laws.proofs.Places.{method_row_of}
-use Rattle.closed_laws.specs.Laws.{MarkedReads}
+use Rattle.closed_laws.specs.Laws.{OnlyMarks, MarkedReads}
 
 all_at : {A : Type 0} (p : A → Bool) (xs : List A) (k : ℕ) (x : A) → list_all p xs ≡ true → slice_get xs k ≡ Some x → p x ≡ true
 all_at p [] k x h e = absurd (cc)
@@ -146,7 +146,7 @@ module _ (recs : List AsmRec) (at : RowAt) (rec : AsmRec) (d : MethodDefRow) (th
 
 -- ---- in the world of the inputs
 
-module _ (inputs : List AsmRec) (entry : Option RowAt) (roots : List Root) (holds : Fact → Bool) (exact : (f : Fact) → IsTrue (is_there (assemblies inputs) f) → IsTrue (holds f) ↔ Marks (assemblies inputs) entry roots f)
+module _ (inputs : List AsmRec) (entry : Option RowAt) (roots : List Root) (has : Fact → Bool) (only : OnlyMarks (assemblies inputs) entry roots has)
     (first : IsFirstFlaw (assemblies inputs) entry (Marks (assemblies inputs) entry roots) None) where
   abbrev recs : List AsmRec
   recs = assemblies inputs
@@ -159,15 +159,11 @@ module _ (inputs : List AsmRec) (entry : Option RowAt) (roots : List Root) (hold
   unfolding is_core
   not_core at e t = core_by at false (row_of recs (method_item recs at)) e t
 
-  holds_by : (f : Fact) (b : Bool) → b ≡ true → IsTrue (not b || holds f) → IsTrue (holds f)
-  holds_by f true there h = h
-  holds_by f false there h = absurd (cc)
-
   method_there : (at : RowAt) → row_of recs (method_item recs at) ≡ Some at → IsTrue (is_there recs (marks_method recs at))
   unfolding is_there
   method_there at e = ap is_some e
 
-  by_place : (at : RowAt) (rec : AsmRec) (d : MethodDefRow) (c : Bool) → (suc at.asm == length recs) ≡ c → IsTrue (not (is_there recs (marks_method recs at)) || holds (marks_method recs at)) → slice_get recs at.asm ≡ Some rec
+  by_place : (at : RowAt) (rec : AsmRec) (d : MethodDefRow) (c : Bool) → (suc at.asm == length recs) ≡ c → IsTrue (has (marks_method recs at)) → slice_get recs at.asm ≡ Some rec
       → slice_get rec.method_def at.row ≡ Some d → (b : Body) → d.body ≡ Some (Good b) → IsTrue (is_read d.signature) × IsTrue (are_locals_read rec b.locals)
   by_place at rec d true c h there row b body =
       let none : without_body d ≡ true = core_body inputs at.asm at.row rec d (eqb-true (suc at.asm) (length recs) c) there row in
@@ -175,9 +171,9 @@ module _ (inputs : List AsmRec) (entry : Option RowAt) (roots : List Root) (hold
   by_place at rec d false c h there row b body =
       let is : row_of recs (method_item recs at) ≡ Some at = method_row_of recs at rec there d row in
       let known : IsTrue (is_there recs (marks_method recs at)) = method_there at is in
-      let marks : Marks recs entry roots (marks_method recs at) = (exact (marks_method recs at) known).0 (holds_by (marks_method recs at) (is_there recs (marks_method recs at)) known h) in
+      let marks : Marks recs entry roots (marks_method recs at) = only (marks_method recs at) known h in
       let none : (f : Flaw) → In f (flaws_of recs (method_item recs at)) → ⊥ = λ f i. first f (IsFlaw.of_item (method_item recs at) f marks (not_core at is c) (contains (flaws_of recs (method_item recs at)) f i)) in
       (read_by recs at rec d there row none d.signature refl, locals_read recs at rec d there row none b body)
 
 pub all_read : MarkedReads
-all_read inputs entry roots holds exact first at rec d h there row b body = by_place inputs entry roots holds exact first at rec d (suc at.asm == length (assemblies inputs)) refl h there row b body
+all_read inputs entry roots has only first at rec d h there row b body = by_place inputs entry roots has only first at rec d (suc at.asm == length (assemblies inputs)) refl h there row b body

@@ -1,35 +1,29 @@
 -- A trim runs as its inputs do, from what is proved of each part.
-use Rattle.std.proofs.Common.{List, Bool, sym, subst}
-use Rattle.std.specs.Prelude.{not, ◌||◌}
+use Rattle.std.proofs.Common.{List, sym, subst}
 use Rattle.world_model.specs.declared.record.AsmRec.{AsmRec}
 use Rattle.link_rules.specs.Linked.{assemblies}
 use Rattle.world_laws.proofs.Inputs.{slots_whole}
-use Rattle.mark_rules.specs.Facts.{Fact}
-use Rattle.mark_numbers.specs.Numbers.{is_there}
 use Rattle.change_rules.specs.Change.{Keep}
 use Rattle.agree_laws.specs.Closed.{Closed}
 use Rattle.agree_laws.specs.Laws.{IsTrimmed}
 use Rattle.view_rules.specs.Answers.{queries_of}
 use Rattle.lock_steps.proofs.Beginning.{run_from_moved}
 use Rattle.agree_laws.proofs.Joined.{all_agree}
-use Rattle.marked_laws.specs.Flags.{HasMarks, kept_of}
+use Rattle.marked_laws.specs.Flags.{kept_of}
 use Rattle.closed_laws.specs.Laws.{AreSound, MarkedTrimsRun}
-use Rattle.closed_laws.proofs.Exact.{exact_marks}
 use Rattle.closed_laws.proofs.Readings.{all_read}
 use Rattle.closed_laws.proofs.Runs.{runs_end, methods_apart, fields_apart}
 use Rattle.closed_laws.proofs.Joined.{all_closed}
 
 pub trims_run : MarkedTrimsRun
-trims_run k p outputs inputs entry roots holds linked sound are_outputs are_inputs few exact none keeps moves apart m h bytes n =
+trims_run k p outputs inputs entry roots has linked sound are_outputs are_inputs few marks only none keeps moves apart m h bytes n =
     let recs : List AsmRec = assemblies inputs in
-    let has : Fact → Bool = λ f. not (is_there recs f) || holds f in
-    let marks : HasMarks recs entry roots has = exact_marks recs entry roots holds exact in
     let good : AreSound inputs has = record {
       few = few;
       ends = runs_end inputs are_inputs;
       methods = methods_apart inputs are_inputs;
       fields = fields_apart inputs are_inputs;
-      reads = all_read inputs entry roots holds exact none;
+      reads = all_read inputs entry roots has only none;
     } in
     let closed : Closed k.keep (kept_of recs has) recs = subst (λ (x : Keep). Closed x (kept_of recs has) recs) (sym keeps) (all_closed inputs entry roots has sound marks good) in
     let trimmed : IsTrimmed k (kept_of recs has) p outputs inputs = record {

@@ -34,30 +34,34 @@ MarkedClosed =
     (inputs : List AsmRec) (entry : Option RowAt) (roots : List Root) (has : Fact → Bool) → link_fault_of inputs ≡ None → HasMarks (assemblies inputs) entry roots has → AreSound inputs has
     → Closed (keep_of (assemblies inputs) has) (kept_of (assemblies inputs) has) (assemblies inputs)
 
+-- the flags of facts whose item or type is there are set for marked ones alone
+abbrev pub OnlyMarks : List AsmRec → Option RowAt → List Root → (Fact → Bool) → Type 0
+OnlyMarks recs entry roots has = (f : Fact) → IsTrue (is_there recs f) → IsTrue (has f) → Marks recs entry roots f
+
 -- Flags that are exact for the facts whose item or type is there give one for each fact, if the others are set.
 abbrev pub ExactMarks : Type 0
 ExactMarks =
     (recs : List AsmRec) (entry : Option RowAt) (roots : List Root) (holds : Fact → Bool) → ((f : Fact) → IsTrue (is_there recs f) → IsTrue (holds f) ↔ Marks recs entry roots f)
-    → HasMarks recs entry roots (λ f. not (is_there recs f) || holds f)
+    → HasMarks recs entry roots (λ f. not (is_there recs f) || holds f) × OnlyMarks recs entry roots (λ f. not (is_there recs f) || holds f)
 
--- Where flags are exact and no marked item is bad, signatures and locals of marked methods with bodies have a reading.
+-- Where only marked facts have flags and no marked item is bad, signatures and locals of methods with a flag and a body have a reading.
 abbrev pub MarkedReads : Type 0
 MarkedReads =
-    (inputs : List AsmRec) (entry : Option RowAt) (roots : List Root) (holds : Fact → Bool) → ((f : Fact) → IsTrue (is_there (assemblies inputs) f) → IsTrue (holds f) ↔ Marks (assemblies inputs) entry roots f)
-    → IsFirstFlaw (assemblies inputs) entry (Marks (assemblies inputs) entry roots) None → AreRead (assemblies inputs) (λ f. not (is_there (assemblies inputs) f) || holds f)
+    (inputs : List AsmRec) (entry : Option RowAt) (roots : List Root) (has : Fact → Bool) → OnlyMarks (assemblies inputs) entry roots has
+    → IsFirstFlaw (assemblies inputs) entry (Marks (assemblies inputs) entry roots) None → AreRead (assemblies inputs) has
 
 -- Inputs that are records have the rest.
 abbrev pub RecordsSound : Type 0
 RecordsSound = (inputs : List AsmRec) (has : Fact → Bool) → AreRecords inputs → HasFewTypes inputs → AreRead (assemblies inputs) has → AreSound inputs has
 
 -- So a trim runs as its inputs do, from each kept method, for any input and any number of steps: where both are records that link,
--- the marked set has no bad item, and the outputs have the rows of what is marked.
+-- the marked set has no bad item, and the outputs have the rows of what is marked, of names that only modifiers use at least those that
+-- what is marked names.
 abbrev pub MarkedTrimsRun : Type 0
 MarkedTrimsRun =
-    (k : Change) (p : Places) (outputs inputs : List AsmRec) (entry : Option RowAt) (roots : List Root) (holds : Fact → Bool) → link_fault_of outputs ≡ None → link_fault_of inputs ≡ None
+    (k : Change) (p : Places) (outputs inputs : List AsmRec) (entry : Option RowAt) (roots : List Root) (has : Fact → Bool) → link_fault_of outputs ≡ None → link_fault_of inputs ≡ None
     → AreRecords outputs → AreRecords inputs → HasFewTypes inputs
-    → ((f : Fact) → IsTrue (is_there (assemblies inputs) f) → IsTrue (holds f) ↔ Marks (assemblies inputs) entry roots f) → IsFirstFlaw (assemblies inputs) entry (Marks (assemblies inputs) entry roots) None
-    → k.keep ≡ keep_of (assemblies inputs) (λ f. not (is_there (assemblies inputs) f) || holds f)
-    → RowsMove k (kept_of (assemblies inputs) (λ f. not (is_there (assemblies inputs) f) || holds f)) p (assemblies outputs) (assemblies inputs) → Apart k.keep p (assemblies inputs)
+    → HasMarks (assemblies inputs) entry roots has → OnlyMarks (assemblies inputs) entry roots has → IsFirstFlaw (assemblies inputs) entry (Marks (assemblies inputs) entry roots) None
+    → k.keep ≡ keep_of (assemblies inputs) has → RowsMove k (kept_of (assemblies inputs) has) p (assemblies outputs) (assemblies inputs) → Apart k.keep p (assemblies inputs)
     → (m : ℕ) → IsTrue (k.keep.method m) → (bytes : List ℕ) (n : ℕ)
     → run_from (queries_of (assemblies outputs)) (k.rho.method m) bytes n ≡ move_outcome k.rho (run_from (queries_of (assemblies inputs)) m bytes n)

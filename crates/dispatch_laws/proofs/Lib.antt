@@ -1,4 +1,5 @@
 pub mod There
+pub mod Dispatched
 pub mod Standing
 pub mod Impls
 pub mod Classes

@@ -27,6 +27,7 @@ use Rattle.query_laws.proofs.Wholes.{with_bases_kept, with_bases_moved}
 use Rattle.query_laws.proofs.Slots.{slot_moved}
 use Rattle.dispatch_laws.specs.Kept.{Apart, KeepsImpls, KeepsRuns, slot_numbered}
 use Rattle.dispatch_laws.proofs.There.{IsTypeThere, IsMethodThere, home_there, owner_there, slot_good}
+use Rattle.dispatch_laws.proofs.Dispatched.{dispatched_there}
 use Rattle.dispatch_laws.proofs.Standing.{slot_within_is}
 use Rattle.dispatch_laws.proofs.Classes.{class_moved}
 use Rattle.dispatch_laws.proofs.Interfaces.{interface_moved}
@@ -142,15 +143,16 @@ module _ (k : Change) (kept : RowAt → Bool) (p : Places) (after before : List 
           ap (option_and_then (dispatch_slot after (move_expr k.rho e) (move_expr k.rho owner))) slot_numbered_moved
           ∙ slot_by (slot_numbered before m) refl (λ s is. good_by (home_from methods_in 0 before m) home_kept_method s is) runs.runs
 
-      answer_by : (o : Option RowAt) → ((f : RowAt) → o ≡ Some f → KeepsMethod f)
+      answer_by : (o : Option RowAt) → ((f : RowAt) → o ≡ Some f → KeepsMethod f) → ((f : RowAt) → o ≡ Some f → IsMethodThere before f)
           → option_and_then (with_owner after (move_expr k.rho e)) (option_map (method_id after) (option_map p.method o))
           ≡ option_map (move_use k.rho) (option_and_then (with_owner before e) (option_map (method_id before) o))
-      answer_by None h = refl
-      answer_by (Some f) h =
-          ap (λ (n : ℕ). with_owner after (move_expr k.rho e) (record { 0 = n })) (r.places.methods f (h f refl)) ∙ with_owner_moved (method_id before f) (h f refl)
+      answer_by None h g = refl
+      answer_by (Some f) h g =
+          let there = g f refl in
+          ap (λ (n : ℕ). with_owner after (move_expr k.rho e) (record { 0 = n })) (r.places.methods f there.0 there.1 (h f refl)) ∙ with_owner_moved (method_id before f) (h f refl)
 
       pub answers_moved : answers_query after (move_expr k.rho e) (move_expr k.rho owner) (k.rho.method m) ≡ option_map (move_use k.rho) (answers_query before e owner m)
       unfolding answers_query dispatch
       answers_moved =
           ap (λ (o : Option RowAt). option_and_then (with_owner after (move_expr k.rho e)) (option_map (method_id after) o)) found_moved
-          ∙ answer_by (option_and_then (dispatch_slot before e owner) (slot_numbered before m)) runs.runs
+          ∙ answer_by (option_and_then (dispatch_slot before e owner) (slot_numbered before m)) runs.runs (λ f is. dispatched_there before e owner (slot_numbered before m) f is)

@@ -116,7 +116,7 @@ module _ (inputs : List AsmRec) (entry : Option RowAt) (roots : List Root) (has 
 
   core_kept : (f : RowAt) → CoreMethod inputs sound f → KeepsMethod f
   core_kept f c =
-      method_kept f (by_core recs entry roots has marks (method_item recs f) (last_is_core recs (method_item recs f) f (method_there recs f c.there) c.last))
+      method_kept f (by_core recs entry roots has marks (method_item recs f) (last_is_core recs (method_item recs f) f (method_there recs f c.there) c.last) refl)
 
   -- ---- a definition with its parameters open
 

@@ -1,5 +1,5 @@
 -- What the rules give of facts that are marked is marked.
-use Rattle.std.proofs.Common.{◌≡◌, Bool, true, List, [], ◌∷◌, ◌++◌, map, Option, Some, inl, inr, sym, ap, subst}
+use Rattle.std.proofs.Common.{◌≡◌, Bool, true, false, List, [], ◌∷◌, ◌++◌, map, Option, Some, inl, inr, sym, ap, subst}
 use Rattle.std.specs.Prelude.{IsTrue}
 use Rattle.std.specs.List.{flat_map}
 use Rattle.std.proofs.lemmas.Bool.{or_left}
@@ -28,7 +28,7 @@ use Rattle.mark_rules.specs.Shown.{arguments_of_part, arguments_of_parts, showin
 use Rattle.mark_rules.specs.Marking.{row_needs, item_needs, one, of_rows, two, of_three, three, is_core_fact, given}
 use Rattle.mark_rules.specs.Types.{rows_for}
 use Rattle.mark_rules.specs.Calls.{class_runs, interface_runs}
-use Rattle.marked_laws.specs.Flags.{HasMarks}
+use Rattle.marked_laws.specs.Flags.{HasMarks, is_added}
 
 -- ---- members of lists that are made of lists
 
@@ -49,8 +49,8 @@ module _ (recs : List AsmRec) (entry : Option RowAt) (roots : List Root) (has : 
   unfolding given
   given_core f h = or_left (is_core_fact recs f) _ h
 
-  pub by_core : (i : Item) → is_core recs i ≡ true → IsTrue (has (marked i))
-  by_core i h = m.start (marked i) (given_core (marked i) h)
+  pub by_core : (i : Item) → is_core recs i ≡ true → is_added recs (marked i) ≡ false → IsTrue (has (marked i))
+  by_core i h known = m.start (marked i) (given_core (marked i) h) known
 
   pub by_one : (a f : Fact) → IsTrue (has a) → In f (one recs roots a) → IsTrue (has f)
   by_one a f h i = m.by_one a f h (contains (one recs roots a) f i)

@@ -18,8 +18,9 @@ use Rattle.marked_laws.specs.Laws.{MarkedRows, MarkedInterfaces}
 use Rattle.marked_laws.proofs.Closing.{by_core}
 use Rattle.marked_laws.proofs.Flags.{typ_is, shown_typ, begun_typ}
 use Rattle.marked_laws.proofs.Places.{method_row_below}
+use Rattle.marked_laws.proofs.Added.{prim_not_added}
 use Rattle.marked_laws.proofs.Rows.{bases_kept, interfaces_kept, owner_kept, overridden_kept}
-use Rattle.marked_laws.proofs.Members.{laid_kept, field_types_kept, started_kept, prims_kept, prims_shown, array_is_core}
+use Rattle.marked_laws.proofs.Members.{laid_kept, field_types_kept, started_kept, prims_kept, prims_shown, array_is_core, array_not_added}
 use Rattle.marked_laws.proofs.Interfaces.{interfaces_implied}
 
 -- a method that some type's run has is a row, where runs end with their table
@@ -43,9 +44,9 @@ pub rows_kept : MarkedRows
 rows_kept inputs entry roots has sound m ends =
     let recs : List AsmRec = assemblies inputs in
     record {
-      prims = prims_kept recs entry roots has m;
-      shown_prims = prims_shown recs entry roots has m;
-      array = λ t e. typ_is recs has t (by_core recs entry roots has m (item.Typ t) (array_is_core inputs t e));
+      prims = λ n t e. prims_kept recs entry roots has m n t e (prim_not_added inputs n t e);
+      shown_prims = λ n t e. prims_shown recs entry roots has m n t e (prim_not_added inputs n t e);
+      array = λ t e. typ_is recs has t (by_core recs entry roots has m (item.Typ t) (array_is_core inputs t e) (array_not_added inputs t e));
       bases = λ at e h is. bases_kept recs entry roots has m at e h is;
       interfaces = λ at e h c. interfaces_kept recs entry roots has m at e c;
       laid = λ at h v. laid_kept recs entry roots has m at h v;

@@ -2,6 +2,7 @@ pub mod Closing
 pub mod Named
 pub mod Flags
 pub mod Places
+pub mod Added
 pub mod Parts
 pub mod Rows
 pub mod Members

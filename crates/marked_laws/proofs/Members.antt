@@ -4,7 +4,7 @@ use Rattle.std.specs.Prelude.{IsTrue, slice_get, ◌&&◌, ◌||◌, not, if◌t
 use Rattle.std.specs.List.{list_all, list_any, flat_map, filter, range_with_len}
 use Rattle.std.specs.Option.{option_map, option_and_then}
 use Rattle.std.specs.Cmp.{first_so, second_so}
-use Rattle.std.proofs.lemmas.Bool.{true≢false, and_from, or_cases}
+use Rattle.std.proofs.lemmas.Bool.{true≢false, and_from, or_cases, ltb-true}
 use Rattle.il_base.specs.declared.ids.TypeId.{TypeId}
 use Rattle.il_base.specs.declared.ids.Item.TheVariants as item
 use Rattle.il_base.specs.declared.table.TheConstants.{FIELD}
@@ -18,6 +18,7 @@ use Rattle.world_model.specs.Tokens.{token_of}
 use Rattle.world_model.specs.Worlds.{type_id, known_then, sig_expr, core_types, prim_type}
 use Rattle.core_table.specs.Record.{core_record}
 use Rattle.core_table.specs.declared.tokens.TheConstants.{VALUE_TYPE, ENUM}
+use Rattle.core_table.specs.declared.types.TheConstants.{TYPES}
 use Rattle.link_rules.specs.declared.row_at.RowAt.{RowAt}
 use Rattle.link_rules.specs.declared.core_type_name.CoreTypeName.{CoreTypeName}
 use Rattle.link_rules.specs.CoreNames.{core_with, missing_names}
@@ -34,7 +35,7 @@ use Rattle.type_laws.proofs.Places.{rows_decide, place_within}
 use Rattle.type_laws.proofs.CoreRows.{array_row}
 use Rattle.descriptor_file.specs.declared.root.Root.{Root}
 use Rattle.mark_rules.specs.Facts.{Fact}
-use Rattle.mark_rules.specs.Facts.Fact.{instantiated}
+use Rattle.mark_rules.specs.Facts.Fact.{marked, instantiated}
 use Rattle.mark_rules.specs.Places.{type_item, field_item, marks_method, marks_field, is_core}
 use Rattle.mark_rules.specs.Naming.{Part, of_parts, good_part, type_parts, parts_of, sig_parts}
 use Rattle.mark_rules.specs.Naming.Named.{type}
@@ -50,10 +51,11 @@ use Rattle.cil_values.specs.declared.definition.FieldDef.{FieldDef}
 use Rattle.change_rules.specs.Change.{Keep}
 use Rattle.change_rules.specs.Keeps.{keeps_expr, if_good, keeps_field}
 use Rattle.world_change_rules.specs.Places.{type_number, keeps_type_row, keeps_method_row, keeps_field_row}
-use Rattle.marked_laws.specs.Flags.{HasMarks, is_of_type, begun_by_method, begun_by_field, begun_in, begun_at, begins, keep_of}
+use Rattle.marked_laws.specs.Flags.{is_added, HasMarks, is_of_type, begun_by_method, begun_by_field, begun_in, begun_at, begins, keep_of}
 use Rattle.marked_laws.proofs.Closing.{mapped_in, row_gives, by_core}
 use Rattle.marked_laws.proofs.Flags.{typ_is, typ_has, method_is, field_is, field_has, shown_core, made_is, begun_begins}
 use Rattle.marked_laws.proofs.Places.{type_row_of, type_home_of, method_row_below, field_row_of, last_type, prim_is_core}
+use Rattle.marked_laws.proofs.Added.{not_added}
 use Rattle.marked_laws.proofs.Parts.{HasParts, part_kept}
 use Rattle.marked_laws.proofs.Rows.{method_gives, starts_in}
 
@@ -289,11 +291,11 @@ module _ (recs : List AsmRec) (entry : Option RowAt) (roots : List Root) (has : 
 
   -- ---- the core library
 
-  pub prims_kept : (n : ℕ) (t : TypeId) → prim_type recs n ≡ Some t → IsTrue (k.typ t.0)
-  prims_kept n t e = typ_is recs has t (by_core recs entry roots has m (item.Typ t) (prim_is_core recs n t e))
+  pub prims_kept : (n : ℕ) (t : TypeId) → prim_type recs n ≡ Some t → is_added recs (marked (item.Typ t)) ≡ false → IsTrue (k.typ t.0)
+  prims_kept n t e known = typ_is recs has t (by_core recs entry roots has m (item.Typ t) (prim_is_core recs n t e) known)
 
-  pub prims_shown : (n : ℕ) (t : TypeId) → prim_type recs n ≡ Some t → IsTrue (k.shown t.0)
-  prims_shown n t e = shown_core recs has t (by_core recs entry roots has m (item.Typ t) (prim_is_core recs n t e)) (prim_is_core recs n t e)
+  pub prims_shown : (n : ℕ) (t : TypeId) → prim_type recs n ≡ Some t → is_added recs (marked (item.Typ t)) ≡ false → IsTrue (k.shown t.0)
+  prims_shown n t e known = shown_core recs has t (by_core recs entry roots has m (item.Typ t) (prim_is_core recs n t e) known) (prim_is_core recs n t e)
 
 -- ---- System.Array
 
@@ -319,3 +321,9 @@ unfolding assemblies
 array_is_core inputs t e =
     let names : List CoreTypeName = missing_names (inputs ++ core_record ∷ []) in
     last_type (inputs ++ core_with core_record names ∷ []) 21 (array_below inputs names) t (array_by (inputs ++ core_with core_record names ∷ []) t e)
+
+pub array_not_added : (inputs : List AsmRec) (t : TypeId) → array_type (assemblies inputs) ≡ Some t → is_added (assemblies inputs) (marked (item.Typ t)) ≡ false
+unfolding assemblies
+array_not_added inputs t e =
+    let names : List CoreTypeName = missing_names (inputs ++ core_record ∷ []) in
+    not_added (inputs ++ core_with core_record names ∷ []) 21 (ltb-true 21 (length TYPES) refl) (array_below inputs names) t (array_by (inputs ++ core_with core_record names ∷ []) t e)

@@ -97,7 +97,7 @@ below_by : (n l k : ℕ) (b : Bool) → nat_lt n l ≡ b → (if b then Some n e
 below_by n l k true h e = let same : n ≡ k = cc in subst (λ (m : ℕ). m < l) same (ltb-true n l h)
 below_by n l k false h e = absurd (cc)
 
-position_below : {A : Type 0} (p : A → Bool) (xs : List A) (k : ℕ) → position p xs ≡ Some k → k < length xs
+pub position_below : {A : Type 0} (p : A → Bool) (xs : List A) (k : ℕ) → position p xs ≡ Some k → k < length xs
 position_below p xs k e = below_by (position_or_len p xs) (length xs) k (nat_lt (position_or_len p xs) (length xs)) refl e
 
 prim_by : (recs : List AsmRec) (n : ℕ) (t : TypeId) (o : Option ℕ) → position (is_code_of n) (core_types recs) ≡ o → option_map (λ (k : ℕ). type_id recs (length recs - 1) k) o ≡ Some t

@@ -1,5 +1,5 @@
 -- What is kept where the marked set is kept: the flags of a change (`change_rules/specs/Change`), by which facts are marked.
-use Rattle.std.specs.Prelude.{◌≡◌, ◌≤◌, ℕ, suc, List, length, Option, Some, slice_get, Bool, not, ◌&&◌, ◌||◌, IsTrue}
+use Rattle.std.specs.Prelude.{◌≡◌, ◌≤◌, ℕ, suc, List, length, Option, Some, slice_get, nat_le, Bool, false, not, ◌==◌, ◌&&◌, ◌||◌, IsTrue}
 use Rattle.std.specs.List.{Contains, list_any, range_with_len}
 use Rattle.std.specs.Option.{is_some, option_map}
 use Rattle.il_base.specs.declared.ids.TypeId.{TypeId}
@@ -8,6 +8,7 @@ use Rattle.il_base.specs.declared.ids.FieldId.{FieldId}
 use Rattle.il_base.specs.declared.ids.Item.TheVariants as item
 use Rattle.world_model.specs.declared.types.TypeDefRow.{TypeDefRow}
 use Rattle.world_model.specs.declared.record.AsmRec.{AsmRec}
+use Rattle.core_table.specs.declared.types.TheConstants.{TYPES}
 use Rattle.link_rules.specs.declared.row_at.RowAt.{RowAt}
 use Rattle.link_rules.specs.Types.{at_row}
 use Rattle.link_rules.specs.Members.{type_home}
@@ -21,9 +22,18 @@ use Rattle.mark_rules.specs.Places.{is_core, marks_method, marks_field, impl_ite
 use Rattle.mark_rules.specs.Marking.{given, one, two, three}
 use Rattle.change_rules.specs.Change.{Keep}
 
--- a flag for each fact, set for those that are given, and for what the rules bring of facts whose flags are set
+-- A type of the core library behind those of its table, which is a name that modifiers alone use (II.7.1.1). The output of a trim has
+-- it where a modifier of what is kept names it.
+abbrev pub is_added_row : List AsmRec → RowAt → Bool
+is_added_row recs at = suc at.asm == length recs && nat_le (length TYPES) at.row
+
+abbrev pub is_added : List AsmRec → Fact → Bool
+is_added recs (marked (item.Typ t)) = list_any (is_added_row recs) (listed (type_home recs t))
+is_added recs _ = false
+
+-- a flag for each fact, set for those that are given, but for such types, and for what the rules bring of facts whose flags are set
 pub record HasMarks (recs : List AsmRec) (entry : Option RowAt) (roots : List Root) (has : Fact → Bool) : Type 0 where
-  pub start : (f : Fact) → IsTrue (given recs entry roots f) → IsTrue (has f)
+  pub start : (f : Fact) → IsTrue (given recs entry roots f) → is_added recs f ≡ false → IsTrue (has f)
   pub by_one : (a f : Fact) → IsTrue (has a) → Contains (one recs roots a) f → IsTrue (has f)
   pub by_two : (a b f : Fact) → IsTrue (has a) → IsTrue (has b) → Contains (two recs a b) f → IsTrue (has f)
   pub by_three : (a b c f : Fact) → IsTrue (has a) → IsTrue (has b) → IsTrue (has c) → Contains (three recs a b c) f → IsTrue (has f)

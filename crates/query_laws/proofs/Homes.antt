@@ -18,8 +18,8 @@ use Rattle.change_rules.specs.Moves.{move_type, move_expr, move_exprs}
 use Rattle.change_rules.specs.Keeps.{Names, both, names_layer, names_of, keeps_expr, shows_expr}
 use Rattle.change_laws.proofs.Exprs.{moved_in, out_moved}
 use Rattle.change_laws.proofs.Subst.{names_rolled}
-use Rattle.world_change_rules.specs.Places.{Places, keeps_type_row}
-use Rattle.world_change_rules.specs.Rows.{RowsMove}
+use Rattle.world_change_rules.specs.Places.{Places, PlacesMove, keeps_type_row}
+use Rattle.world_change_rules.specs.Rows.{CoreMoves, RowsMove}
 use Rattle.world_change_rules.specs.Kept.{KeepsRows}
 use Rattle.query_laws.proofs.Ids.{has_number}
 
@@ -68,22 +68,22 @@ pub args_moved : (k : Change) (e : TypeExpr) → args_of (move_expr k.rho e) ≡
 unfolding args_of
 args_moved k e = ap args_in (out_moved k.rho e) ∙ args_in_moved k (out-TypeExpr e)
 
--- ---- a type's definition
+-- ---- a type's definition, by places and the core library alone
 
-module _ (k : Change) (kept : RowAt → Bool) (p : Places) (after before : List AsmRec) (r : RowsMove k kept p after before) (keeps : KeepsRows k.keep kept before) where
+module _ (k : Change) (kept : RowAt → Bool) (p : Places) (after before : List AsmRec) (places : PlacesMove k p after before) (core : CoreMoves k after before) (keeps : KeepsRows k.keep kept before) where
   owner_in_moved : (x : TypeExpr-F TypeExpr) → owner_in after (moved_in k.rho x) ≡ option_map (move_type k.rho) (owner_in before x)
-  owner_in_moved (TypeExpr-F.Prim n) = r.core.prims n
+  owner_in_moved (TypeExpr-F.Prim n) = core.prims n
   owner_in_moved (TypeExpr-F.Def t) = refl
   owner_in_moved (TypeExpr-F.Inst t args) = refl
-  owner_in_moved (TypeExpr-F.Array x) = r.core.array
+  owner_in_moved (TypeExpr-F.Array x) = core.array
   owner_in_moved (TypeExpr-F.ByRef x) = refl
   owner_in_moved (TypeExpr-F.Var n) = refl
   owner_in_moved (TypeExpr-F.MVar n) = refl
   owner_in_moved (TypeExpr-F.Mod required by x) = refl
 
-  pub owner_moved : (e : TypeExpr) → owner_of after (move_expr k.rho e) ≡ option_map (move_type k.rho) (owner_of before e)
+  owner_goes : (e : TypeExpr) → owner_of after (move_expr k.rho e) ≡ option_map (move_type k.rho) (owner_of before e)
   unfolding owner_of
-  owner_moved e = ap (owner_in after) (out_moved k.rho e) ∙ owner_in_moved (out-TypeExpr e)
+  owner_goes e = ap (owner_in after) (out_moved k.rho e) ∙ owner_in_moved (out-TypeExpr e)
 
   owner_in_kept : (x : TypeExpr-F TypeExpr) (t : TypeId) → IsTrue (names_layer k.keep (map-TypeExpr TypeExpr Names (names_of k.keep) x)).kept → owner_in before x ≡ Some t → IsTrue (k.keep.typ t.0)
   owner_in_kept (TypeExpr-F.Prim n) t h e = keeps.prims n t e
@@ -96,21 +96,36 @@ module _ (k : Change) (kept : RowAt → Bool) (p : Places) (after before : List 
   owner_in_kept (TypeExpr-F.MVar n) t h e = absurd (cc)
   owner_in_kept (TypeExpr-F.Mod required by x) t h e = absurd (cc)
 
-  pub owner_kept : (e : TypeExpr) (t : TypeId) → IsTrue (keeps_expr k.keep e) → owner_of before e ≡ Some t → IsTrue (k.keep.typ t.0)
+  owner_stays : (e : TypeExpr) (t : TypeId) → IsTrue (keeps_expr k.keep e) → owner_of before e ≡ Some t → IsTrue (k.keep.typ t.0)
   unfolding owner_of
-  owner_kept e t h is = owner_in_kept (out-TypeExpr e) t (subst (λ (n : Names). IsTrue n.kept) (names_out k.keep e) h) is
+  owner_stays e t h is = owner_in_kept (out-TypeExpr e) t (subst (λ (n : Names). IsTrue n.kept) (names_out k.keep e) h) is
 
   home_by : (o : Option TypeId) → ((t : TypeId) → o ≡ Some t → IsTrue (k.keep.typ t.0))
       → option_and_then (type_home after) (option_map (move_type k.rho) o) ≡ option_map p.typ (option_and_then (type_home before) o)
   home_by None h = refl
-  home_by (Some t) h = r.places.type_homes t.0 (h t refl)
+  home_by (Some t) h = places.type_homes t.0 (h t refl)
 
-  pub home_moved : (e : TypeExpr) → IsTrue (keeps_expr k.keep e) → home_of after (move_expr k.rho e) ≡ option_map p.typ (home_of before e)
-  home_moved e h = ap (option_and_then (type_home after)) (owner_moved e) ∙ home_by (owner_of before e) (λ t is. owner_kept e t h is)
+  pub home_goes : (e : TypeExpr) → IsTrue (keeps_expr k.keep e) → home_of after (move_expr k.rho e) ≡ option_map p.typ (home_of before e)
+  home_goes e h = ap (option_and_then (type_home after)) (owner_goes e) ∙ home_by (owner_of before e) (λ t is. owner_stays e t h is)
 
   kept_by : (o : Option TypeId) (at : RowAt) → ((t : TypeId) → o ≡ Some t → IsTrue (k.keep.typ t.0)) → option_and_then (type_home before) o ≡ Some at → IsTrue (keeps_type_row k.keep before at)
   kept_by None at h e = absurd (cc)
   kept_by (Some t) at h e = subst (λ (n : ℕ). IsTrue (k.keep.typ n)) (sym (has_number types_in before t.0 at e)) (h t refl)
 
+  pub home_stays : (e : TypeExpr) (at : RowAt) → IsTrue (keeps_expr k.keep e) → home_of before e ≡ Some at → IsTrue (keeps_type_row k.keep before at)
+  home_stays e at h is = kept_by (owner_of before e) at (λ t o. owner_stays e t h o) is
+
+-- ---- where all rows move
+
+module _ (k : Change) (kept : RowAt → Bool) (p : Places) (after before : List AsmRec) (r : RowsMove k kept p after before) (keeps : KeepsRows k.keep kept before) where
+  pub owner_moved : (e : TypeExpr) → owner_of after (move_expr k.rho e) ≡ option_map (move_type k.rho) (owner_of before e)
+  owner_moved e = owner_goes k kept p after before r.places r.core keeps e
+
+  pub owner_kept : (e : TypeExpr) (t : TypeId) → IsTrue (keeps_expr k.keep e) → owner_of before e ≡ Some t → IsTrue (k.keep.typ t.0)
+  owner_kept e t h is = owner_stays k kept p after before r.places r.core keeps e t h is
+
+  pub home_moved : (e : TypeExpr) → IsTrue (keeps_expr k.keep e) → home_of after (move_expr k.rho e) ≡ option_map p.typ (home_of before e)
+  home_moved e h = home_goes k kept p after before r.places r.core keeps e h
+
   pub home_kept : (e : TypeExpr) (at : RowAt) → IsTrue (keeps_expr k.keep e) → home_of before e ≡ Some at → IsTrue (keeps_type_row k.keep before at)
-  home_kept e at h is = kept_by (owner_of before e) at (λ t o. owner_kept e t h o) is
+  home_kept e at h is = home_stays k kept p after before r.places r.core keeps e at h is

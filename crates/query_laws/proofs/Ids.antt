@@ -1,12 +1,16 @@
 -- Numbers and rows: the row that has a number has it.
-use Rattle.std.proofs.Common.{◌≡◌, ◌≤◌, ℕ, suc, ◌+◌, ◌-◌, Bool, true, false, List, [], ◌∷◌, Some, refl, ap, subst, arith}
-use Rattle.std.specs.Prelude.{nat_lt, if◌then◌else◌}
+use Rattle.std.proofs.Common.{◌≡◌, ◌≤◌, ℕ, suc, ◌+◌, ◌-◌, Bool, true, false, List, [], ◌∷◌, Some, refl, ap, subst, ◌∙◌, arith}
+use Rattle.std.specs.Prelude.{nat_lt, slice_get, if◌then◌else◌}
+use Rattle.std.specs.Option.{option_and_then}
 use Rattle.std.proofs.lemmas.Bool.{ltb-false}
 use Rattle.world_model.specs.declared.record.AsmRec.{AsmRec}
-use Rattle.world_model.specs.Worlds.{rows_before}
+use Rattle.world_model.specs.declared.types.TypeDefRow.{TypeDefRow}
+use Rattle.world_model.specs.Worlds.{rows_before, types_in}
 use Rattle.link_rules.specs.declared.row_at.RowAt.{RowAt}
 use Rattle.link_rules.specs.Types.{at_row}
 use Rattle.link_rules.specs.Members.{home_from}
+use Rattle.type_rules.specs.Rows.{type_row_at}
+use Rattle.type_laws.proofs.Places.{home_is, place_has}
 
 -- a row at or behind an assembly, whose number among the rows from there on is n
 pub record Numbered (count : AsmRec → ℕ) (a : ℕ) (recs : List AsmRec) (n : ℕ) (at : RowAt) : Type 0 where
@@ -45,3 +49,11 @@ pub has_number : (count : AsmRec → ℕ) (recs : List AsmRec) (n : ℕ) (at : R
 has_number count recs n at e =
     let none : at.asm - 0 ≡ at.asm = omega arith in
     subst (λ (m : ℕ). rows_before count recs m + at.row ≡ n) none (numbered count recs 0 n at e).number
+
+-- the type with a number is a row
+pub home_row : (recs : List AsmRec) (n : ℕ) (at : RowAt) → home_from types_in 0 recs n ≡ Some at → (t : TypeDefRow) × (type_row_at recs at ≡ Some t)
+home_row recs n at e =
+    let s = home_is recs 0 n at e in
+    let asm : s.asm ≡ at.asm = omega (arith, s.numbered) in
+    let row = place_has s.rec.type_def at.row s.below in
+    (row.0, ap (option_and_then (λ (rec : AsmRec). slice_get rec.type_def at.row)) (subst (λ (a : ℕ). slice_get recs a ≡ Some s.rec) asm s.there) ∙ row.1)

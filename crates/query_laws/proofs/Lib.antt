@@ -1,3 +1,4 @@
+pub mod Prims
 pub mod Ids
 pub mod Homes
 pub mod Bases

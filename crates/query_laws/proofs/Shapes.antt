@@ -13,13 +13,14 @@ use Rattle.world_model.specs.declared.known.Known.TheVariants.{Good, Bad}
 use Rattle.world_model.specs.declared.expr.TypeExpr.{TypeExpr, out-TypeExpr}
 use Rattle.world_model.specs.declared.expr.TypeExpr.TheFolds.{map-TypeExpr}
 use Rattle.world_model.specs.declared.expr.TypeExpr.TheOpen.{TypeExpr-F}
+use Rattle.world_model.specs.declared.types.TypeDefRow.{TypeDefRow}
 use Rattle.world_model.specs.declared.members.FieldRow.{FieldRow}
 use Rattle.world_model.specs.declared.record.AsmRec.{AsmRec}
 use Rattle.world_model.specs.Worlds.{known_map}
 use Rattle.link_rules.specs.declared.row_at.RowAt.{RowAt}
 use Rattle.link_rules.specs.Members.{type_home, param_count}
 use Rattle.link_rules.specs.Cycles.{listed, is_value_type}
-use Rattle.type_rules.specs.Rows.{rec_at, fields_of_type, is_instance_field, is_enum}
+use Rattle.type_rules.specs.Rows.{rec_at, type_row_at, field_row_at, fields_of_type, is_instance_field, is_enum}
 use Rattle.cil_values.specs.declared.definition.FieldDef.{FieldDef}
 use Rattle.cil_values.specs.declared.layout.Layout.{Layout}
 use Rattle.cil_values.specs.declared.layout.Cell.TheVariants.{Field as of_field}
@@ -42,6 +43,7 @@ use Rattle.lock_words.proofs.Fits.{number_moved}
 use Rattle.world_change_rules.specs.Places.{Places, type_numbered, keeps_type_row, keeps_field_row}
 use Rattle.world_change_rules.specs.Rows.{RowsMove}
 use Rattle.world_change_rules.specs.Kept.{KeepsRows}
+use Rattle.query_laws.proofs.Ids.{home_row}
 use Rattle.query_laws.proofs.Homes.{names_out, args_in_shown}
 use Rattle.query_laws.proofs.Wholes.{extends_moved, value_type_moved}
 use Rattle.query_laws.proofs.Lookups.{head_moved, type_row_kept}
@@ -206,9 +208,24 @@ module _ (k : Change) (kept : RowAt → Bool) (p : Places) (after before : List 
 
   module _ (later earlier : TypeExpr → Shape) (alike : (e : TypeExpr) → IsTrue (keeps_expr k.keep e) → later (move_expr k.rho e) ≡ move_shape k.rho (earlier e))
       (args : List TypeExpr) (ts : IsTrue (list_all (shows_expr k.keep) args)) where
-    laid_by : (f : RowAt) → IsTrue (keeps_field_row k.keep before f) → (e : TypeExpr) → IsTrue (keeps_expr k.keep e)
+    -- a field with a type is a row
+    typed_by : (f : RowAt) (e : TypeExpr) (o : Option AsmRec) → rec_at before f ≡ o
+        → option_and_then (λ (rec : AsmRec). option_and_then (λ (d : FieldRow). option_and_then (closed_cell_by (head_query before) args []) (view.own_field_type before f rec d)) (slice_get rec.field f.row)) o ≡ Some e
+        → (d : FieldRow) × (field_row_at before f ≡ Some d)
+    typed_by f e None s is = absurd (cc)
+    typed_by f e (Some rec) s is = by_row (slice_get rec.field f.row) refl is
+      where
+        by_row : (o : Option FieldRow) → slice_get rec.field f.row ≡ o
+            → option_and_then (λ (d : FieldRow). option_and_then (closed_cell_by (head_query before) args []) (view.own_field_type before f rec d)) o ≡ Some e → (d : FieldRow) × (field_row_at before f ≡ Some d)
+        by_row None g is = absurd (cc)
+        by_row (Some d) g is = (d, ap (option_and_then (λ (x : AsmRec). slice_get x.field f.row)) s ∙ g)
+
+    typed_there : (f : RowAt) (e : TypeExpr) → view.cell_type before args f ≡ Some e → (d : FieldRow) × (field_row_at before f ≡ Some d)
+    typed_there f e is = typed_by f e (rec_at before f) refl is
+
+    laid_by : (f : RowAt) → IsTrue (keeps_field_row k.keep before f) → (e : TypeExpr) → IsTrue (keeps_expr k.keep e) → (d : FieldRow) × (field_row_at before f ≡ Some d)
         → view.layout_by after later (p.field f) (move_expr k.rho e) ≡ option_map (move_layout k.rho) (view.layout_by before earlier f e)
-    laid_by f h e g =
+    laid_by f h e g is =
         ap (λ (s : Shape). option_map (made after (p.field f) (move_expr k.rho e)) (zero_shape (move_expr k.rho e) s)) (alike e g)
         ∙ ap (option_map (made after (p.field f) (move_expr k.rho e))) (zero_moved k.rho e (earlier e)) ∙ by_zero (zero_shape e (earlier e))
       where
@@ -217,18 +234,18 @@ module _ (k : Change) (kept : RowAt → Bool) (p : Places) (after before : List 
 
         by_zero : (o : Option Value) → option_map (made after (p.field f) (move_expr k.rho e)) (option_map (move_value k.rho) o) ≡ option_map (move_layout k.rho) (option_map (made before f e) o)
         by_zero None = refl
-        by_zero (Some v) = ap (λ (n : ℕ). Some (record { cell = of_field n; typ = move_expr k.rho e; zero = move_value k.rho v })) (r.places.fields f h)
+        by_zero (Some v) = ap (λ (n : ℕ). Some (record { cell = of_field n; typ = move_expr k.rho e; zero = move_value k.rho v })) (r.places.fields f is.0 is.1 h)
 
-    layout_of_by : (f : RowAt) → IsTrue (keeps_field_row k.keep before f) → (o : Option TypeExpr) → ((e : TypeExpr) → o ≡ Some e → IsTrue (keeps_expr k.keep e))
+    layout_of_by : (f : RowAt) → IsTrue (keeps_field_row k.keep before f) → (o : Option TypeExpr) → view.cell_type before args f ≡ o → ((e : TypeExpr) → o ≡ Some e → IsTrue (keeps_expr k.keep e))
         → option_and_then (view.layout_by after later (p.field f)) (option_map (move_expr k.rho) o) ≡ option_map (move_layout k.rho) (option_and_then (view.layout_by before earlier f) o)
-    layout_of_by f h None g = refl
-    layout_of_by f h (Some e) g = laid_by f h e (g e refl)
+    layout_of_by f h None is g = refl
+    layout_of_by f h (Some e) is g = laid_by f h e (g e refl) (typed_there f e is)
 
     pub layout_moved : (f : RowAt) → IsTrue (keeps_field_row k.keep before f)
         → view.layout_of after later (move_exprs k.rho args) (p.field f) ≡ option_map (move_layout k.rho) (view.layout_of before earlier args f)
     layout_moved f h =
         ap (option_and_then (view.layout_by after later (p.field f))) (cell_moved args ts f h)
-        ∙ layout_of_by f h (view.cell_type before args f) (λ e is. cell_kept args ts f e h is)
+        ∙ layout_of_by f h (view.cell_type before args f) refl (λ e is. cell_kept args ts f e h is)
 
     layouts_moved : (fs : List RowAt) → IsTrue (list_all (keeps_field_row k.keep before) fs)
         → map (view.layout_of after later (move_exprs k.rho args)) (map p.field fs) ≡ map (option_map (move_layout k.rho)) (map (view.layout_of before earlier args) fs)
@@ -302,7 +319,7 @@ module _ (k : Change) (kept : RowAt → Bool) (p : Places) (after before : List 
         ≡ move_shape k.rho (view.or_shape (if is_enum before at then view.enum_shape before args at else None) (view.value_shape before earlier args at))
     value_row at h is =
         ap (λ (b : Bool). view.or_shape (if b then view.enum_shape after (move_exprs k.rho args) (p.typ at) else None) (view.value_shape after later (move_exprs k.rho args) (p.typ at)))
-        (extends_moved k kept p after before r keeps ENUM at h)
+        (extends_moved k kept p after before r keeps ENUM refl at h)
         ∙ ap (λ o. view.or_shape o (view.value_shape after later (move_exprs k.rho args) (p.typ at))) (enum_by (is_enum before at) _ _ (enum_moved at h is))
         ∙ or_moved (if is_enum before at then view.enum_shape before args at else None) _ _ (value_moved at h is)
 
@@ -313,26 +330,26 @@ module _ (k : Change) (kept : RowAt → Bool) (p : Places) (after before : List 
     row_by false true at h is = refl
     row_by true true at h is = value_row at h is
 
-    fits_moved : (at : RowAt) → IsTrue (keeps_type_row k.keep before at) → view.fits_params after (p.typ at) (move_exprs k.rho args) ≡ view.fits_params before at args
-    fits_moved at h = (r.types at h).params (move_exprs k.rho args) ∙ ap (λ (n : ℕ). list_any (λ (rec : AsmRec). param_count rec at.row == n) (listed (rec_at before at))) (length-map args (move_expr k.rho))
+    fits_moved : (at : RowAt) → IsTrue (keeps_type_row k.keep before at) → (t : TypeDefRow) → type_row_at before at ≡ Some t → view.fits_params after (p.typ at) (move_exprs k.rho args) ≡ view.fits_params before at args
+    fits_moved at h t is = (r.types at h).params t is (move_exprs k.rho args) ∙ ap (λ (n : ℕ). list_any (λ (rec : AsmRec). param_count rec at.row == n) (listed (rec_at before at))) (length-map args (move_expr k.rho))
 
-    row_moved : (at : RowAt) → IsTrue (keeps_type_row k.keep before at)
+    row_moved : (at : RowAt) → IsTrue (keeps_type_row k.keep before at) → (t : TypeDefRow) → type_row_at before at ≡ Some t
         → view.row_shape after later (move_exprs k.rho args) (p.typ at) ≡ move_shape k.rho (view.row_shape before earlier args at)
-    row_moved at h =
-        (λ i. if not (value_type_moved k kept p after before r keeps at h i) then reference else if not (fits_moved at h i) then no_value
+    row_moved at h t is =
+        (λ i. if not (value_type_moved k kept p after before r keeps at h i) then reference else if not (fits_moved at h t is i) then no_value
         else view.or_shape (if is_enum after (p.typ at) then view.enum_shape after (move_exprs k.rho args) (p.typ at) else None) (view.value_shape after later (move_exprs k.rho args) (p.typ at)))
         ∙ row_by (view.fits_params before at args) (is_value_type before at) at h refl
 
-    home_by : (o : Option RowAt) → ((at : RowAt) → o ≡ Some at → IsTrue (keeps_type_row k.keep before at))
+    home_by : (o : Option RowAt) → ((at : RowAt) → o ≡ Some at → IsTrue (keeps_type_row k.keep before at)) → ((at : RowAt) → o ≡ Some at → (t : TypeDefRow) × (type_row_at before at ≡ Some t))
         → view.home_shape after later (move_exprs k.rho args) (option_map p.typ o) ≡ move_shape k.rho (view.home_shape before earlier args o)
-    home_by None h = refl
-    home_by (Some at) h = row_moved at (h at refl)
+    home_by None h there = refl
+    home_by (Some at) h there = let row = there at refl in row_moved at (h at refl) row.0 row.1
 
     pub home_shape_moved : (t : ℕ) → IsTrue (k.keep.typ t)
         → view.home_shape after later (move_exprs k.rho args) (type_home after (type_numbered (k.rho.typ t))) ≡ move_shape k.rho (view.home_shape before earlier args (type_home before (type_numbered t)))
     home_shape_moved t h =
         ap (view.home_shape after later (move_exprs k.rho args)) (r.places.type_homes t h)
-        ∙ home_by (type_home before (type_numbered t)) (λ at is. type_row_kept k kept p after before r t at h is)
+        ∙ home_by (type_home before (type_numbered t)) (λ at is. type_row_kept k kept p after before r t at h is) (λ at is. home_row before t at is)
 
   -- ---- a type
 

@@ -1,6 +1,6 @@
 -- The initializer of a type whose initializer an access can begin moves with it, and is kept (II.10.5.3).
 use Rattle.std.proofs.Common.{◌≡◌, ℕ, Bool, true, false, List, [], ◌∷◌, map, Option, Some, None, refl, sym, ap, subst, ◌∙◌}
-use Rattle.std.specs.Prelude.{IsTrue, codes, slice_get, ◌&&◌, ◌||◌, ◌==◌, not}
+use Rattle.std.specs.Prelude.{IsTrue, codes, slice_get, ◌&&◌, ◌||◌, ◌==◌, not, if◌then◌else◌}
 use Rattle.std.specs.List.{list_any, flat_map}
 use Rattle.std.specs.Option.{option_map, option_and_then}
 use Rattle.std.proofs.lemmas.List.{append-nil}
@@ -82,6 +82,23 @@ module _ (recs : List AsmRec) (at : RowAt) where
   unfolding initializer methods_of_type
   initializer_is = by_rec (slice_get recs at.asm) refl
 
+  -- an initializer is a row
+  first_by : (x m : RowAt) (rest : Option RowAt) (b : Bool) → starts_at recs x ≡ b → (rest ≡ Some m → starts_at recs m ≡ true) → (if b then Some x else rest) ≡ Some m → starts_at recs m ≡ true
+  first_by x m rest true t more h = let same : x ≡ m = cc in subst (λ (y : RowAt). starts_at recs y ≡ true) same t
+  first_by x m rest false t more h = more h
+
+  first_starts : (xs : List RowAt) (m : RowAt) → first_at (starts_at recs) xs ≡ Some m → starts_at recs m ≡ true
+  first_starts [] m e = absurd (cc)
+  first_starts (x ∷ xs) m e = first_by x m (first_at (starts_at recs) xs) (starts_at recs x) refl (first_starts xs m) e
+
+  row_of_start : (m : RowAt) (o : Option MethodDefRow) → method_row_at recs m ≡ o → (list_any named_so (listed o) && gives_nothing (type_of_row recs m)) ≡ true
+      → (d : MethodDefRow) × (method_row_at recs m ≡ Some d)
+  row_of_start m None e h = absurd (cc)
+  row_of_start m (Some d) e h = (d, e)
+
+  pub starts_there : (m : RowAt) → initializer recs at ≡ Some m → (d : MethodDefRow) × (method_row_at recs m ≡ Some d)
+  starts_there m e = row_of_start m (method_row_at recs m) refl (first_starts (methods_of_type recs at) m (sym initializer_is ∙ e))
+
 -- ---- void stays void
 
 module _ (r : Rho) where
@@ -149,12 +166,14 @@ module _ (k : Change) (kept : RowAt → Bool) (p : Places) (after before : List 
       ≡ option_map k.rho.method (option_map (λ at. (method_id before at).0) (option_and_then (initializer before) o))
   start_by None h = refl
   start_by (Some at) h =
-      ap (option_map (λ m. (method_id after m).0)) (initializer_moved at (h at refl)) ∙ by_found (initializer before at) (λ m e. keeps.started at m (h at refl) e)
+      ap (option_map (λ m. (method_id after m).0)) (initializer_moved at (h at refl)) ∙ by_found (initializer before at) refl (λ m e. keeps.started at m (h at refl) e)
     where
-      by_found : (o : Option RowAt) → ((m : RowAt) → o ≡ Some m → IsTrue (keeps_method_row k.keep before m))
+      by_found : (o : Option RowAt) → initializer before at ≡ o → ((m : RowAt) → o ≡ Some m → IsTrue (keeps_method_row k.keep before m))
           → option_map (λ m. (method_id after m).0) (option_map p.method o) ≡ option_map k.rho.method (option_map (λ m. (method_id before m).0) o)
-      by_found None g = refl
-      by_found (Some m) g = ap (λ (n : ℕ). Some n) (r.places.methods m (g m refl))
+      by_found None is g = refl
+      by_found (Some m) is g =
+          let there = starts_there before at m is in
+          ap (λ (n : ℕ). Some n) (r.places.methods m there.0 there.1 (g m refl))
 
   pub starts_moved : (t : ℕ) → IsTrue (k.keep.begun t) → starts_query after (k.rho.typ t) ≡ option_map k.rho.method (starts_query before t)
   starts_moved t h =

@@ -16,7 +16,7 @@ use Rattle.change_rules.specs.Change.{Change}
 use Rattle.change_rules.specs.Moves.{move_expr, move_exprs}
 use Rattle.change_rules.specs.Keeps.{keeps_expr}
 use Rattle.world_change_rules.specs.Places.{Places, keeps_type_row}
-use Rattle.world_change_rules.specs.Rows.{RowsMove}
+use Rattle.world_change_rules.specs.Rows.{RowsMove, is_table_type}
 use Rattle.world_change_rules.specs.Kept.{KeepsRows}
 use Rattle.query_laws.proofs.Homes.{home_moved, home_kept}
 use Rattle.query_laws.proofs.Bases.{base_kept, bases_moved}
@@ -73,24 +73,24 @@ module _ (k : Change) (kept : RowAt → Bool) (p : Places) (after before : List 
 
   -- ---- value types (II.13)
 
-  core_row_by : (token : ℕ) (o : Option RowAt) → ((at : RowAt) → o ≡ Some at → IsTrue (keeps_type_row k.keep before at))
+  core_row_by : (token : ℕ) → IsTrue (is_table_type token) → (o : Option RowAt) → ((at : RowAt) → o ≡ Some at → IsTrue (keeps_type_row k.keep before at))
       → list_any (is_core_row_at after token) (listed (option_map p.typ o)) ≡ list_any (is_core_row_at before token) (listed o)
-  core_row_by token None h = refl
-  core_row_by token (Some at) h = ap (λ (b : Bool). b || false) ((r.types at (h at refl)).core_row token)
+  core_row_by token t None h = refl
+  core_row_by token t (Some at) h = ap (λ (b : Bool). b || false) ((r.types at (h at refl)).core_row token t)
 
-  extends_by : (token : ℕ) (o : Option TypeExpr) → ((e : TypeExpr) → o ≡ Some e → IsTrue (Kept e))
+  extends_by : (token : ℕ) → IsTrue (is_table_type token) → (o : Option TypeExpr) → ((e : TypeExpr) → o ≡ Some e → IsTrue (Kept e))
       → list_any (is_core_row_at after token) (listed (option_and_then (home_of after) (option_map (move_expr k.rho) o)))
       ≡ list_any (is_core_row_at before token) (listed (option_and_then (home_of before) o))
-  extends_by token None h = refl
-  extends_by token (Some e) h =
+  extends_by token t None h = refl
+  extends_by token t (Some e) h =
       ap (λ (o : Option RowAt). list_any (is_core_row_at after token) (listed o)) (home_moved k kept p after before r keeps e (h e refl))
-      ∙ core_row_by token (home_of before e) (λ at is. home_kept k kept p after before r keeps e at (h e refl) is)
+      ∙ core_row_by token t (home_of before e) (λ at is. home_kept k kept p after before r keeps e at (h e refl) is)
 
-  pub extends_moved : (token : ℕ) (at : RowAt) → IsTrue (keeps_type_row k.keep before at) → extends_core after token (p.typ at) ≡ extends_core before token at
-  extends_moved token at h =
+  pub extends_moved : (token : ℕ) → IsTrue (is_table_type token) → (at : RowAt) → IsTrue (keeps_type_row k.keep before at) → extends_core after token (p.typ at) ≡ extends_core before token at
+  extends_moved token t at h =
       ap (λ (o : Option TypeExpr). list_any (is_core_row_at after token) (listed (option_and_then (home_of after) o))) ((r.types at h).base)
-      ∙ extends_by token (base_at before at) (λ e is. keeps.bases at e h is)
+      ∙ extends_by token t (base_at before at) (λ e is. keeps.bases at e h is)
 
   pub value_type_moved : (at : RowAt) → IsTrue (keeps_type_row k.keep before at) → is_value_type after (p.typ at) ≡ is_value_type before at
   unfolding is_value_type
-  value_type_moved at h = λ i. (extends_moved VALUE_TYPE at h i && not ((r.types at h).core_row ENUM i)) || extends_moved ENUM at h i
+  value_type_moved at h = λ i. (extends_moved VALUE_TYPE refl at h i && not ((r.types at h).core_row ENUM refl i)) || extends_moved ENUM refl at h i

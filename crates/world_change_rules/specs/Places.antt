@@ -1,12 +1,17 @@
 -- Rows of types, methods and fields, by which of them are kept, and where the kept ones stand in the other world.
-use Rattle.std.specs.Prelude.{◌≡◌, ℕ, Bool, IsTrue}
+use Rattle.std.specs.Prelude.{◌≡◌, ℕ, Bool, Some, IsTrue}
 use Rattle.std.specs.Option.{option_map}
 use Rattle.il_base.specs.declared.ids.TypeId.{TypeId}
+use Rattle.world_model.specs.declared.types.TypeDefRow.{TypeDefRow}
+use Rattle.world_model.specs.declared.members.FieldRow.{FieldRow}
+use Rattle.world_model.specs.declared.members.MethodDefRow.{MethodDefRow}
 use Rattle.world_model.specs.declared.record.AsmRec.{AsmRec}
 use Rattle.std.specs.Prelude.{List}
 use Rattle.world_model.specs.Worlds.{type_id}
 use Rattle.link_rules.specs.declared.row_at.RowAt.{RowAt}
 use Rattle.link_rules.specs.Members.{home_from, methods_in, fields_in, type_home}
+use Rattle.type_rules.specs.Rows.{type_row_at, field_row_at}
+use Rattle.type_rules.specs.Slots.{method_row_at}
 use Rattle.type_rules.specs.Dispatch.{method_id}
 use Rattle.view_rules.specs.Layouts.{field_number}
 use Rattle.change_rules.specs.Change.{Keep, Change}
@@ -36,11 +41,12 @@ keeps_field_row k recs at = k.field (field_number recs at)
 abbrev pub type_numbered : ℕ → TypeId
 type_numbered n = record { 0 = n }
 
--- The places and the numbers of kept rows go together: `after` has each kept item of `before` under its new number, at its place.
+-- The places and the numbers of kept rows go together: `after` has each kept item of `before` under its new number, at its place. A row
+-- that isn't there has no number of its own.
 pub record PlacesMove (k : Change) (p : Places) (after before : List AsmRec) : Type 0 where
   pub type_homes : (t : ℕ) → IsTrue (k.keep.typ t) → type_home after (type_numbered (k.rho.typ t)) ≡ option_map p.typ (type_home before (type_numbered t))
   pub method_homes : (m : ℕ) → IsTrue (k.keep.method m) → home_from methods_in 0 after (k.rho.method m) ≡ option_map p.method (home_from methods_in 0 before m)
   pub field_homes : (f : ℕ) → IsTrue (k.keep.field f) → home_from fields_in 0 after (k.rho.field f) ≡ option_map p.field (home_from fields_in 0 before f)
-  pub types : (at : RowAt) → IsTrue (keeps_type_row k.keep before at) → type_number after (p.typ at) ≡ k.rho.typ (type_number before at)
-  pub methods : (at : RowAt) → IsTrue (keeps_method_row k.keep before at) → method_number after (p.method at) ≡ k.rho.method (method_number before at)
-  pub fields : (at : RowAt) → IsTrue (keeps_field_row k.keep before at) → field_number after (p.field at) ≡ k.rho.field (field_number before at)
+  pub types : (at : RowAt) (t : TypeDefRow) → type_row_at before at ≡ Some t → IsTrue (keeps_type_row k.keep before at) → type_number after (p.typ at) ≡ k.rho.typ (type_number before at)
+  pub methods : (at : RowAt) (m : MethodDefRow) → method_row_at before at ≡ Some m → IsTrue (keeps_method_row k.keep before at) → method_number after (p.method at) ≡ k.rho.method (method_number before at)
+  pub fields : (at : RowAt) (f : FieldRow) → field_row_at before at ≡ Some f → IsTrue (keeps_field_row k.keep before at) → field_number after (p.field at) ≡ k.rho.field (field_number before at)

@@ -1,24 +1,26 @@
 -- What kept rows of a world have in another with new numbers: the same names and flags, moved types, and of lists of rows those that
 -- are kept. Nothing is asked of rows that aren't kept.
-use Rattle.std.specs.Prelude.{◌≡◌, ℕ, suc, List, [], map, Some, None, slice_get, Bool, IsTrue, ◌==◌, if◌then◌else◌}
-use Rattle.std.specs.List.{flat_map, filter}
+use Rattle.std.specs.Prelude.{◌≡◌, ℕ, suc, List, [], length, map, Some, None, slice_get, nat_lt, Bool, IsTrue, ◌==◌, if◌then◌else◌}
+use Rattle.std.specs.List.{list_any, flat_map, filter}
 use Rattle.std.specs.Option.{option_map}
 use Rattle.il_base.specs.declared.table.TheConstants.{TYPE_DEF}
 use Rattle.core_table.specs.declared.names.CoreName.{CoreName}
+use Rattle.core_table.specs.declared.types.TheConstants.{TYPES}
 use Rattle.world_model.specs.declared.expr.TypeExpr.{TypeExpr}
 use Rattle.world_model.specs.declared.expr.MethodUse.{MethodUse}
 use Rattle.world_model.specs.declared.members.MethodDefRow.{MethodDefRow}
 use Rattle.world_model.specs.declared.members.MethodImplRow.{MethodImplRow}
+use Rattle.world_model.specs.declared.types.TypeDefRow.{TypeDefRow}
 use Rattle.world_model.specs.declared.types.InterfaceImplRow.{InterfaceImplRow}
 use Rattle.world_model.specs.declared.record.AsmRec.{AsmRec}
-use Rattle.world_model.specs.Tokens.{token_of}
+use Rattle.world_model.specs.Tokens.{token_of, index_in}
 use Rattle.world_model.specs.Worlds.{known_map, prim_type}
 use Rattle.link_rules.specs.declared.row_at.RowAt.{RowAt}
 use Rattle.link_rules.specs.declared.member_type.MethodType.{MethodType}
 use Rattle.link_rules.specs.Types.{at_row}
 use Rattle.link_rules.specs.Members.{array_type, base_at, generic_method}
 use Rattle.link_rules.specs.Cycles.{listed, interface_of, interfaces_at, is_interface_at, is_core_row_at}
-use Rattle.type_rules.specs.Rows.{each_row, methods_of_type, fields_of_type, is_instance_field}
+use Rattle.type_rules.specs.Rows.{type_row_at, each_row, methods_of_type, fields_of_type, is_instance_field}
 use Rattle.type_rules.specs.Slots.{is_static, is_virtual, is_new_slot, is_public, method_row_at, type_of_method, type_of_row}
 use Rattle.type_rules.specs.Dispatch.{good_use}
 use Rattle.type_rules.specs.Texts.{name_at}
@@ -85,6 +87,10 @@ pub record SameMethod (m' m : MethodDefRow) : Type 0 where
 
 -- ---- a type's row
 
+-- whether a token is of a type that the table of the core library has; behind those are names that only modifiers use (II.7.1.1)
+abbrev pub is_table_type : ℕ → Bool
+is_table_type token = list_any (λ n. nat_lt n (length TYPES)) (listed (index_in TYPE_DEF token))
+
 pub record TypeMoves (k : Change) (kept : RowAt → Bool) (p : Places) (after before : List AsmRec) (at : RowAt) : Type 0 where
   pub interface : is_interface_at after (p.typ at) ≡ is_interface_at before at
   pub head : view.head_at after (p.typ at) ≡ view.head_at before at
@@ -96,9 +102,10 @@ pub record TypeMoves (k : Change) (kept : RowAt → Bool) (p : Places) (after be
   pub methods : methods_of_type after (p.typ at) ≡ map p.method (filter (keeps_method_row k.keep before) (methods_of_type before at))
   pub fields : fields_of_type after (p.typ at) ≡ map p.field (filter (keeps_field_row k.keep before) (fields_of_type before at))
   pub impls : impls_at after (p.typ at) ≡ map (move_impl k.rho) (filter (keeps_impl k.keep) (impls_at before at))
-  pub core_row : (token : ℕ) → is_core_row_at after token (p.typ at) ≡ is_core_row_at before token at
+  pub core_row : (token : ℕ) → IsTrue (is_table_type token) → is_core_row_at after token (p.typ at) ≡ is_core_row_at before token at
   pub core_name : core_name_at after (p.typ at) ≡ core_name_at before at
-  pub params : (args : List TypeExpr) → fits_params after (p.typ at) args ≡ fits_params before at args
+  -- of a row that is there
+  pub params : (t : TypeDefRow) → type_row_at before at ≡ Some t → (args : List TypeExpr) → fits_params after (p.typ at) args ≡ fits_params before at args
   pub core_type : (name : CoreName) → is_core_type after name (p.typ at) ≡ is_core_type before name at
 
 -- ---- a method's row

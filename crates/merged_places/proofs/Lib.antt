@@ -1,0 +1,11 @@
+pub mod Ranks
+pub mod Rows
+pub mod Kept
+pub mod Numbers
+pub mod CoreRows
+pub mod Worlds
+pub mod CoreTables
+pub mod Moving
+pub mod Tables
+pub mod Situations
+pub mod Whole

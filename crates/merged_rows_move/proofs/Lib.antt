@@ -1,0 +1,17 @@
+pub mod Flags
+pub mod Runs
+pub mod Members
+pub mod RowsOf
+pub mod CoreRuns
+pub mod Owners
+pub mod Params
+pub mod Heads
+pub mod Core
+pub mod Bases
+pub mod Stable
+pub mod Renaming
+pub mod Nesting
+pub mod Interfaces
+pub mod Impls
+pub mod Names
+pub mod Whole

@@ -1,0 +1,83 @@
+-- What is asked of references and names where a merge's rows are read again.
+use Rattle.std.specs.Prelude.{◌≡◌, ◌<◌, ◌==◌, ℕ, suc, List, [], ◌∷◌, length, map, Some, None, slice_get, IsTrue, false, true}
+use Rattle.std.specs.List.{Contains, flat_map, filter}
+use Rattle.world_model.specs.declared.known.Known.TheVariants.{Good}
+use Rattle.world_model.specs.declared.expr.TypeExpr.{TypeExpr}
+use Rattle.world_model.specs.declared.types.TypeDefRow.{TypeDefRow}
+use Rattle.world_model.specs.declared.types.InterfaceImplRow.{InterfaceImplRow}
+use Rattle.world_model.specs.declared.members.MethodImplRow.{MethodImplRow}
+use Rattle.world_model.specs.declared.record.AsmRec.{AsmRec}
+use Rattle.world_model.specs.Records.{IsRecord}
+use Rattle.link_rules.specs.declared.row_at.RowAt.{RowAt}
+use Rattle.link_rules.specs.Types.{at_row, encloser}
+use Rattle.link_rules.specs.Signatures.{token_type}
+use Rattle.link_rules.specs.Members.{generic_method}
+use Rattle.link_rules.specs.Cycles.{listed}
+use Rattle.link_rules.specs.Linked.{link_fault_of}
+use Rattle.type_rules.specs.Dispatch.{good_use}
+use Rattle.mark_rules.specs.Places.{type_item, impl_item}
+use Rattle.merge_rules.specs.Numbers.{kept_types}
+use Rattle.merge_rules.specs.Names.{collision}
+use Rattle.merge_rules.specs.Keys.{TypeKey, type_key}
+use Rattle.merge_rules.specs.Order.{met_type}
+use Rattle.merge_rules.specs.Moved.{moved_type}
+use Rattle.merge_rules.specs.Restricted.{impl_row, has_kept_body}
+use Rattle.change_rules.specs.Change.{Keep}
+use Rattle.change_rules.specs.Moves.{move_expr}
+use Rattle.change_rules.specs.Keeps.{keeps_expr}
+use Rattle.world_change_rules.specs.Places.{type_number}
+use Rattle.world_change_rules.specs.Rows.{Impl, move_impl, impl_by, keeps_impl}
+use Rattle.merged_world_rules.specs.Merge.{Merge, before, after, output}
+use Rattle.merged_world_rules.specs.NewNumbers.{rho_of}
+
+-- the output refers to what a token of an input names
+abbrev pub IsMet : Merge → ℕ → AsmRec → ℕ → Type 0
+IsMet m a rec token = (k : TypeKey) → type_key (before m) a rec token ≡ Some k → Contains (output m).mets (met_type k)
+
+-- a token that names a type names the moved one in the output
+abbrev pub ReadsTokens : Merge → Type 0
+ReadsTokens m =
+    (a : ℕ) (rec : AsmRec) (token : ℕ) (e : TypeExpr) → slice_get (before m) a ≡ Some rec → suc a < length (before m) → IsMet m a rec token → token_type (before m) a rec token ≡ Good e
+    → token_type (after m) 0 m.left (moved_type (output m) a rec token) ≡ Good (move_expr (rho_of m) e)
+
+-- a kept type's base has a reading, as where no marked item is bad
+abbrev pub HasGoodBases : Merge → Type 0
+HasGoodBases m =
+    (at : RowAt) (rec : AsmRec) (t : TypeDefRow) → slice_get (before m) at.asm ≡ Some rec → slice_get rec.type_def at.row ≡ Some t → suc at.asm < length (before m)
+    → m.kept (type_item (before m) at) ≡ true → (t.extends == 0) ≡ false → (e : TypeExpr) × (token_type (before m) at.asm rec t.extends ≡ Good e)
+
+-- the interface of a kept row has a reading, and is kept
+pub record GoodInterface (m : Merge) (k : Keep) (a : ℕ) (rec : AsmRec) (row : InterfaceImplRow) : Type 0 where
+  pub typ : TypeExpr
+  pub reads : token_type (before m) a rec row.interface ≡ Good typ
+  pub stays : IsTrue (keeps_expr k typ)
+
+abbrev pub HasGoodInterfaces : Merge → Keep → Type 0
+HasGoodInterfaces m k =
+    (a i : ℕ) (rec : AsmRec) (row : InterfaceImplRow) → slice_get (before m) a ≡ Some rec → slice_get rec.interface_impl i ≡ Some row → suc a < length (before m)
+    → m.kept (impl_item (before m) (at_row a i)) ≡ true → GoodInterface m k a rec row
+
+-- the declaration and the body that a MethodImpl row names, where both are there
+abbrev pub uses_of : List AsmRec → ℕ → AsmRec → MethodImplRow → List Impl
+uses_of recs a rec row =
+    flat_map (λ d. map (impl_by d) (listed (good_use (generic_method recs a rec row.body)))) (listed (good_use (generic_method recs a rec row.declaration)))
+
+-- A MethodImpl row that is written names in the output what it named, moved, if its body is kept; one that isn't written has no kept body.
+pub record ReadsImpl (m : Merge) (k : Keep) (a : ℕ) (rec : AsmRec) (row : MethodImplRow) : Type 0 where
+  pub kept : has_kept_body (output m) a rec row ≡ true → (class : ℕ)
+      → uses_of (after m) 0 m.left (impl_row (output m) a rec row class) ≡ map (move_impl (rho_of m)) (filter (keeps_impl k) (uses_of (before m) a rec row))
+  pub gone : has_kept_body (output m) a rec row ≡ false → filter (keeps_impl k) (uses_of (before m) a rec row) ≡ []
+
+abbrev pub ReadsImpls : Merge → Keep → Type 0
+ReadsImpls m k =
+    (a i : ℕ) (rec : AsmRec) (row : MethodImplRow) → slice_get (before m) a ≡ Some rec → slice_get rec.method_impl i ≡ Some row → suc a < length (before m) → ReadsImpl m k a rec row
+
+-- Enclosers of kept types are kept, and those of shown ones shown; no shown type needs a new name; the output is a record that links.
+pub record KeepsNames (m : Merge) (k : Keep) : Type 0 where
+  pub enclosers : (at : RowAt) (rec : AsmRec) (j : ℕ) → slice_get (before m) at.asm ≡ Some rec → encloser rec at.row ≡ Some j → m.kept (type_item (before m) at) ≡ true
+      → m.kept (type_item (before m) (at_row at.asm j)) ≡ true
+  pub shown : (at : RowAt) (rec : AsmRec) (j : ℕ) → slice_get (before m) at.asm ≡ Some rec → encloser rec at.row ≡ Some j → IsTrue (k.shown (type_number (before m) at))
+      → IsTrue (k.shown (type_number (before m) (at_row at.asm j)))
+  pub apart : collision (before m) (λ t. k.shown t.0) (kept_types (before m) m.kept) ≡ None
+  pub record_left : IsRecord m.left
+  pub links_left : link_fault_of (m.left ∷ []) ≡ None
