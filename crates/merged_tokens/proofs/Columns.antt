@@ -43,25 +43,25 @@ use Rattle.merged_owners.specs.Laws.{AreMarked, AreKept}
 use Rattle.merged_owners.proofs.Homes.{own_home}
 use Rattle.merged_tokens.specs.Laws.{IsMet, TypeTokensStand, InterfacesNamed}
 
-contained : {A : Type 0} (xs : List A) (n : ℕ) (x : A) → slice_get xs n ≡ Some x → Contains xs x
+pub contained : {A : Type 0} (xs : List A) (n : ℕ) (x : A) → slice_get xs n ≡ Some x → Contains xs x
 contained xs n x e = (n, slice_get_within xs n x e, get_or_from_slice_get xs n x x e)
 
 -- a token by its table and its row
-token_parts : (token t k : ℕ) → table_of token ≡ t → row_number token ≡ suc k → token ≡ token_of t (suc k)
+pub token_parts : (token t k : ℕ) → table_of token ≡ t → row_number token ≡ suc k → token ≡ token_of t (suc k)
 token_parts token t k e f = omega (arith, e, f)
 
-some_row : (token : ℕ) → 1 ≤ row_number token → (token == 0) ≡ false
+pub some_row : (token : ℕ) → 1 ≤ row_number token → (token == 0) ≡ false
 some_row token h = ne_eqb token 0 (λ e. let z : row_number token ≡ 0 = ap row_number e in absurd (omega (arith, h, z)))
 
 module _ (recs : List AsmRec) (kept : Kept) (records : InputsAreRecords recs) where
   -- the kept row of an interface, and the kept type that it is of
-  record KeptImpl (x : SortedRow) : Type 0 where
-    rec : AsmRec
-    input : OfInput recs x.at.asm rec
-    row : InterfaceImplRow
-    is : slice_get rec.interface_impl x.at.row ≡ Some row
-    passes : kept (impl_item recs x.at) ≡ true
-    owned : class_token recs kept x.at.asm row.class ≡ Some x.owner
+  pub record KeptImpl (x : SortedRow) : Type 0 where
+    pub rec : AsmRec
+    pub input : OfInput recs x.at.asm rec
+    pub row : InterfaceImplRow
+    pub is : slice_get rec.interface_impl x.at.row ≡ Some row
+    pub passes : kept (impl_item recs x.at) ≡ true
+    pub owned : class_token recs kept x.at.asm row.class ≡ Some x.owner
 
   impl_one : (a k : ℕ) (rec : AsmRec) (row : InterfaceImplRow) (x : SortedRow) → OfInput recs a rec → slice_get rec.interface_impl k ≡ Some row → kept (impl_item recs (at_row a k)) ≡ true
       → Contains (sorted_at a k (λ token. token) (class_token recs kept a row.class)) x → KeptImpl x

@@ -2,3 +2,5 @@ pub mod Once
 pub mod Keys
 pub mod Parts
 pub mod Stand
+pub mod Columns
+pub mod Events

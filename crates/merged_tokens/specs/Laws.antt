@@ -3,6 +3,7 @@ use Rattle.std.specs.Prelude.{◌≡◌, ◌<◌, ◌≤◌, ℕ, suc, List, len
 use Rattle.il_base.specs.declared.ids.Item.{Item}
 use Rattle.descriptor_file.specs.declared.root.Root.{Root}
 use Rattle.world_model.specs.declared.record.AsmRec.{AsmRec}
+use Rattle.world_model.specs.Records.{Each}
 use Rattle.link_rules.specs.declared.row_at.RowAt.{RowAt}
 use Rattle.mark_rules.specs.Naming.{type_token_part}
 use Rattle.mark_rules.specs.Shown.{parts_of_item}
@@ -14,7 +15,7 @@ use Rattle.merge_rules.specs.Keys.{TypeKey, type_key}
 use Rattle.merge_rules.specs.Order.{met_type}
 use Rattle.merge_rules.specs.Moved.{moved_type}
 use Rattle.merge_rules.specs.Restricted.{output_of, restricted}
-use Rattle.merged_record.specs.Laws.{ReferencesStand, RowsFit}
+use Rattle.merged_record.specs.Laws.{InputsAreRecords, ReferencesStand, RowsFit}
 use Rattle.merged_owners.specs.Laws.{AreMarked, AreKept}
 
 -- a token in a part of a kept item of an input, whose type is met by what is kept
@@ -36,3 +37,15 @@ TypeTokensStand =
     (internal : Bool) (recs : List AsmRec) (entry : Option RowAt) (roots : List Root) (kept : Kept) (left : AsmRec) → restricted internal recs kept ≡ Some left → AreMarked recs entry roots kept → AreKept recs entry roots kept
     → IsFirstFlaw recs entry (Marks recs entry roots) None → ReferencesStand (output_of recs kept) left → RowsFit left
     → (a : ℕ) (rec : AsmRec) (token : ℕ) → IsMet recs kept a rec token → 1 ≤ moved_type (output_of recs kept) a rec token
+
+-- of what `NamesAll` of merged_record/specs/Laws asks: the interface that a row names
+abbrev pub InterfacesNamed : Type 0
+InterfacesNamed =
+    (internal : Bool) (recs : List AsmRec) (entry : Option RowAt) (roots : List Root) (kept : Kept) (left : AsmRec) → restricted internal recs kept ≡ Some left → InputsAreRecords recs → AreMarked recs entry roots kept
+    → AreKept recs entry roots kept → IsFirstFlaw recs entry (Marks recs entry roots) None → ReferencesStand (output_of recs kept) left → RowsFit left → Each (λ row. 1 ≤ row.interface) left.interface_impl
+
+-- and the type of an event
+abbrev pub EventsNamed : Type 0
+EventsNamed =
+    (internal : Bool) (recs : List AsmRec) (entry : Option RowAt) (roots : List Root) (kept : Kept) (left : AsmRec) → restricted internal recs kept ≡ Some left → InputsAreRecords recs → AreMarked recs entry roots kept
+    → AreKept recs entry roots kept → IsFirstFlaw recs entry (Marks recs entry roots) None → ReferencesStand (output_of recs kept) left → RowsFit left → Each (λ row. 1 ≤ row.event_type) left.event
