@@ -43,7 +43,7 @@ use Rattle.merged_tokens.proofs.Once.{to_filter}
 use Rattle.merged_tokens.proofs.Columns.{contained, token_parts, some_row}
 
 -- a row of a run is among its places
-in_places : {A : Type 0} (first end : ℕ) (rows : List A) (k : ℕ) → first ≤ suc k → 1 ≤ first → suc k < end → k < length rows → Contains (run_places first end rows) k
+pub in_places : {A : Type 0} (first end : ℕ) (rows : List A) (k : ℕ) → first ≤ suc k → 1 ≤ first → suc k < end → k < length rows → Contains (run_places first end rows) k
 in_places first end rows k from begins ends below =
     let n : length (run_of first end rows) ≡ min (end - first) (length rows - (first - 1)) = length-take (end - first) (drop (first - 1) rows) ∙ ap (min (end - first)) (length-drop (first - 1) rows) in
     let z : (first - 1) + (k - (first - 1)) ≡ k = omega arith in

@@ -4,3 +4,4 @@ pub mod Parts
 pub mod Stand
 pub mod Columns
 pub mod Events
+pub mod Constraints

@@ -49,3 +49,9 @@ abbrev pub EventsNamed : Type 0
 EventsNamed =
     (internal : Bool) (recs : List AsmRec) (entry : Option RowAt) (roots : List Root) (kept : Kept) (left : AsmRec) → restricted internal recs kept ≡ Some left → InputsAreRecords recs → AreMarked recs entry roots kept
     → AreKept recs entry roots kept → IsFirstFlaw recs entry (Marks recs entry roots) None → ReferencesStand (output_of recs kept) left → RowsFit left → Each (λ row. 1 ≤ row.event_type) left.event
+
+-- and the constraint of a generic parameter
+abbrev pub ConstraintsNamed : Type 0
+ConstraintsNamed =
+    (internal : Bool) (recs : List AsmRec) (entry : Option RowAt) (roots : List Root) (kept : Kept) (left : AsmRec) → restricted internal recs kept ≡ Some left → InputsAreRecords recs → AreMarked recs entry roots kept
+    → AreKept recs entry roots kept → IsFirstFlaw recs entry (Marks recs entry roots) None → ReferencesStand (output_of recs kept) left → RowsFit left → Each (λ row. 1 ≤ row.constraint) left.generic_param_constraint

@@ -1,4 +1,4 @@
-ghost use Rattle.merged_tokens.specs.Laws.{EventsNamed, InterfacesNamed, TypeTokensStand};
+ghost use Rattle.merged_tokens.specs.Laws.{ConstraintsNamed, EventsNamed, InterfacesNamed, TypeTokensStand};
 
 use merged_owners::laws::owners_stay;
 
@@ -18,6 +18,14 @@ pub fn interfaces_named()
 /// A law: so does each kept row of Event its type. It does nothing.
 pub fn events_named()
     ensures { EventsNamed }
+{
+    type_tokens_stand();
+    owners_stay();
+}
+
+/// A law: so does each kept row of GenericParamConstraint its constraint. It does nothing.
+pub fn constraints_named()
+    ensures { ConstraintsNamed }
 {
     type_tokens_stand();
     owners_stay();
