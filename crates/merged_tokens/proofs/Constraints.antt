@@ -1,17 +1,15 @@
 -- The constraints of generic parameters in what is left name types.
-use Rattle.std.proofs.Common.{◌≡◌, ◌<◌, ◌≤◌, ℕ, zero, suc, ◌+◌, ◌-◌, ◌%◌, List, [], ◌∷◌, ◌++◌, length, map, Bool, true, false, Option, Some, None, refl, sym, ap, subst, ◌∙◌, arith}
+use Rattle.std.proofs.Common.{◌≡◌, ◌<◌, ◌≤◌, ℕ, suc, ◌+◌, ◌%◌, List, [], ◌∷◌, ◌++◌, length, map, Bool, true, false, Option, Some, refl, sym, ap, subst, arith}
 use Rattle.std.specs.Prelude.{slice_get, ◌==◌, if◌then◌else◌}
 use Rattle.std.specs.List.{Contains, flat_map}
-use Rattle.std.specs.Option.{is_some, option_and_then}
+use Rattle.std.specs.Option.{option_and_then}
 use Rattle.std.proofs.lemmas.Bool.{eq-eqb}
 use Rattle.std.proofs.lemmas.List.Elements.{Contains-append_left, Contains-append_right}
-use Rattle.il_base.specs.declared.ids.Item.{Item}
 use Rattle.il_base.specs.declared.table.TheConstants as table
 use Rattle.cli_format.specs.declared.column.CodedIndex.TheVariants.{TypeDefOrRef}
 use Rattle.world_model.specs.declared.types.TypeDefRow.{TypeDefRow}
 use Rattle.world_model.specs.declared.types.GenericParamRow.{GenericParamRow}
 use Rattle.world_model.specs.declared.types.GenericParamConstraintRow.{GenericParamConstraintRow}
-use Rattle.world_model.specs.declared.members.MethodDefRow.{MethodDefRow}
 use Rattle.world_model.specs.declared.record.AsmRec.{AsmRec}
 use Rattle.world_model.specs.Tokens.{token_of, table_of, index_in}
 use Rattle.world_model.specs.Worlds.{types_in}
@@ -19,7 +17,7 @@ use Rattle.link_rules.specs.declared.row_at.RowAt.{RowAt}
 use Rattle.link_rules.specs.Types.{at_row}
 use Rattle.link_rules.specs.Members.{methods_in}
 use Rattle.link_rules.specs.Cycles.{listed, same_row}
-use Rattle.type_rules.specs.Rows.{rec_at, each_row, run_places, methods_of_type, fields_of_type}
+use Rattle.type_rules.specs.Rows.{each_row, run_places, methods_of_type, fields_of_type}
 use Rattle.type_laws.proofs.Places.{place_within, place_has}
 use Rattle.known_laws.proofs.Lists.{first_in, to_flat, to_map, to_listed, to_option, to_if, to_each, from_map, and_then_some, map_some}
 use Rattle.mark_rules.specs.Naming.{Part, type_token_part, method_sig_parts}
@@ -38,7 +36,6 @@ use Rattle.merge_rules.specs.Refs.{Output}
 use Rattle.merge_rules.specs.Moved.{moved_type}
 use Rattle.merge_rules.specs.Restricted.{placed_methods, moved_methods, restricted_by, new_constraint, output_of, restricted}
 use Rattle.merged_record.specs.Laws.{InputsAreRecords, OwnersAreKept}
-use Rattle.merged_record.proofs.Lists.{OfInput}
 use Rattle.merged_record.proofs.Tokens.{position_is, row_is, of_coded, index_row}
 use Rattle.merged_record.proofs.Rows.{IsKept, from_kept, from_sorted}
 use Rattle.merged_record.proofs.Sizes.{param_is, constraint_is}
@@ -47,7 +44,7 @@ use Rattle.merged_owners.specs.Laws.{OwnersStay}
 use Rattle.merged_owners.proofs.Homes.{own_home}
 use Rattle.merged_tokens.specs.Laws.{IsMet, TypeTokensStand, ConstraintsNamed}
 use Rattle.merged_tokens.proofs.Once.{to_filter}
-use Rattle.merged_tokens.proofs.Columns.{contained, token_parts, some_row}
+use Rattle.merged_tokens.proofs.Interfaces.{contained, token_parts, some_row}
 use Rattle.merged_tokens.proofs.Events.{in_places}
 
 -- a row that a token places

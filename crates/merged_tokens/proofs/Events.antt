@@ -1,8 +1,8 @@
 -- The event types in what is left name types.
-use Rattle.std.proofs.Common.{◌≡◌, ◌<◌, ◌≤◌, ℕ, zero, suc, ◌+◌, ◌-◌, ◌%◌, List, [], ◌∷◌, ◌++◌, length, map, drop, min, Bool, true, false, Option, Some, None, refl, sym, ap, subst, ◌∙◌, arith}
+use Rattle.std.proofs.Common.{◌≡◌, ◌<◌, ◌≤◌, ℕ, suc, ◌+◌, ◌-◌, ◌%◌, List, [], ◌∷◌, length, map, drop, min, Bool, true, false, Option, Some, None, refl, sym, ap, subst, ◌∙◌, arith}
 use Rattle.std.specs.Prelude.{slice_get, ◌==◌, if◌then◌else◌}
-use Rattle.std.specs.List.{Contains, flat_map, range_with_len}
-use Rattle.std.specs.Option.{is_some, option_and_then}
+use Rattle.std.specs.List.{Contains, flat_map}
+use Rattle.std.specs.Option.{is_some}
 use Rattle.std.proofs.lemmas.Bool.{eq-eqb}
 use Rattle.std.proofs.lemmas.List.{length-take, length-drop}
 use Rattle.std.proofs.lemmas.List.Elements.{Contains-append_left, Contains-append_right}
@@ -31,8 +31,7 @@ use Rattle.merge_rules.specs.Rows.{place_token, class_token}
 use Rattle.merge_rules.specs.Refs.{Output}
 use Rattle.merge_rules.specs.Moved.{moved_type, moved_event_row}
 use Rattle.merge_rules.specs.Restricted.{placed_methods, moved_methods, restricted_by, output_of, restricted}
-use Rattle.merged_record.specs.Laws.{InputsAreRecords, HasOwner, OwnersAreKept}
-use Rattle.merged_record.proofs.Lists.{OfInput}
+use Rattle.merged_record.specs.Laws.{InputsAreRecords, OwnersAreKept}
 use Rattle.merged_record.proofs.Tokens.{position_is, row_is, of_coded, index_row}
 use Rattle.merged_record.proofs.Rows.{IsKept, from_kept, from_places}
 use Rattle.merged_record.proofs.Owned.{to_range}
@@ -40,7 +39,7 @@ use Rattle.merged_owners.specs.Laws.{OwnersStay}
 use Rattle.merged_owners.proofs.Homes.{own_home}
 use Rattle.merged_tokens.specs.Laws.{IsMet, TypeTokensStand, EventsNamed}
 use Rattle.merged_tokens.proofs.Once.{to_filter}
-use Rattle.merged_tokens.proofs.Columns.{contained, token_parts, some_row}
+use Rattle.merged_tokens.proofs.Interfaces.{contained, token_parts, some_row}
 
 -- a row of a run is among its places
 pub in_places : {A : Type 0} (first end : ℕ) (rows : List A) (k : ℕ) → first ≤ suc k → 1 ≤ first → suc k < end → k < length rows → Contains (run_places first end rows) k

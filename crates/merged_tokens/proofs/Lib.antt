@@ -2,6 +2,6 @@ pub mod Once
 pub mod Keys
 pub mod Parts
 pub mod Stand
-pub mod Columns
+pub mod Interfaces
 pub mod Events
 pub mod Constraints

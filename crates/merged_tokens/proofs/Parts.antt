@@ -1,5 +1,5 @@
 -- What a part of a kept item names is marked, and it names something.
-use Rattle.std.proofs.Common.{◌≡◌, ◌<◌, ℕ, suc, List, [], ◌∷◌, ◌++◌, length, map, Bool, true, false, Option, Some, None, refl, sym, ap, subst, ◌∙◌, arith}
+use Rattle.std.proofs.Common.{◌≡◌, ◌<◌, ℕ, suc, List, [], ◌∷◌, ◌++◌, length, Bool, true, false, Option, Some, None, refl, sym, ap, subst, ◌∙◌, arith}
 use Rattle.std.specs.Prelude.{slice_get, ◌==◌, ◌||◌}
 use Rattle.std.specs.List.{Contains, flat_map, list_any}
 use Rattle.std.proofs.lemmas.Bool.{ne_eqb}
@@ -23,16 +23,16 @@ use Rattle.known_laws.proofs.Lists.{none_in, first_in, to_flat, to_option}
 use Rattle.mark_rules.specs.Facts.{Fact, by_one}
 use Rattle.mark_rules.specs.Facts.Fact.{marked}
 use Rattle.mark_rules.specs.Places.{row_of, is_core}
-use Rattle.mark_rules.specs.Naming.{Part, types_layer, types_in, mark_types, of_expr, of_named, of_known, of_parts, type_token_part}
+use Rattle.mark_rules.specs.Naming.{Part, types_layer, types_in, mark_types, of_named, of_known, of_parts, type_token_part}
 use Rattle.mark_rules.specs.Naming.Named.{type}
-use Rattle.mark_rules.specs.Types.{encloser_of, parts_of_type, type_needs, layout_needs, parts_of_field, field_needs, impl_needs, parts_of_impl}
+use Rattle.mark_rules.specs.Types.{encloser_of, parts_of_type, type_needs, layout_needs, parts_of_field, field_needs, impl_needs}
 use Rattle.mark_rules.specs.Calls.{owner_facts, parts_of_method, method_needs, makes, overrides_of, method_starts, field_starts}
 use Rattle.mark_rules.specs.Properties.{property_owner, event_owner, parts_of_property, parts_of_event, owned, property_needs, event_needs, accessed}
 use Rattle.mark_rules.specs.Attributes.{attribute_needs}
 use Rattle.mark_rules.specs.Dependencies.{dependency_needs}
 use Rattle.mark_rules.specs.Shown.{parts_of_item, item_shows}
 use Rattle.mark_rules.specs.Roots.{waiting_facts}
-use Rattle.mark_rules.specs.Marking.{row_needs, item_needs, one, marking, Marks}
+use Rattle.mark_rules.specs.Marking.{row_needs, one, marking, Marks}
 use Rattle.mark_rules.specs.BadItems.{Flaw, flaw, part_flaw, part_flaws, own_flaws, attribute_flaws, flaws_of, of_item, IsFirstFlaw}
 use Rattle.merge_rules.specs.Numbers.{Kept}
 use Rattle.merged_owners.specs.Laws.{AreMarked}

@@ -1,8 +1,8 @@
 -- The token of a type that is met isn't 0, where a type of an input that it names is kept.
-use Rattle.std.proofs.Common.{◌≡◌, ◌<◌, ◌≤◌, ℕ, zero, suc, ◌+◌, ◌%◌, List, [], ◌∷◌, ◌++◌, length, map, Bool, true, false, nat_le, nat_lt, Option, Some, None, refl, sym, ap, subst, ◌∙◌, arith}
-use Rattle.std.specs.Prelude.{slice_get, position, ◌==◌, ◌||◌, if◌then◌else◌}
+use Rattle.std.proofs.Common.{◌≡◌, ◌<◌, ◌≤◌, ℕ, zero, suc, ◌+◌, ◌%◌, List, [], ◌∷◌, length, Bool, true, false, nat_le, nat_lt, Option, Some, None, refl, sym, ap, subst, ◌∙◌, arith}
+use Rattle.std.specs.Prelude.{slice_get, position, ◌||◌, if◌then◌else◌}
 use Rattle.std.specs.List.{Contains, flat_map, filter, list_any}
-use Rattle.std.specs.Option.{is_some, option_and_then}
+use Rattle.std.specs.Option.{is_some}
 use Rattle.std.proofs.lemmas.Bool.{eq-eqb, ltb-true, ltb-false, leb-false}
 use Rattle.std.proofs.lemmas.List.Elements.{Contains-append_right}
 use Rattle.il_base.specs.declared.ids.TypeId.{TypeId}
@@ -21,18 +21,16 @@ use Rattle.world_model.specs.Worlds.{rows_before, types_in}
 use Rattle.link_rules.specs.declared.row_at.RowAt.{RowAt}
 use Rattle.link_rules.specs.Members.{type_home}
 use Rattle.link_rules.specs.Cycles.{listed, same_row}
-use Rattle.link_rules.specs.Signatures.{token_type}
 use Rattle.type_laws.proofs.Places.{home_is, place_within, rows_decide}
 use Rattle.known_laws.proofs.Lists.{first_in, to_flat}
 use Rattle.marked_laws.proofs.Places.{last_is_core}
-use Rattle.mark_rules.specs.Facts.Fact.{marked}
 use Rattle.mark_rules.specs.Places.{row_of, is_core, type_item}
 use Rattle.mark_rules.specs.Naming.{type_token_part}
 use Rattle.mark_rules.specs.Shown.{parts_of_item}
 use Rattle.mark_rules.specs.Marking.{Marks}
 use Rattle.mark_rules.specs.BadItems.{IsFirstFlaw}
 use Rattle.merge_rules.specs.Absent.{type_count}
-use Rattle.merge_rules.specs.Numbers.{Kept, kept_types, new_row}
+use Rattle.merge_rules.specs.Numbers.{Kept, kept_types}
 use Rattle.merge_rules.specs.Keys.{TypeKey, named, spec, same_sig, type_key}
 use Rattle.merge_rules.specs.Order.{met_type}
 use Rattle.merge_rules.specs.Refs.{Output, types_of_met, same_id, is_reference, scope_type, with_scopes, most_scopes, type_refs, specs_of_met, type_specs, row_token, kept_token, type_token, key_token}

@@ -38,20 +38,18 @@ TypeTokensStand =
     → IsFirstFlaw recs entry (Marks recs entry roots) None → ReferencesStand (output_of recs kept) left → RowsFit left
     → (a : ℕ) (rec : AsmRec) (token : ℕ) → IsMet recs kept a rec token → 1 ≤ moved_type (output_of recs kept) a rec token
 
--- of what `NamesAll` of merged_record/specs/Laws asks: the interface that a row names
+-- what is so of the record that is left of records, where exactly what is marked is kept
+abbrev pub OfMarked : (AsmRec → Type 0) → Type 0
+OfMarked P =
+    (internal : Bool) (recs : List AsmRec) (entry : Option RowAt) (roots : List Root) (kept : Kept) (left : AsmRec) → restricted internal recs kept ≡ Some left → InputsAreRecords recs → AreMarked recs entry roots kept
+    → AreKept recs entry roots kept → IsFirstFlaw recs entry (Marks recs entry roots) None → ReferencesStand (output_of recs kept) left → RowsFit left → P left
+
+-- three of the columns that `NamesAll` of merged_record/specs/Laws has
 abbrev pub InterfacesNamed : Type 0
-InterfacesNamed =
-    (internal : Bool) (recs : List AsmRec) (entry : Option RowAt) (roots : List Root) (kept : Kept) (left : AsmRec) → restricted internal recs kept ≡ Some left → InputsAreRecords recs → AreMarked recs entry roots kept
-    → AreKept recs entry roots kept → IsFirstFlaw recs entry (Marks recs entry roots) None → ReferencesStand (output_of recs kept) left → RowsFit left → Each (λ row. 1 ≤ row.interface) left.interface_impl
+InterfacesNamed = OfMarked (λ left. Each (λ row. 1 ≤ row.interface) left.interface_impl)
 
--- and the type of an event
 abbrev pub EventsNamed : Type 0
-EventsNamed =
-    (internal : Bool) (recs : List AsmRec) (entry : Option RowAt) (roots : List Root) (kept : Kept) (left : AsmRec) → restricted internal recs kept ≡ Some left → InputsAreRecords recs → AreMarked recs entry roots kept
-    → AreKept recs entry roots kept → IsFirstFlaw recs entry (Marks recs entry roots) None → ReferencesStand (output_of recs kept) left → RowsFit left → Each (λ row. 1 ≤ row.event_type) left.event
+EventsNamed = OfMarked (λ left. Each (λ row. 1 ≤ row.event_type) left.event)
 
--- and the constraint of a generic parameter
 abbrev pub ConstraintsNamed : Type 0
-ConstraintsNamed =
-    (internal : Bool) (recs : List AsmRec) (entry : Option RowAt) (roots : List Root) (kept : Kept) (left : AsmRec) → restricted internal recs kept ≡ Some left → InputsAreRecords recs → AreMarked recs entry roots kept
-    → AreKept recs entry roots kept → IsFirstFlaw recs entry (Marks recs entry roots) None → ReferencesStand (output_of recs kept) left → RowsFit left → Each (λ row. 1 ≤ row.constraint) left.generic_param_constraint
+ConstraintsNamed = OfMarked (λ left. Each (λ row. 1 ≤ row.constraint) left.generic_param_constraint)

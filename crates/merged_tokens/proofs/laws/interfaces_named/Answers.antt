@@ -1,4 +1,4 @@
-use Rattle.merged_tokens.proofs.Columns.{interfaces_named as named}
+use Rattle.merged_tokens.proofs.Interfaces.{interfaces_named as named}
 use Rattle.merged_tokens.proofs.laws.interfaces_named.Goals as goal
 
 pub returns : goal.returns

@@ -1,27 +1,21 @@
 -- The columns of interfaces in what is left name types.
-use Rattle.std.proofs.Common.{◌≡◌, ◌<◌, ◌≤◌, ℕ, zero, suc, ◌+◌, ◌*◌, ◌/◌, ◌%◌, List, [], ◌∷◌, ◌++◌, length, map, Bool, true, false, Option, Some, None, refl, sym, ap, subst, ◌∙◌, arith}
+use Rattle.std.proofs.Common.{◌≡◌, ◌≤◌, ℕ, suc, ◌+◌, ◌%◌, List, [], ◌∷◌, Bool, true, false, Some, refl, sym, ap, subst, ◌∙◌, arith}
 use Rattle.std.specs.Prelude.{slice_get, ◌==◌, ◌&&◌, if◌then◌else◌}
 use Rattle.std.specs.List.{Contains, flat_map}
-use Rattle.std.specs.Option.{option_and_then}
 use Rattle.std.proofs.lemmas.Bool.{eq-eqb, ne_eqb, and_from}
 use Rattle.std.proofs.lemmas.Option.{slice_get_within, get_or_from_slice_get}
 use Rattle.std.proofs.lemmas.List.Elements.{Contains-append_left, Contains-append_right}
-use Rattle.il_base.specs.declared.ids.Item.{Item}
 use Rattle.il_base.specs.declared.table.TheConstants as table
 use Rattle.cli_format.specs.declared.column.CodedIndex.TheVariants.{TypeDefOrRef}
-use Rattle.descriptor_file.specs.declared.root.Root.{Root}
 use Rattle.world_model.specs.declared.types.InterfaceImplRow.{InterfaceImplRow}
 use Rattle.world_model.specs.declared.record.AsmRec.{AsmRec}
 use Rattle.world_model.specs.Tokens.{token_of, table_of, row_of as row_number, index_in}
-use Rattle.world_model.specs.Records.{Each}
 use Rattle.link_rules.specs.declared.row_at.RowAt.{RowAt}
 use Rattle.link_rules.specs.Types.{at_row}
 use Rattle.link_rules.specs.Cycles.{listed, same_row}
 use Rattle.type_rules.specs.Rows.{rec_at, each_row}
 use Rattle.type_laws.proofs.Places.{place_within}
 use Rattle.known_laws.proofs.Lists.{first_in, to_flat, to_map, to_listed, to_option, to_if, to_each, and_then_some, map_some}
-use Rattle.mark_rules.specs.Marking.{Marks}
-use Rattle.mark_rules.specs.BadItems.{IsFirstFlaw}
 use Rattle.mark_rules.specs.Naming.{type_token_part}
 use Rattle.mark_rules.specs.Places.{row_of, impl_item, impls_in}
 use Rattle.mark_rules.specs.Shown.{parts_of_item}
@@ -34,12 +28,11 @@ use Rattle.merge_rules.specs.Rows.{SortedRow, all_rows, sorted_at, place_token, 
 use Rattle.merge_rules.specs.Refs.{Output}
 use Rattle.merge_rules.specs.Moved.{moved_type}
 use Rattle.merge_rules.specs.Restricted.{placed_methods, moved_methods, restricted_by, new_impl, output_of, restricted}
-use Rattle.merged_record.specs.Laws.{InputsAreRecords, ReferencesStand, RowsFit}
+use Rattle.merged_record.specs.Laws.{InputsAreRecords}
 use Rattle.merged_record.proofs.Lists.{from_if, from_all, OfInput}
 use Rattle.merged_record.proofs.Sorting.{sorted_in}
 use Rattle.merged_record.proofs.Tokens.{position_is, row_is, of_coded, index_row}
 use Rattle.merged_record.proofs.Rows.{from_sorted, from_sorted_at}
-use Rattle.merged_owners.specs.Laws.{AreMarked, AreKept}
 use Rattle.merged_owners.proofs.Homes.{own_home}
 use Rattle.merged_tokens.specs.Laws.{IsMet, TypeTokensStand, InterfacesNamed}
 
