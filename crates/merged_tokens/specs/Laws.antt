@@ -1,0 +1,55 @@
+-- Where exactly what is marked is kept, and no marked item has a flaw, tokens of types in what is left name rows.
+use Rattle.std.specs.Prelude.{◌≡◌, ◌<◌, ◌≤◌, ℕ, suc, List, length, Option, Some, None, slice_get, Bool, true, Contains}
+use Rattle.il_base.specs.declared.ids.Item.{Item}
+use Rattle.descriptor_file.specs.declared.root.Root.{Root}
+use Rattle.world_model.specs.declared.record.AsmRec.{AsmRec}
+use Rattle.world_model.specs.Records.{Each}
+use Rattle.link_rules.specs.declared.row_at.RowAt.{RowAt}
+use Rattle.mark_rules.specs.Naming.{type_token_part}
+use Rattle.mark_rules.specs.Shown.{parts_of_item}
+use Rattle.mark_rules.specs.Marking.{Marks}
+use Rattle.mark_rules.specs.BadItems.{IsFirstFlaw}
+use Rattle.mark_rules.specs.Places.{row_of}
+use Rattle.merge_rules.specs.Numbers.{Kept}
+use Rattle.merge_rules.specs.Keys.{TypeKey, type_key}
+use Rattle.merge_rules.specs.Order.{met_type}
+use Rattle.merge_rules.specs.Moved.{moved_type}
+use Rattle.merge_rules.specs.Restricted.{output_of, restricted}
+use Rattle.merged_record.specs.Laws.{InputsAreRecords, ReferencesStand, RowsFit}
+use Rattle.merged_owners.specs.Laws.{AreMarked, AreKept}
+
+-- a token in a part of a kept item of an input, whose type is met by what is kept
+pub record IsMet (recs : List AsmRec) (kept : Kept) (a : ℕ) (rec : AsmRec) (token : ℕ) : Type 0 where
+  pub item : Item
+  pub at : RowAt
+  pub home : row_of recs item ≡ Some at
+  pub keeps : kept item ≡ true
+  pub asm : at.asm ≡ a
+  pub there : slice_get recs a ≡ Some rec
+  pub input : suc a < length recs
+  pub place : ℕ
+  pub offset : ℕ
+  pub part : Contains (parts_of_item recs item at) (type_token_part recs a rec place offset token)
+  pub met : (k : TypeKey) → type_key recs a rec token ≡ Some k → Contains (output_of recs kept).mets (met_type k)
+
+abbrev pub TypeTokensStand : Type 0
+TypeTokensStand =
+    (internal : Bool) (recs : List AsmRec) (entry : Option RowAt) (roots : List Root) (kept : Kept) (left : AsmRec) → restricted internal recs kept ≡ Some left → AreMarked recs entry roots kept → AreKept recs entry roots kept
+    → IsFirstFlaw recs entry (Marks recs entry roots) None → ReferencesStand (output_of recs kept) left → RowsFit left
+    → (a : ℕ) (rec : AsmRec) (token : ℕ) → IsMet recs kept a rec token → 1 ≤ moved_type (output_of recs kept) a rec token
+
+-- what is so of the record that is left of records, where exactly what is marked is kept
+abbrev pub OfMarked : (AsmRec → Type 0) → Type 0
+OfMarked P =
+    (internal : Bool) (recs : List AsmRec) (entry : Option RowAt) (roots : List Root) (kept : Kept) (left : AsmRec) → restricted internal recs kept ≡ Some left → InputsAreRecords recs → AreMarked recs entry roots kept
+    → AreKept recs entry roots kept → IsFirstFlaw recs entry (Marks recs entry roots) None → ReferencesStand (output_of recs kept) left → RowsFit left → P left
+
+-- three of the columns that `NamesAll` of merged_record/specs/Laws has
+abbrev pub InterfacesNamed : Type 0
+InterfacesNamed = OfMarked (λ left. Each (λ row. 1 ≤ row.interface) left.interface_impl)
+
+abbrev pub EventsNamed : Type 0
+EventsNamed = OfMarked (λ left. Each (λ row. 1 ≤ row.event_type) left.event)
+
+abbrev pub ConstraintsNamed : Type 0
+ConstraintsNamed = OfMarked (λ left. Each (λ row. 1 ≤ row.constraint) left.generic_param_constraint)

@@ -1,0 +1,32 @@
+ghost use Rattle.merged_tokens.specs.Laws.{ConstraintsNamed, EventsNamed, InterfacesNamed, TypeTokensStand};
+
+use merged_owners::laws::owners_stay;
+
+/// A law: where exactly what is marked is kept, and no marked item has a flaw, a type that a part of a kept item names by a token has
+/// a token in what is left. It does nothing.
+pub fn type_tokens_stand()
+    ensures { TypeTokensStand }
+{}
+
+/// A law: so each kept row of InterfaceImpl names its interface in what is left of records. It does nothing.
+pub fn interfaces_named()
+    ensures { InterfacesNamed }
+{
+    type_tokens_stand();
+}
+
+/// A law: so does each kept row of Event its type. It does nothing.
+pub fn events_named()
+    ensures { EventsNamed }
+{
+    type_tokens_stand();
+    owners_stay();
+}
+
+/// A law: so does each kept row of GenericParamConstraint its constraint. It does nothing.
+pub fn constraints_named()
+    ensures { ConstraintsNamed }
+{
+    type_tokens_stand();
+    owners_stay();
+}
