@@ -1,0 +1,36 @@
+-- What a trim leaves of files loads: the file that it is laid out in has that record.
+use Rattle.std.specs.Prelude.{◌≡◌, ◌<◌, ◌≤◌, List, length, Option, Some, None, Bool}
+use Rattle.descriptor_file.specs.declared.root.Root.{Root}
+use Rattle.world_model.specs.declared.record.AsmRec.{AsmRec}
+use Rattle.record_format.specs.Record.{HasRecord}
+use Rattle.link_rules.specs.declared.row_at.RowAt.{RowAt}
+use Rattle.link_rules.specs.Linked.{assemblies}
+use Rattle.mark_rules.specs.Marking.{Marks}
+use Rattle.mark_rules.specs.BadItems.{IsFirstFlaw}
+use Rattle.record_layout.specs.Laid.{laid}
+use Rattle.record_layout.specs.Limits.{limit_of}
+use Rattle.record_writer.specs.CanWrite.{CanWrite}
+use Rattle.merge_rules.specs.Numbers.{Kept}
+use Rattle.merge_rules.specs.Restricted.{output_of, restricted}
+use Rattle.merged_record.specs.Laws.{ReferencesStand, NamesAll}
+use Rattle.merged_owners.specs.Laws.{AreMarked, AreKept}
+use Rattle.merged_loads.specs.Laws.{AreOfFiles}
+
+-- The record is what is left of files where exactly what is needed from an entry and the elements of descriptors is kept, nothing
+-- that is needed has a flaw, and the file of what is left passes no limit.
+pub record IsTrim (internal : Bool) (inputs : List AsmRec) (entry : Option RowAt) (roots : List Root) (kept : Kept) (left : AsmRec) : Type 0 where
+  pub some_input : 0 < length inputs
+  pub files : AreOfFiles inputs
+  pub marked : AreMarked (assemblies inputs) entry roots kept
+  pub all : AreKept (assemblies inputs) entry roots kept
+  pub good : IsFirstFlaw (assemblies inputs) entry (Marks (assemblies inputs) entry roots) None
+  pub is : restricted internal (assemblies inputs) kept ≡ Some left
+  pub some_type : 1 ≤ length left.type_def
+  pub can : CanWrite left
+  pub within : limit_of left ≡ None
+
+-- It loads, where all that it refers to has its rows, and no column is 0 that has to name a row.
+abbrev pub TrimLoads : Type 0
+TrimLoads =
+    (internal : Bool) (inputs : List AsmRec) (entry : Option RowAt) (roots : List Root) (kept : Kept) (left : AsmRec) → IsTrim internal inputs entry roots kept left
+    → ReferencesStand (output_of (assemblies inputs) kept) left → NamesAll left → HasRecord (laid left) left

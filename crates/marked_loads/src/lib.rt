@@ -1,0 +1,4 @@
+//! A law: the file that is written of what a trim leaves has that record. Nothing goes in or comes out.
+#![tactic(auto)]
+
+pub mod laws;
