@@ -1,5 +1,5 @@
 -- What a trim leaves of files loads: the file that it is laid out in has that record.
-use Rattle.std.specs.Prelude.{◌≡◌, ◌<◌, ◌≤◌, List, length, Option, Some, None, Bool}
+use Rattle.std.specs.Prelude.{◌≡◌, ◌<◌, ◌≤◌, suc, List, length, Option, Some, None, Bool, slice_get}
 use Rattle.descriptor_file.specs.declared.root.Root.{Root}
 use Rattle.world_model.specs.declared.record.AsmRec.{AsmRec}
 use Rattle.record_format.specs.Record.{HasRecord}
@@ -12,7 +12,7 @@ use Rattle.record_layout.specs.Limits.{limit_of}
 use Rattle.record_writer.specs.CanWrite.{CanWrite}
 use Rattle.merge_rules.specs.Numbers.{Kept}
 use Rattle.merge_rules.specs.Restricted.{output_of, restricted}
-use Rattle.merged_record.specs.Laws.{ReferencesStand, NamesAll}
+use Rattle.merged_record.specs.Laws.{InputsAreRecords, ReferencesStand, NamesAll}
 use Rattle.merged_owners.specs.Laws.{AreMarked, AreKept}
 use Rattle.merged_loads.specs.Laws.{AreOfFiles}
 
@@ -34,3 +34,9 @@ abbrev pub TrimLoads : Type 0
 TrimLoads =
     (internal : Bool) (inputs : List AsmRec) (entry : Option RowAt) (roots : List Root) (kept : Kept) (left : AsmRec) → IsTrim internal inputs entry roots kept left
     → ReferencesStand (output_of (assemblies inputs) kept) left → NamesAll left → HasRecord (laid left) left
+
+-- The type of the entry method is left, where that is a method of an input.
+abbrev pub EntryTypeIsLeft : Type 0
+EntryTypeIsLeft =
+    (internal : Bool) (recs : List AsmRec) (at : RowAt) (roots : List Root) (kept : Kept) (left rec : AsmRec) → restricted internal recs kept ≡ Some left → InputsAreRecords recs → AreMarked recs (Some at) roots kept
+    → AreKept recs (Some at) roots kept → IsFirstFlaw recs (Some at) (Marks recs (Some at) roots) None → suc at.asm < length recs → slice_get recs at.asm ≡ Some rec → at.row < length rec.method_def → 1 ≤ length left.type_def

@@ -1,4 +1,4 @@
-ghost use Rattle.marked_loads.specs.Laws.{TrimLoads};
+ghost use Rattle.marked_loads.specs.Laws.{EntryTypeIsLeft, TrimLoads};
 
 use merged_loads::laws::{field_data_stays, field_types_kept, left_loads, parts_are_read};
 use merged_owners::laws::owners_stay;
@@ -14,4 +14,11 @@ pub fn trim_loads()
     field_data_stays();
     owners_stay();
     left_loads();
+}
+
+/// A law: the type of the entry method is left, so some type is. It does nothing.
+pub fn entry_type_is_left()
+    ensures { EntryTypeIsLeft }
+{
+    owners_stay();
 }
