@@ -1,7 +1,6 @@
 -- Members that references name are rows with a good signature.
-use Rattle.std.proofs.Common.{◌≡◌, ◌<◌, ℕ, zero, suc, ◌+◌, ◌-◌, List, [], ◌∷◌, take, drop, Bool, true, false, nat_lt, not, Option, Some, None, refl, ap, subst, ◌∙◌, arith}
-use Rattle.std.specs.Prelude.{slice_get, ⊤, ◌&&◌, ◌||◌, ◌==◌, if◌then◌else◌}
-use Rattle.std.specs.List.{position_from}
+use Rattle.std.proofs.Common.{◌≡◌, ℕ, zero, suc, ◌+◌, ◌-◌, List, [], ◌∷◌, take, drop, Bool, true, false, nat_lt, not, Option, Some, None, refl, ap, subst, ◌∙◌, arith}
+use Rattle.std.specs.Prelude.{slice_get, ⊤, ◌&&◌, ◌==◌, if◌then◌else◌}
 use Rattle.std.specs.Option.{option_and_then, option_map}
 use Rattle.il_base.specs.declared.ids.MethodId.{MethodId}
 use Rattle.il_base.specs.declared.ids.FieldId.{FieldId}
@@ -29,7 +28,7 @@ use Rattle.link_rules.specs.declared.row_at.RowAt.{RowAt}
 use Rattle.link_rules.specs.declared.member_type.MethodType.{MethodType}
 use Rattle.link_rules.specs.Types.{at_row}
 use Rattle.link_rules.specs.Signatures.{names_at, method_type}
-use Rattle.link_rules.specs.Members.{args_of, run_of, find_in_run, in_definition, is_compiler_controlled, is_method_type, is_field_type, Found, found_in, or_next, search, closed, with_bases, open_parent, is_method, is_field, method_of_type, field_of_type, find_method, find_field, methods_in, fields_in, most_levels, method_use, field_use, is_field_sig, is_method_sig, parent_of, method_in_parent, field_in_parent, method_ref_use, field_ref_use, ref_use_at, def_use_at, generic_method}
+use Rattle.link_rules.specs.Members.{args_of, run_of, find_in_run, is_compiler_controlled, is_method_type, is_field_type, Found, found_in, or_next, search, closed, with_bases, open_parent, is_method, is_field, method_of_type, field_of_type, find_method, find_field, methods_in, fields_in, most_levels, method_use, field_use, is_field_sig, is_method_sig, parent_of, method_in_parent, field_in_parent, method_ref_use, field_ref_use, ref_use_at, def_use_at, generic_method}
 use Rattle.type_laws.proofs.Places.{place_within}
 use Rattle.walk_laws.proofs.Finds as finds
 use Rattle.known_laws.proofs.Lists.{map_some}
@@ -178,8 +177,8 @@ module _ (recs : List AsmRec) where
     -- a token that is neither a MethodSpec nor a MethodDef
     named_by : (token : ℕ) (u : MethodUse) (b c : Bool)
         → (if b then spec_use_at recs a rec (option_and_then (slice_get rec.method_spec) (index_in table.METHOD_SPEC token))
-           else if c then def_use_at recs a rec (row_below (methods_in rec) (index_in table.METHOD_DEF token))
-           else ref_use_at recs a rec (option_and_then (slice_get rec.member_ref) (index_in table.MEMBER_REF token))) ≡ Good u
+        else if c then def_use_at recs a rec (row_below (methods_in rec) (index_in table.METHOD_DEF token))
+        else ref_use_at recs a rec (option_and_then (slice_get rec.member_ref) (index_in table.MEMBER_REF token))) ≡ Good u
         → b ≡ false → c ≡ false → MethodThere recs u.method
     named_by token u true c h e f = absurd (cc)
     named_by token u false true h e f = absurd (cc)

@@ -1,16 +1,13 @@
 -- Each member that is referred to has one row.
-use Rattle.std.proofs.Common.{◌≡◌, ℕ, suc, ◌+◌, arith, List, [], ◌∷◌, ◌++◌, length, map, Option, Some, refl, sym, ap, subst, ◌∙◌}
+use Rattle.std.proofs.Common.{◌≡◌, suc, arith, List, [], ◌∷◌, ◌++◌, length, map, Option, Some, refl, sym, ap, ◌∙◌}
 use Rattle.std.specs.Prelude.{slice_get, ⊤}
 use Rattle.std.specs.List.{Contains, flat_map}
 use Rattle.std.proofs.lemmas.List.{length-append}
 use Rattle.il_base.specs.declared.sig.Sig.{Sig}
 use Rattle.il_base.specs.declared.sig.MethodSig.{MethodSig}
-use Rattle.world_model.specs.declared.expr.TypeExpr.{TypeExpr}
 use Rattle.world_model.specs.declared.members.FieldRow.{FieldRow}
 use Rattle.world_model.specs.declared.members.MethodDefRow.{MethodDefRow}
-use Rattle.world_model.specs.declared.members.MemberRefRow.{MemberRefRow}
 use Rattle.world_model.specs.declared.known.Known.{Known}
-use Rattle.world_model.specs.declared.known.Known.TheVariants.{Good}
 use Rattle.world_model.specs.declared.record.AsmRec.{AsmRec}
 use Rattle.link_rules.specs.declared.row_at.RowAt.{RowAt}
 use Rattle.link_rules.specs.Cycles.{listed}
@@ -76,13 +73,13 @@ module _ (recs : List AsmRec) where
   own_method_length at r =
       flat_one_length (λ (rec : AsmRec). flat_map (λ (m : MethodDefRow). map (world_method_sig recs at.asm rec) (known_list m.signature)) (listed (slice_get rec.method_def at.row))) (rec_at recs at) r.rec r.there
       (flat_one_length (λ (m : MethodDefRow). map (world_method_sig recs at.asm r.rec) (known_list m.signature)) (slice_get r.rec.method_def at.row) r.row r.is
-       (map_length (world_method_sig recs at.asm r.rec) (known_list r.row.signature) ∙ ap (λ (s : Known MethodSig). length (known_list s)) r.has))
+      (map_length (world_method_sig recs at.asm r.rec) (known_list r.row.signature) ∙ ap (λ (s : Known MethodSig). length (known_list s)) r.has))
 
   own_field_length : (at : RowAt) → FieldRowAt recs at → length (own_field_sig recs at) ≡ 1
   own_field_length at r =
       flat_one_length (λ (rec : AsmRec). flat_map (λ (f : FieldRow). map (world_sig recs at.asm rec) (known_list f.signature)) (listed (slice_get rec.field at.row))) (rec_at recs at) r.rec r.there
       (flat_one_length (λ (f : FieldRow). map (world_sig recs at.asm r.rec) (known_list f.signature)) (slice_get r.rec.field at.row) r.row r.is
-       (map_length (world_sig recs at.asm r.rec) (known_list r.row.signature) ∙ ap (λ (s : Known Sig). length (known_list s)) r.has))
+      (map_length (world_sig recs at.asm r.rec) (known_list r.row.signature) ∙ ap (λ (s : Known Sig). length (known_list s)) r.has))
 
   row_length : (o : Output) → o.recs ≡ recs → (x : MemberKey) → MemberStands x → length (member_ref_row o x) ≡ 1
   row_length o e (a_method m x) h =

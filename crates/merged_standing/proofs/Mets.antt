@@ -1,10 +1,9 @@
 -- Members among what is met are rows with a good signature.
-use Rattle.std.proofs.Common.{◌≡◌, ◌<◌, ℕ, suc, ◌+◌, List, [], ◌∷◌, ◌++◌, length, map, Bool, true, false, Option, Some, None, refl, ap, subst, ◌∙◌, arith}
+use Rattle.std.proofs.Common.{◌≡◌, ◌<◌, ℕ, suc, List, [], ◌∷◌, ◌++◌, length, map, Bool, true, false, Option, Some, None, refl, subst, arith}
 use Rattle.std.specs.Prelude.{slice_get, ⊤, ◌==◌, ◌&&◌, if◌then◌else◌}
 use Rattle.std.specs.List.{Contains, flat_map, filter, list_any, range_with_len}
 use Rattle.std.specs.Option.{option_and_then, option_map}
 use Rattle.std.proofs.lemmas.Bool.{eqb-true}
-use Rattle.il_base.specs.declared.ids.Item.{Item}
 use Rattle.il_base.specs.declared.sig.Sig.{Sig}
 use Rattle.il_base.specs.declared.sig.MethodSig.{MethodSig}
 use Rattle.il_base.specs.declared.body.Form.{Form}
@@ -15,9 +14,7 @@ use Rattle.il_base.specs.declared.body.Instr.{Instr}
 use Rattle.il_base.specs.declared.body.Handler.{Handler}
 use Rattle.il_base.specs.declared.body.Body.{Body}
 use Rattle.il_base.specs.declared.table.TheConstants as table
-use Rattle.cli_format.specs.declared.column.Column.TheVariants.{Coded}
 use Rattle.cli_format.specs.declared.column.CodedIndex.TheVariants.{HasCustomAttribute, MethodDefOrRef, CustomAttributeType}
-use Rattle.cli_format.specs.Coded.{targets_of}
 use Rattle.cli_format.specs.Tokens.{coded_of}
 use Rattle.world_model.specs.declared.known.Known.{Known}
 use Rattle.world_model.specs.declared.types.TypeDefRow.{TypeDefRow}
@@ -31,11 +28,9 @@ use Rattle.world_model.specs.declared.members.MethodSpecRow.{MethodSpecRow}
 use Rattle.world_model.specs.declared.members.MemberRefRow.{MemberRefRow}
 use Rattle.world_model.specs.declared.members.PropertyRow.{PropertyRow}
 use Rattle.world_model.specs.declared.members.EventRow.{EventRow}
-use Rattle.world_model.specs.declared.members.StandAloneSigRow.{StandAloneSigRow}
-use Rattle.world_model.specs.declared.extras.CustomAttributeRow.{CustomAttributeRow}
 use Rattle.world_model.specs.declared.record.AsmRec.{AsmRec}
 use Rattle.world_model.specs.Tokens.{token_of, table_of, index_in}
-use Rattle.world_model.specs.Records.{Names, IsRecord}
+use Rattle.world_model.specs.Records.{IsRecord}
 use Rattle.link_rules.specs.declared.row_at.RowAt.{RowAt}
 use Rattle.link_rules.specs.Types.{at_row, or_else}
 use Rattle.link_rules.specs.Cycles.{listed}
@@ -48,17 +43,16 @@ use Rattle.mark_rules.specs.Members.{properties_of_type, events_of_type}
 use Rattle.world_model.specs.Worlds.{types_in}
 use Rattle.merge_rules.specs.Numbers.{Kept, inputs, rows_of_kind, kept_types}
 use Rattle.mark_rules.specs.Places.{type_item}
-use Rattle.merge_rules.specs.Keys.{TypeKey, MethodKey, own_method, found_method, absent_method, FieldKey, InstanceKey, good, world_sig, world_sigs, world_method_sig, type_key, method_key, field_key, instance_by, instance_key}
+use Rattle.merge_rules.specs.Keys.{TypeKey, MethodKey, absent_method, InstanceKey, good, world_sig, world_sigs, world_method_sig, type_key, method_key, field_key, instance_by, instance_key}
 use Rattle.merge_rules.specs.Order.{Met, met_type, met_sig, met_method, met_field, met_instance, met_locals, met_types, met_token, met_good_sig, met_method_sig, met_callee, met_field_token, met_any, met_by_form, met_operand, met_locals_row, met_locals_token, met_body, met_method_row, met_field_row, met_property_row, met_event_row, met_constraint, met_param, met_constraints, is_impl_of, met_impls, met_extends, met_interface, met_interfaces, those, met_in_type, met_by_types}
 use Rattle.merge_rules.specs.Attributes.{is_copied, is_in_input, absent_constructor, copied_constructor, constructor_key, Attribute, attribute_with, attribute_in, kept_attributes, met_by_attributes}
 use Rattle.merge_rules.specs.Rows.{all_rows, kept_row_token}
 use Rattle.merge_rules.specs.Restricted.{output_of}
 use Rattle.merged_record.specs.Laws.{InputsAreRecords}
-use Rattle.merged_record.proofs.Lists.{from_inputs, from_all, place_in}
+use Rattle.merged_record.proofs.Lists.{from_inputs, from_all}
 use Rattle.merged_record.proofs.Sorting.{sorted_in}
 use Rattle.merged_record.proofs.Tokens.{of_coded}
 use Rattle.merged_owners.proofs.Every.{Every, all_none, all_join, all_listed, all_if, all_either, all_filter, all_flat, all_option, all_map, all_each}
-use Rattle.merged_owners.proofs.Homes.{to_place}
 use Rattle.merged_standing.proofs.Found.{MethodStands, FieldStands, method_stands, field_stands}
 
 -- a token of MethodDef or MemberRef is none of MethodSpec
@@ -163,9 +157,9 @@ module _ (recs : List AsmRec) where
         let locals : List Met = met_locals_token recs a rec b.locals in
         all_join Stands (locals ++ code) handlers
         (all_join Stands locals code (locals_all a rec b.locals)
-         (all_flat Stands (λ (i : Instr). met_operand recs a rec i.form i.operand) b.code (λ i c. operand_all i.form i.operand)))
+        (all_flat Stands (λ (i : Instr). met_operand recs a rec i.form i.operand) b.code (λ i c. operand_all i.form i.operand)))
         (all_flat Stands (λ (h : Handler). if is_catch h then met_token recs a rec h.token else []) b.handlers
-         (λ h c. all_if Stands (is_catch h) (met_token recs a rec h.token) (λ e. token_all a rec h.token)))
+        (λ h c. all_if Stands (is_catch h) (met_token recs a rec h.token) (λ e. token_all a rec h.token)))
 
   -- ---- rows of an input
 
@@ -271,12 +265,12 @@ module _ (recs : List AsmRec) where
       types_input =
           all_filter Input (λ at. kept (type_item recs at)) (rows_of_kind types_in recs)
           (all_flat Input (λ (x : ℕ × AsmRec). map (at_row x.0) (range_with_len 0 (types_in x.1))) (inputs recs)
-           (λ x c.
-           let i = from_inputs 0 recs x c in
-           let n = i.number in
-           let w = i.within in
-           let lt : suc x.0 < length recs = omega arith in
-           all_map Input (at_row x.0) (range_with_len 0 (types_in x.1)) (λ k d. lt)))
+          (λ x c.
+          let i = from_inputs 0 recs x c in
+          let n = i.number in
+          let w = i.within in
+          let lt : suc x.0 < length recs = omega arith in
+          all_map Input (at_row x.0) (range_with_len 0 (types_in x.1)) (λ k d. lt)))
 
       by_types : All (met_by_types recs kept)
       unfolding met_by_types
@@ -315,9 +309,9 @@ module _ (recs : List AsmRec) where
           let is : IsRecord r.rec = records r.asm r.rec r.input.within r.input.there in
           let s = no_spec (table_of r.row.ctor) (of_coded r.rec CustomAttributeType r.row.ctor (is.tokens.custom_attributes r.place r.row r.there).1).table in
           (all_flat (λ (y : Attribute). MethodStands recs y.ctor) (λ parent. map (attribute_with r.row.value parent) (listed (constructor_key recs r.asm r.rec r.row.ctor))) (listed (kept_row_token recs kept r.asm r.row.parent))
-           (λ parent d.
-           all_map (λ (y : Attribute). MethodStands recs y.ctor) (attribute_with r.row.value parent) (listed (constructor_key recs r.asm r.rec r.row.ctor))
-           (λ m e. (all_listed (MethodStands recs) (constructor_key recs r.asm r.rec r.row.ctor) (λ k f. constructor_stands r.asm r.rec r.row.ctor k s f)).each m e))).each x r.inside
+          (λ parent d.
+          all_map (λ (y : Attribute). MethodStands recs y.ctor) (attribute_with r.row.value parent) (listed (constructor_key recs r.asm r.rec r.row.ctor))
+          (λ m e. (all_listed (MethodStands recs) (constructor_key recs r.asm r.rec r.row.ctor) (λ k f. constructor_stands r.asm r.rec r.row.ctor k s f)).each m e))).each x r.inside
 
       by_attributes : All (met_by_attributes recs kept)
       unfolding met_by_attributes
