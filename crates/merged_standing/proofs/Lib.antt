@@ -1,3 +1,6 @@
 pub mod Found
+pub mod Low
+pub mod Owners
+pub mod Numbers
 pub mod Mets
 pub mod Members

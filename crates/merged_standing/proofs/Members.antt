@@ -22,8 +22,10 @@ use Rattle.merged_record.proofs.Lists.{flat_length}
 use Rattle.merged_loads.proofs.Lists as once
 use Rattle.merged_owners.proofs.Every.{Every, all_none, all_one, all_flat}
 use Rattle.merged_standing.specs.Laws.{MembersStand}
-use Rattle.merged_standing.proofs.Found.{MethodRow, FieldRowAt, MethodThere, FieldThere, MethodStands, FieldStands}
-use Rattle.merged_standing.proofs.Mets.{Stands, mets_stand}
+use Rattle.merged_standing.proofs.Found.{MethodRow, FieldRowAt, MethodThere, FieldThere, MethodStands, FieldStands, method_stands, field_stands}
+use Rattle.merged_standing.proofs.Owners as owners
+use Rattle.merged_standing.proofs.Numbers as numbers
+use Rattle.merged_standing.proofs.Mets.{Holds, mets_hold}
 
 map_length : {A B : Type 0} (f : A → B) (xs : List A) → length (map f xs) ≡ length xs
 map_length f [] = refl
@@ -37,6 +39,25 @@ flat_one_length : {A B : Type 0} (f : A → List B) (o : Option A) (x : A) → o
 flat_one_length f o x e h = ap length (flat_one f o x e) ∙ length-append (f x) [] ∙ omega (arith, h)
 
 module _ (recs : List AsmRec) where
+  abbrev pub Stands : Met → Type 0
+  Stands (met_type k) = ⊤
+  Stands (met_sig s) = ⊤
+  Stands (met_method m) = MethodStands recs m
+  Stands (met_field f) = FieldStands recs f
+  Stands (met_instance i) = MethodStands recs i.method
+  Stands (met_locals ss) = ⊤
+
+  all_hold : Holds recs Stands
+  all_hold = record {
+    types = λ a rec token k there e. tt;
+    sigs = λ a rec s there. tt;
+    locals = λ a rec ss there. tt;
+    methods = λ a rec token m there s e. method_stands recs a rec token m s e;
+    fields = λ a rec token f there e. field_stands recs a rec token f e;
+    instances = λ a rec token m args there s e. method_stands recs a rec token m s e;
+    absents = λ a rec token p name s there e. tt;
+  }
+
   abbrev MemberStands : MemberKey → Type 0
   MemberStands (a_method m e) = MethodThere recs m
   MemberStands (a_field f e) = FieldThere recs f
@@ -53,7 +74,7 @@ module _ (recs : List AsmRec) where
   of_field (own_field f) h = all_none MemberStands
   of_field (found_field f e) h = all_one MemberStands (a_field f e) h
 
-  of_met : (x : Met) → Stands recs x → Every MemberStands (members_of_met x)
+  of_met : (x : Met) → Stands x → Every MemberStands (members_of_met x)
   of_met (met_type k) h = all_none MemberStands
   of_met (met_sig s) h = all_none MemberStands
   of_met (met_method m) h = of_method m h
@@ -61,7 +82,7 @@ module _ (recs : List AsmRec) where
   of_met (met_instance i) h = of_method i.method h
   of_met (met_locals ss) h = all_none MemberStands
 
-  refs_stand : (mets : List Met) → Every (Stands recs) mets → (x : MemberKey) → Contains (member_refs mets) x → MemberStands x
+  refs_stand : (mets : List Met) → Every Stands mets → (x : MemberKey) → Contains (member_refs mets) x → MemberStands x
   unfolding member_refs
   refs_stand mets h =
       let all = all_flat MemberStands members_of_met mets (λ x c. of_met x (h.each x c)) in
@@ -106,4 +127,4 @@ unfolding restricted
 members_stand internal recs kept left e records =
     let o : Output = output_of recs kept in
     let m = map_some (restricted_by internal o (placed_methods (moved_methods o))) (slice_get recs 0) left e in
-    ap (λ (r : AsmRec). length r.member_ref) (sym m.2) ∙ rows_length o (out_stands recs kept (mets_stand recs records kept))
+    ap (λ (r : AsmRec). length r.member_ref) (sym m.2) ∙ rows_length o (out_stands recs kept (mets_hold recs (Stands recs) (all_hold recs) records kept))
