@@ -4,3 +4,5 @@ pub mod Owners
 pub mod Numbers
 pub mod Mets
 pub mod Members
+pub mod Types
+pub mod Whole

@@ -23,8 +23,6 @@ use Rattle.merged_loads.proofs.Lists as once
 use Rattle.merged_owners.proofs.Every.{Every, all_none, all_one, all_flat}
 use Rattle.merged_standing.specs.Laws.{MembersStand}
 use Rattle.merged_standing.proofs.Found.{MethodRow, FieldRowAt, MethodThere, FieldThere, MethodStands, FieldStands, method_stands, field_stands}
-use Rattle.merged_standing.proofs.Owners as owners
-use Rattle.merged_standing.proofs.Numbers as numbers
 use Rattle.merged_standing.proofs.Mets.{Holds, mets_hold}
 
 map_length : {A B : Type 0} (f : A → B) (xs : List A) → length (map f xs) ≡ length xs

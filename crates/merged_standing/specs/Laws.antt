@@ -1,8 +1,9 @@
--- What the output of a merge refers to has its rows (II.22.25).
+-- What the output of a merge refers to has its rows (II.22.25, II.22.38).
 use Rattle.std.specs.Prelude.{◌≡◌, List, length, Some, Bool}
 use Rattle.world_model.specs.declared.record.AsmRec.{AsmRec}
+use Rattle.link_rules.specs.Linked.{assemblies}
 use Rattle.merge_rules.specs.Numbers.{Kept}
-use Rattle.merge_rules.specs.Refs.{member_refs}
+use Rattle.merge_rules.specs.Refs.{type_refs, member_refs}
 use Rattle.merge_rules.specs.Restricted.{output_of, restricted}
 use Rattle.merged_record.specs.Laws.{InputsAreRecords}
 
@@ -10,3 +11,9 @@ use Rattle.merged_record.specs.Laws.{InputsAreRecords}
 abbrev pub MembersStand : Type 0
 MembersStand =
     (internal : Bool) (recs : List AsmRec) (kept : Kept) (left : AsmRec) → restricted internal recs kept ≡ Some left → InputsAreRecords recs → length left.member_ref ≡ length (member_refs (output_of recs kept).mets)
+
+-- So has each type, with the core library behind the inputs: `types` of ReferencesStand.
+abbrev pub TypesStand : Type 0
+TypesStand =
+    (internal : Bool) (inputs : List AsmRec) (kept : Kept) (left : AsmRec) → restricted internal (assemblies inputs) kept ≡ Some left → InputsAreRecords (assemblies inputs)
+    → length left.type_ref ≡ length (type_refs (output_of (assemblies inputs) kept).recs (output_of (assemblies inputs) kept).mets)
