@@ -1,5 +1,5 @@
 -- Tokens, signatures and bases name types of the world: none has a number past the last.
-use Rattle.std.proofs.Common.{◌≡◌, ◌<◌, ℕ, suc, ◌+◌, ◌-◌, List, [], ◌∷◌, length, map, Bool, true, false, nat_lt, Option, Some, None, refl, sym, ap, subst, ◌∙◌, ◌&&◌, arith}
+use Rattle.std.proofs.Common.{◌≡◌, ◌<◌, ℕ, ◌+◌, ◌-◌, List, [], ◌∷◌, length, map, Bool, true, false, nat_lt, Option, Some, None, refl, sym, ap, subst, ◌∙◌, ◌&&◌, arith}
 use Rattle.std.specs.Prelude.{slice_get, position, ◌==◌, IsTrue, if◌then◌else◌}
 use Rattle.std.specs.List.{list_all}
 use Rattle.std.specs.Option.{option_map, option_and_then}

@@ -1,6 +1,6 @@
 -- The type in which a reference finds a member names types of the world.
 use Rattle.std.proofs.Common.{◌≡◌, ℕ, zero, suc, ◌+◌, List, [], ◌∷◌, length, map, Bool, true, false, nat_lt, Option, Some, None, refl, sym, ap, subst, ◌∙◌, ◌&&◌, ◌||◌}
-use Rattle.std.specs.Prelude.{slice_get, ⊤, ◌==◌, IsTrue, if◌then◌else◌}
+use Rattle.std.specs.Prelude.{slice_get, ◌==◌, IsTrue, if◌then◌else◌}
 use Rattle.std.specs.List.{Contains, list_all, range_with_len}
 use Rattle.std.specs.Option.{option_map, option_and_then}
 use Rattle.std.specs.Cmp.{first_so}
@@ -187,8 +187,8 @@ module _ (recs : List AsmRec) (array : (t : TypeId) → array_type recs ≡ Some
 
     named_by : (token : ℕ) (u : MethodUse) (b c : Bool)
         → (if b then spec_use_at recs a rec (option_and_then (slice_get rec.method_spec) (index_in table.METHOD_SPEC token))
-           else if c then def_use_at recs a rec (row_below (methods_in rec) (index_in table.METHOD_DEF token))
-           else ref_use_at recs a rec (option_and_then (slice_get rec.member_ref) (index_in table.MEMBER_REF token))) ≡ Good u
+        else if c then def_use_at recs a rec (row_below (methods_in rec) (index_in table.METHOD_DEF token))
+        else ref_use_at recs a rec (option_and_then (slice_get rec.member_ref) (index_in table.MEMBER_REF token))) ≡ Good u
         → b ≡ false → c ≡ false → Low recs u.owner
     named_by token u true c h e f = absurd (cc)
     named_by token u false true h e f = absurd (cc)

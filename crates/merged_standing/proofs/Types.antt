@@ -1,6 +1,6 @@
 -- Each type that is referred to has one row.
-use Rattle.std.proofs.Common.{◌≡◌, ◌<◌, ◌≤◌, ℕ, zero, suc, ◌+◌, ◌-◌, List, [], ◌∷◌, ◌++◌, length, map, Bool, true, false, nat_lt, Option, Some, None, inl, inr, refl, sym, ap, subst, ◌∙◌, arith, ltb-true}
-use Rattle.std.specs.Prelude.{slice_get, position, nat_le, ◌==◌, ⊤, IsTrue, if◌then◌else◌}
+use Rattle.std.proofs.Common.{◌≡◌, ◌<◌, ℕ, zero, suc, ◌+◌, ◌-◌, List, [], ◌∷◌, length, map, Bool, true, false, nat_lt, Option, Some, None, inl, inr, refl, sym, ap, subst, ◌∙◌, arith}
+use Rattle.std.specs.Prelude.{slice_get, nat_le, ◌==◌, IsTrue, if◌then◌else◌}
 use Rattle.std.specs.List.{Contains, flat_map, filter, range_with_len}
 use Rattle.std.specs.Option.{option_map, option_and_then}
 use Rattle.std.specs.Cmp.{first_so}
@@ -29,7 +29,6 @@ use Rattle.link_rules.specs.Types.{at_row, encloser, ref_definition}
 use Rattle.link_rules.specs.Members.{home_from, type_home, array_type}
 use Rattle.link_rules.specs.Cycles.{listed}
 use Rattle.type_rules.specs.Rows.{rec_at, type_row_at}
-use Rattle.type_laws.proofs.Places as places
 use Rattle.type_laws.proofs.Places.{place_has, home_is}
 use Rattle.known_laws.proofs.Lists.{head_or, and_then_some, map_some}
 use Rattle.mark_rules.specs.Naming.{method_named, field_named}
@@ -37,8 +36,8 @@ use Rattle.change_rules.specs.Keeps.{Names, both, names_layer, names_of}
 use Rattle.query_laws.proofs.Homes.{names_out}
 use Rattle.merge_rules.specs.Absent.{reference_rows, reference_at, reference_scope, definition_of, absent_type, absent_row}
 use Rattle.merge_rules.specs.Numbers.{inputs}
-use Rattle.merge_rules.specs.Keys.{TypeKey, named, spec, numbered_key, spec_key, type_key, expr_key_in, expr_key, made_sig, class_number, world_sig, world_sigs, world_method_sig, MethodKey, own_method, found_method, absent_method, FieldKey, own_field, found_field, good, is_plain_owner, method_key_of, field_key_of, method_key, field_key}
-use Rattle.merge_rules.specs.Order.{Met, met_method}
+use Rattle.merge_rules.specs.Keys.{TypeKey, named, spec, numbered_key, spec_key, type_key, expr_key_in, expr_key, made_sig, class_number, world_sig, world_sigs, world_method_sig, MethodKey, own_method, found_method, FieldKey, own_field, found_field, good, is_plain_owner, method_key_of, field_key_of, method_key, field_key}
+use Rattle.merge_rules.specs.Order.{Met}
 use Rattle.merge_rules.specs.Refs.{Output, known_list, own_method_sig, own_field_sig, method_at, field_at, types_of_sig, types_of_sigs, types_of_key, types_of_method_sig, types_of_owner, types_of_method, types_of_field, types_of_met, same_id, is_reference, enclosing_type, outer_reference, scope_type_by, scope_type, with_scopes, most_scopes, type_refs, found_ref, absent_ref, type_ref_row, type_ref_rows}
 use Rattle.merged_record.proofs.Lists.{from_inputs, flat_length, place_in}
 use Rattle.merged_loads.proofs.Lists as once
@@ -46,7 +45,7 @@ use Rattle.merged_references.proofs.Found.{Stands, definition_names}
 use Rattle.merged_owners.proofs.Every.{Every, all_none, all_one, all_join, all_filter, all_flat, all_option, all_map}
 use Rattle.merged_standing.proofs.Low.{bound, below, Low, IsLow, stands_low, prim_low}
 use Rattle.merged_standing.proofs.Owners.{method_owner_low, field_owner_low}
-use Rattle.merged_standing.proofs.Numbers.{most, Within, IsThere, low_there, sig_there, absent_there, class_within, world_fine, made_fine}
+use Rattle.merged_standing.proofs.Numbers.{Within, IsThere, low_there, sig_there, absent_there, class_within, world_fine, made_fine}
 use Rattle.merged_standing.proofs.Mets.{Holds}
 
 map_length : {A B : Type 0} (f : A → B) (xs : List A) → length (map f xs) ≡ length xs
@@ -153,7 +152,7 @@ module _ (recs : List AsmRec) where
       let sigs : List MethodSig = flat_map (own_method_sig recs) (listed (method_at recs u.method)) in
       all_join (IsThere recs) (types_of_owner recs u.owner) (flat_map types_of_method_sig sigs) (owner_there u.owner low)
       (all_flat (IsThere recs) types_of_method_sig sigs
-       (all_option (λ (s : MethodSig). All (types_of_method_sig s)) (own_method_sig recs) (method_at recs u.method) (λ at e. own_method_there at)).each)
+      (all_option (λ (s : MethodSig). All (types_of_method_sig s)) (own_method_sig recs) (method_at recs u.method) (λ at e. own_method_there at)).each)
 
   method_by : (own : Bool) (u : MethodUse) → (own ≡ false → Low recs u.owner) → All (types_of_method recs (method_key_of recs own u))
   method_by true u h = all_none (IsThere recs)

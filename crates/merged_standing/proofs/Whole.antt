@@ -1,8 +1,7 @@
 -- Each type that is referred to has one row, with the core library behind the inputs.
-use Rattle.std.proofs.Common.{◌≡◌, ◌<◌, ℕ, zero, suc, ◌+◌, ◌-◌, List, [], ◌∷◌, ◌++◌, length, Bool, Option, Some, None, inl, inr, refl, sym, ap, subst, ◌∙◌, arith}
+use Rattle.std.proofs.Common.{◌≡◌, ◌<◌, ℕ, zero, suc, ◌-◌, List, [], ◌∷◌, ◌++◌, length, Some, None, refl, sym, ap, subst, ◌∙◌, arith}
 use Rattle.std.specs.Prelude.{slice_get}
 use Rattle.std.specs.List.{Contains}
-use Rattle.std.specs.Option.{option_map}
 use Rattle.std.proofs.lemmas.List.{length-append}
 use Rattle.il_base.specs.declared.ids.TypeId.{TypeId}
 use Rattle.il_base.specs.declared.table.TheConstants.{TYPE_DEF}
@@ -21,8 +20,7 @@ use Rattle.type_laws.proofs.CoreRows.{array_row}
 use Rattle.type_laws.proofs.Places.{place_within}
 use Rattle.known_laws.proofs.Lists.{map_some}
 use Rattle.merge_rules.specs.Numbers.{Kept}
-use Rattle.merge_rules.specs.Order.{Met}
-use Rattle.merge_rules.specs.Refs.{Output, types_of_met, type_refs, type_ref_rows}
+use Rattle.merge_rules.specs.Refs.{Output, types_of_met, type_refs}
 use Rattle.merge_rules.specs.Restricted.{moved_methods, placed_methods, restricted_by, output_of, restricted}
 use Rattle.merged_record.specs.Laws.{InputsAreRecords}
 use Rattle.merged_links.proofs.Enclosers.{encloses, type_there}
