@@ -45,7 +45,7 @@ module _ (recs : List AsmRec) where
   Stands (met_instance i) = MethodStands recs i.method
   Stands (met_locals ss) = ⊤
 
-  all_hold : Holds recs Stands
+  pub all_hold : Holds recs Stands
   all_hold = record {
     types = λ a rec token k there e. tt;
     sigs = λ a rec s there. tt;
@@ -56,7 +56,7 @@ module _ (recs : List AsmRec) where
     absents = λ a rec token p name s there e. tt;
   }
 
-  abbrev MemberStands : MemberKey → Type 0
+  abbrev pub MemberStands : MemberKey → Type 0
   MemberStands (a_method m e) = MethodThere recs m
   MemberStands (a_field f e) = FieldThere recs f
   MemberStands (an_absent p name s) = ⊤
@@ -80,7 +80,7 @@ module _ (recs : List AsmRec) where
   of_met (met_instance i) h = of_method i.method h
   of_met (met_locals ss) h = all_none MemberStands
 
-  refs_stand : (mets : List Met) → Every Stands mets → (x : MemberKey) → Contains (member_refs mets) x → MemberStands x
+  pub refs_stand : (mets : List Met) → Every Stands mets → (x : MemberKey) → Contains (member_refs mets) x → MemberStands x
   unfolding member_refs
   refs_stand mets h =
       let all = all_flat MemberStands members_of_met mets (λ x c. of_met x (h.each x c)) in
@@ -100,7 +100,7 @@ module _ (recs : List AsmRec) where
       (flat_one_length (λ (f : FieldRow). map (world_sig recs at.asm r.rec) (known_list f.signature)) (slice_get r.rec.field at.row) r.row r.is
       (map_length (world_sig recs at.asm r.rec) (known_list r.row.signature) ∙ ap (λ (s : Known Sig). length (known_list s)) r.has))
 
-  row_length : (o : Output) → o.recs ≡ recs → (x : MemberKey) → MemberStands x → length (member_ref_row o x) ≡ 1
+  pub row_length : (o : Output) → o.recs ≡ recs → (x : MemberKey) → MemberStands x → length (member_ref_row o x) ≡ 1
   row_length o e (a_method m x) h =
       flat_one_length _ (method_at o.recs m) h.at (ap (λ r. method_at r m) e ∙ h.home)
       (map_length _ (own_method_sig o.recs h.at) ∙ ap (λ r. length (own_method_sig r h.at)) e ∙ own_method_length h.at h.row)

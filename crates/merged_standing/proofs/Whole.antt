@@ -20,16 +20,20 @@ use Rattle.type_laws.proofs.CoreRows.{array_row}
 use Rattle.type_laws.proofs.Places.{place_within}
 use Rattle.known_laws.proofs.Lists.{map_some}
 use Rattle.merge_rules.specs.Numbers.{Kept}
-use Rattle.merge_rules.specs.Refs.{Output, types_of_met, type_refs}
+use Rattle.merge_rules.specs.Refs.{Output, types_of_met, type_refs, type_ref_row, MemberKey, member_ref_row}
 use Rattle.merge_rules.specs.Restricted.{moved_methods, placed_methods, restricted_by, output_of, restricted}
 use Rattle.merged_record.specs.Laws.{InputsAreRecords}
 use Rattle.merged_links.proofs.Enclosers.{encloses, type_there}
 use Rattle.merged_references.proofs.Core.{top_level}
 use Rattle.merged_owners.proofs.Every.{Every}
-use Rattle.merged_standing.specs.Laws.{TypesStand}
+use Rattle.merged_world_rules.specs.Merge.{before, output}
+use Rattle.merged_standing.specs.Laws.{TypesStand, ReferenceRowsStand}
+use Rattle.merged_standing.proofs.Members.{Stands, MemberStands, all_hold, refs_stand}
+use Rattle.merged_standing.proofs.Members as members
 use Rattle.merged_standing.proofs.Low.{IsLow, stands_low}
 use Rattle.merged_standing.proofs.Numbers.{IsThere}
 use Rattle.merged_standing.proofs.Mets.{mets_hold}
+use Rattle.merged_standing.proofs.Types as types
 use Rattle.merged_standing.proofs.Types.{all_there, refs_there, rows_length}
 use Rattle.merged_record.proofs.Tokens.{index_row}
 
@@ -98,3 +102,36 @@ types_stand internal inputs kept left e records =
     let o : Output = output_of recs kept in
     let m = map_some (restricted_by internal o (placed_methods (moved_methods o))) (slice_get recs 0) left e in
     ap (λ (r : AsmRec). length r.type_ref) (sym m.2) ∙ rows_length o (out_there recs kept (all_there_in inputs kept records))
+
+-- ---- row by row
+
+single : {A : Type 0} (xs : List A) → length xs ≡ 1 → (y : A) × (xs ≡ y ∷ [])
+single [] e = absurd (omega (arith, e))
+single (x ∷ []) e = (x, refl)
+single (x ∷ y ∷ xs) e = absurd (omega (arith, e))
+
+front : {A : Type 0} (xs : List A) (x : A) (a : ℕ) (y : A) → suc a < length (xs ++ x ∷ []) → slice_get (xs ++ x ∷ []) a ≡ Some y → slice_get xs a ≡ Some y
+front [] x a y lt e = absurd (omega (arith, lt))
+front (z ∷ xs) x zero y lt e = e
+front (z ∷ xs) x (suc a) y lt e = front xs x a y (omega (arith, lt)) e
+
+records_in : (inputs : List AsmRec) → ((a : ℕ) (rec : AsmRec) → slice_get inputs a ≡ Some rec → IsRecord rec) → InputsAreRecords (assemblies inputs)
+unfolding assemblies
+records_in inputs h a rec lt e = h a rec (front inputs (core_with core_record (missing_names (inputs ++ core_record ∷ []))) a rec lt e)
+
+type_row_length : (all : List AsmRec) (kept : Kept) (t : TypeId) → IsThere all t → length (type_ref_row (output_of all kept) t) ≡ 1
+unfolding output_of
+type_row_length all kept t h = types.row_length (output_of all kept) t h
+
+member_row_length : (all : List AsmRec) (kept : Kept) (x : MemberKey) → MemberStands all x → length (member_ref_row (output_of all kept) x) ≡ 1
+unfolding output_of
+member_row_length all kept x h = members.row_length all (output_of all kept) refl x h
+
+pub reference_rows_stand : ReferenceRowsStand
+reference_rows_stand m is =
+    let all : List AsmRec = before m in
+    let records : InputsAreRecords all = records_in m.inputs is.records in
+    record {
+      types = λ t c. single (type_ref_row (output m) t) (type_row_length all m.kept t (all_there_in m.inputs m.kept records t c));
+      members = λ x c. single (member_ref_row (output m) x) (member_row_length all m.kept x (refs_stand all (output m).mets (mets_hold all (Stands all) (all_hold all) records m.kept) x c));
+    }

@@ -6,6 +6,8 @@ use Rattle.merge_rules.specs.Numbers.{Kept}
 use Rattle.merge_rules.specs.Refs.{type_refs, member_refs}
 use Rattle.merge_rules.specs.Restricted.{output_of, restricted}
 use Rattle.merged_record.specs.Laws.{InputsAreRecords}
+use Rattle.merged_world_rules.specs.Merge.{Merge, IsMerge}
+use Rattle.merged_references.specs.Written.{HasReferenceRows}
 
 -- Each member that the output refers to has one row: `members` of ReferencesStand (merged_record/specs/Laws).
 abbrev pub MembersStand : Type 0
@@ -17,3 +19,7 @@ abbrev pub TypesStand : Type 0
 TypesStand =
     (internal : Bool) (inputs : List AsmRec) (kept : Kept) (left : AsmRec) → restricted internal (assemblies inputs) kept ≡ Some left → InputsAreRecords (assemblies inputs)
     → length left.type_ref ≡ length (type_refs (output_of (assemblies inputs) kept).recs (output_of (assemblies inputs) kept).mets)
+
+-- So what the laws on the world of the output alone ask of references (merged_references/specs/Written) holds of each merge.
+abbrev pub ReferenceRowsStand : Type 0
+ReferenceRowsStand = (m : Merge) → IsMerge m → HasReferenceRows m
