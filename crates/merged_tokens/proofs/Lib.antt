@@ -5,3 +5,4 @@ pub mod Stand
 pub mod Interfaces
 pub mod Events
 pub mod Constraints
+pub mod OwnMethods
