@@ -6,3 +6,5 @@ pub mod Interfaces
 pub mod Events
 pub mod Constraints
 pub mod OwnMethods
+pub mod Callees
+pub mod Bodies

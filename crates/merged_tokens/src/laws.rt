@@ -1,4 +1,4 @@
-ghost use Rattle.merged_tokens.specs.Laws.{ConstraintsNamed, EventsNamed, InterfacesNamed, TypeTokensStand};
+ghost use Rattle.merged_tokens.specs.Laws.{BodiesNamed, ConstraintsNamed, EventsNamed, InterfacesNamed, TypeTokensStand};
 
 use merged_owners::laws::owners_stay;
 
@@ -30,3 +30,8 @@ pub fn constraints_named()
     type_tokens_stand();
     owners_stay();
 }
+
+/// A law: each kept row of MethodImpl names its body in what is left of records. It does nothing.
+pub fn bodies_named()
+    ensures { BodiesNamed }
+{}
