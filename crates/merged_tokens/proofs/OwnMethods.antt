@@ -177,6 +177,14 @@ module _ (recs : List AsmRec) where
     pub below : at.row < methods_in rec
     pub is : m ≡ record { 0 = rows_before methods_in recs at.asm + at.row }
 
+  -- any method that a token names
+  pub record MethodAt (m : MethodId) : Type 0 where
+    pub at : RowAt
+    pub rec : AsmRec
+    pub there : slice_get recs at.asm ≡ Some rec
+    pub below : at.row < methods_in rec
+    pub is : m ≡ record { 0 = rows_before methods_in recs at.asm + at.row }
+
   record ByRef (u : MethodUse) : Type 0 where
     at : RowAt
     member : Member u.owner at
@@ -262,6 +270,21 @@ module _ (recs : List AsmRec) where
     unfolding generic_method
     own_use token u m h g = own_by token u m (table_of token == table.METHOD_DEF) refl h (is_plain_owner recs u.owner) refl g
 
+    use_by : (token : ℕ) (u : MethodUse) (b : Bool)
+        → (if b then def_use_at recs a rec (row_below (methods_in rec) (index_in table.METHOD_DEF token)) else ref_use_at recs a rec (option_and_then (slice_get rec.member_ref) (index_in table.MEMBER_REF token))) ≡ Good u
+        → MethodAt u.method
+    use_by token u true h =
+        let t = def_by (row_below (methods_in rec) (index_in table.METHOD_DEF token)) u (below_is (methods_in rec) (index_in table.METHOD_DEF token)) h in
+        record { at = t.at; rec = t.rec; there = t.there; below = t.below; is = t.is }
+    use_by token u false h =
+        let r = ref_by (option_and_then (slice_get rec.member_ref) (index_in table.MEMBER_REF token)) u h in
+        let m = r.member in
+        record { at = r.at; rec = m.rec; there = m.there; below = m.below; is = r.is }
+
+    pub use_there : (token : ℕ) (u : MethodUse) → generic_method recs a rec token ≡ Good u → MethodAt u.method
+    unfolding generic_method
+    use_there token u h = use_by token u (table_of token == table.METHOD_DEF) h
+
     pub generic_of : (token : ℕ) → (table_of token == table.METHOD_SPEC) ≡ false → method_named recs a rec token ≡ generic_method recs a rec token
     unfolding method_named
     generic_of token s = ap (λ (b : Bool). if b then spec_use_at recs a rec (option_and_then (slice_get rec.method_spec) (index_in table.METHOD_SPEC token)) else generic_method recs a rec token) s
@@ -276,3 +299,15 @@ module _ (recs : List AsmRec) where
 
     pub own_there : (token : ℕ) (m : MethodId) → (table_of token == table.METHOD_SPEC) ≡ false → method_key recs a rec token ≡ Some (own_method m) → OwnThere m
     own_there token m s h = let k = key_use token (own_method m) s h in own_use token k.0 m k.1 k.2
+
+    pub key_some : (token : ℕ) (u : MethodUse) → (table_of token == table.METHOD_SPEC) ≡ false → generic_method recs a rec token ≡ Good u
+        → method_key recs a rec token ≡ Some (method_key_of recs (table_of token == table.METHOD_DEF) u)
+    unfolding method_key
+    key_some token u s h = ap (λ (x : Known MethodUse). option_map (method_key_of recs (table_of token == table.METHOD_DEF)) (good x)) (generic_of token s ∙ h)
+
+  own_same_by : (u : MethodUse) (m : MethodId) (b : Bool) → (if b then own_method u.method else found_method u.method u.owner) ≡ own_method m → u.method ≡ m
+  own_same_by u m true e = cc
+  own_same_by u m false e = absurd (cc)
+
+  pub own_same : (own : Bool) (u : MethodUse) (m : MethodId) → method_key_of recs own u ≡ own_method m → u.method ≡ m
+  own_same own u m e = own_same_by u m (own || is_plain_owner recs u.owner) e
