@@ -81,7 +81,7 @@ module _ (recs : List AsmRec) (kept : Kept) (records : InputsAreRecords recs) wh
       Contains-append_right (first ++ own ++ others ++ props ++ events) (met_impls recs kept at) x c
 
   -- the kept class of a row
-  class_there : (a token owner : ℕ) → class_token recs kept a token ≡ Some owner → (k : ℕ) × (index_in table.TYPE_DEF token ≡ Some k) × Contains (kept_types recs kept) (at_row a k)
+  pub class_there : (a token owner : ℕ) → class_token recs kept a token ≡ Some owner → (k : ℕ) × (index_in table.TYPE_DEF token ≡ Some k) × Contains (kept_types recs kept) (at_row a k)
   class_there a token owner e =
       let k = and_then_some (λ k. place_token table.TYPE_DEF (kept_types recs kept) (at_row a k)) (index_in table.TYPE_DEF token) owner e in
       let n = map_some (λ m. token_of table.TYPE_DEF (suc m) % 4294967296) (new_row (kept_types recs kept) (at_row a k.0)) owner k.2 in
@@ -96,13 +96,13 @@ module _ (recs : List AsmRec) (kept : Kept) (records : InputsAreRecords recs) wh
     abbrev at : RowAt
     at = at_row a c
 
-    body_table : (table_of row.body == table.METHOD_SPEC) ≡ false
+    pub body_table : (table_of row.body == table.METHOD_SPEC) ≡ false
     body_table = no_spec (table_of row.body) (of_coded rec MethodDefOrRef row.body ((records a rec input.within input.there).tokens.method_impls j row is).1).table
 
-    declaration_table : (table_of row.declaration == table.METHOD_SPEC) ≡ false
+    pub declaration_table : (table_of row.declaration == table.METHOD_SPEC) ≡ false
     declaration_table = no_spec (table_of row.declaration) (of_coded rec MethodDefOrRef row.declaration ((records a rec input.within input.there).tokens.method_impls j row is).2).table
 
-    row_met : (x : Met) → Contains (met_callee recs a rec row.body ++ met_callee recs a rec row.declaration) x → Contains (output_of recs kept).mets x
+    pub row_met : (x : Met) → Contains (met_callee recs a rec row.body ++ met_callee recs a rec row.declaration) x → Contains (output_of recs kept).mets x
     unfolding output_of met_by_types
     row_met x m =
         let r = index_row table.TYPE_DEF row.class c of in
@@ -122,7 +122,7 @@ module _ (recs : List AsmRec) (kept : Kept) (records : InputsAreRecords recs) wh
         Contains-append_left (flat_map (met_in_type recs kept) (kept_types recs kept)) (met_by_attributes recs kept) x
         (to_flat (met_in_type recs kept) (kept_types recs kept) x (record { item = at; there = owner; inside = in_type at x impls }))
 
-    callee_met : (token : ℕ) (k : MethodKey) → (table_of token == table.METHOD_SPEC) ≡ false → method_key recs a rec token ≡ Some k → Contains (met_callee recs a rec token) (met_method k)
+    pub callee_met : (token : ℕ) (k : MethodKey) → (table_of token == table.METHOD_SPEC) ≡ false → method_key recs a rec token ≡ Some k → Contains (met_callee recs a rec token) (met_method k)
     callee_met token k s e =
         subst (λ (b : Bool). Contains (if b then map met_instance (listed (instance_key recs a rec token)) else map met_method (listed (method_key recs a rec token))) (met_method k)) (sym s)
         (to_map met_method (listed (method_key recs a rec token)) k (to_listed (method_key recs a rec token) k e))

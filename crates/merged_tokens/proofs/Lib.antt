@@ -8,3 +8,4 @@ pub mod Constraints
 pub mod OwnMethods
 pub mod Callees
 pub mod Bodies
+pub mod Declarations

@@ -59,3 +59,6 @@ abbrev pub BodiesNamed : Type 0
 BodiesNamed =
     (internal : Bool) (recs : List AsmRec) (kept : Kept) (left : AsmRec) → restricted internal recs kept ≡ Some left → InputsAreRecords recs → ReferencesStand (output_of recs kept) left → RowsFit left
     → Each (λ row. 1 ≤ row.body) left.method_impl
+
+abbrev pub DeclarationsNamed : Type 0
+DeclarationsNamed = OfMarked (λ left. Each (λ row. 1 ≤ row.declaration) left.method_impl)

@@ -1,4 +1,4 @@
-ghost use Rattle.merged_tokens.specs.Laws.{BodiesNamed, ConstraintsNamed, EventsNamed, InterfacesNamed, TypeTokensStand};
+ghost use Rattle.merged_tokens.specs.Laws.{BodiesNamed, ConstraintsNamed, DeclarationsNamed, EventsNamed, InterfacesNamed, TypeTokensStand};
 
 use merged_owners::laws::owners_stay;
 
@@ -34,4 +34,9 @@ pub fn constraints_named()
 /// A law: each kept row of MethodImpl names its body in what is left of records. It does nothing.
 pub fn bodies_named()
     ensures { BodiesNamed }
+{}
+
+/// A law: so does it its declaration, where exactly what is marked is kept, and no marked item has a flaw. It does nothing.
+pub fn declarations_named()
+    ensures { DeclarationsNamed }
 {}
