@@ -1,36 +1,30 @@
 -- The bodies and declarations of MethodImpl rows in what is left name methods.
-use Rattle.std.proofs.Common.{◌≡◌, ◌<◌, ◌≤◌, ℕ, suc, ◌+◌, ◌%◌, List, [], ◌∷◌, ◌++◌, length, map, Bool, true, false, Option, Some, None, refl, sym, ap, subst, ◌∙◌, arith}
-use Rattle.std.specs.Prelude.{slice_get, IsTrue, ◌==◌, ◌&&◌, ◌||◌, if◌then◌else◌}
+use Rattle.std.proofs.Common.{◌≡◌, ◌≤◌, ℕ, suc, ◌%◌, List, [], ◌∷◌, ◌++◌, length, map, Bool, true, false, Option, Some, refl, sym, ap, subst, ◌∙◌, arith}
+use Rattle.std.specs.Prelude.{slice_get, ◌==◌, ◌||◌, if◌then◌else◌}
 use Rattle.std.specs.List.{Contains, flat_map, filter, list_any}
-use Rattle.std.specs.Option.{option_and_then}
 use Rattle.std.proofs.lemmas.Bool.{eq-eqb, eqb-true, ne_eqb, and_from}
 use Rattle.std.proofs.lemmas.List.Elements.{Contains-append_left, Contains-append_right}
 use Rattle.il_base.specs.declared.ids.MethodId.{MethodId}
 use Rattle.il_base.specs.declared.ids.Item.TheVariants as item
 use Rattle.il_base.specs.declared.table.TheConstants as table
-use Rattle.descriptor_file.specs.declared.root.Root.{Root}
 use Rattle.cli_format.specs.declared.column.CodedIndex.TheVariants.{MethodDefOrRef}
-use Rattle.world_model.specs.declared.known.Known.{Known}
-use Rattle.world_model.specs.declared.known.Known.TheVariants.{Good, Bad}
-use Rattle.world_model.specs.declared.expr.MethodUse.{MethodUse}
 use Rattle.world_model.specs.declared.members.MethodImplRow.{MethodImplRow}
 use Rattle.world_model.specs.declared.record.AsmRec.{AsmRec}
 use Rattle.world_model.specs.Tokens.{token_of, table_of, index_in}
-use Rattle.world_model.specs.Worlds.{rows_before}
 use Rattle.link_rules.specs.declared.row_at.RowAt.{RowAt}
 use Rattle.link_rules.specs.Types.{at_row}
-use Rattle.link_rules.specs.Members.{methods_in, generic_method}
+use Rattle.link_rules.specs.Members.{methods_in}
 use Rattle.link_rules.specs.Cycles.{listed, same_row}
 use Rattle.type_rules.specs.Rows.{rec_at, methods_of_type, fields_of_type}
 use Rattle.known_laws.proofs.Lists.{to_flat, to_map, to_listed, to_option, and_then_some, map_some}
 use Rattle.mark_rules.specs.Members.{properties_of_type, events_of_type}
-use Rattle.mark_rules.specs.Places.{row_of, is_core, type_item, method_item, field_item, prop_item, event_item}
+use Rattle.mark_rules.specs.Places.{row_of, is_core, method_item, field_item, prop_item, event_item}
 use Rattle.merge_rules.specs.Numbers.{Kept, kept_types, new_row}
-use Rattle.merge_rules.specs.Keys.{MethodKey, own_method, found_method, absent_method, method_key_of, method_key, instance_key}
+use Rattle.merge_rules.specs.Keys.{MethodKey, own_method, method_key, instance_key}
 use Rattle.merge_rules.specs.Order.{Met, met_method, met_instance, met_callee, is_kept_method, is_impl_of, met_impls, met_extends, met_interfaces, met_field_row, met_method_row, met_constraints, met_property_row, met_event_row, those, met_in_type, met_by_types}
 use Rattle.merge_rules.specs.Attributes.{met_by_attributes}
 use Rattle.merge_rules.specs.Rows.{all_rows, place_token, class_token}
-use Rattle.merge_rules.specs.Refs.{Output, method_token}
+use Rattle.merge_rules.specs.Refs.{Output}
 use Rattle.merge_rules.specs.Moved.{moved_callee}
 use Rattle.merge_rules.specs.Restricted.{placed_methods, moved_methods, restricted_by, impl_row, has_kept_body, new_method_impl, output_of, restricted}
 use Rattle.merged_record.specs.Laws.{InputsAreRecords, ReferencesStand, RowsFit}

@@ -1,6 +1,6 @@
 -- Methods that are met have tokens in what is left.
-use Rattle.std.proofs.Common.{◌≡◌, ◌<◌, ◌≤◌, ℕ, suc, List, [], length, Bool, true, false, Option, Some, None, refl, sym, ap, subst, ◌∙◌, arith}
-use Rattle.std.specs.Prelude.{slice_get, position, ◌==◌, ◌&&◌, if◌then◌else◌}
+use Rattle.std.proofs.Common.{◌≡◌, ◌<◌, ◌≤◌, ℕ, List, [], Bool, true, false, Option, Some, refl, sym, ap, subst, ◌∙◌, arith}
+use Rattle.std.specs.Prelude.{◌==◌, ◌&&◌, if◌then◌else◌}
 use Rattle.std.specs.List.{Contains, flat_map}
 use Rattle.std.proofs.lemmas.Bool.{eq-eqb}
 use Rattle.std.proofs.lemmas.Slice.Eq.{bytes_eq-Decides}
@@ -9,9 +9,6 @@ use Rattle.il_base.specs.declared.ids.Item.TheVariants as item
 use Rattle.il_base.specs.declared.table.TheConstants as table
 use Rattle.world_model.specs.declared.record.AsmRec.{AsmRec}
 use Rattle.world_model.specs.Tokens.{table_of}
-use Rattle.world_model.specs.Core.{same_name}
-use Rattle.world_model.specs.Exprs.{same_expr}
-use Rattle.world_model.specs.Worlds.{rows_before}
 use Rattle.world_model.proofs.SameExpr as exprs
 use Rattle.link_rules.specs.declared.row_at.RowAt.{RowAt}
 use Rattle.link_rules.specs.Members.{methods_in}
@@ -19,8 +16,8 @@ use Rattle.link_rules.specs.Cycles.{same_row}
 use Rattle.type_laws.proofs.Places.{rows_decide}
 use Rattle.known_laws.proofs.Lists.{first_in, to_flat}
 use Rattle.mark_rules.specs.Places.{method_item}
-use Rattle.merge_rules.specs.Numbers.{Kept, kept_methods}
-use Rattle.merge_rules.specs.Keys.{TypeKey, named, spec, MethodKey, own_method, found_method, absent_method, same_type, same_sig, same_method_sig, method_key, instance_key}
+use Rattle.merge_rules.specs.Numbers.{kept_methods}
+use Rattle.merge_rules.specs.Keys.{TypeKey, named, spec, MethodKey, own_method, found_method, absent_method, same_type, method_key, instance_key}
 use Rattle.merge_rules.specs.Order.{Met}
 use Rattle.merge_rules.specs.Refs.{Output, MemberKey, a_method, a_field, an_absent, same_member, member_of_method, members_of_met, member_refs, method_at, member_token, kept_token, method_token, instance_token}
 use Rattle.merge_rules.specs.Moved.{token_or_none, moved_callee}

@@ -1,5 +1,5 @@
 -- The declarations of MethodImpl rows in what is left name methods.
-use Rattle.std.proofs.Common.{◌≡◌, ◌<◌, ◌≤◌, ℕ, suc, ◌+◌, List, [], ◌∷◌, ◌++◌, length, map, Bool, true, false, Option, Some, None, refl, sym, ap, subst, ◌∙◌, arith}
+use Rattle.std.proofs.Common.{◌≡◌, ◌≤◌, ℕ, suc, ◌+◌, List, [], ◌∷◌, ◌++◌, map, Bool, true, false, Option, Some, None, refl, sym, ap, subst, ◌∙◌, arith}
 use Rattle.std.specs.Prelude.{slice_get, ◌==◌, ◌||◌, if◌then◌else◌}
 use Rattle.std.specs.List.{Contains, flat_map, list_any}
 use Rattle.std.specs.Option.{is_some}
@@ -14,7 +14,7 @@ use Rattle.world_model.specs.declared.expr.MethodUse.{MethodUse}
 use Rattle.world_model.specs.declared.members.MethodImplRow.{MethodImplRow}
 use Rattle.world_model.specs.declared.record.AsmRec.{AsmRec}
 use Rattle.world_model.specs.Tokens.{token_of, table_of, index_in}
-use Rattle.world_model.specs.Worlds.{rows_before, types_in}
+use Rattle.world_model.specs.Worlds.{types_in}
 use Rattle.link_rules.specs.declared.row_at.RowAt.{RowAt}
 use Rattle.link_rules.specs.Types.{at_row}
 use Rattle.link_rules.specs.Members.{methods_in, generic_method}
@@ -38,7 +38,7 @@ use Rattle.mark_rules.specs.Marking.{row_needs, one, same_fact, given, marking, 
 use Rattle.mark_rules.specs.BadItems.{Flaw, flaw, declaration_flaw, ImplRow, impl_rows_by, impl_rows, of_row, IsFirstFlaw}
 use Rattle.merge_rules.specs.Numbers.{Kept, kept_types}
 use Rattle.merge_rules.specs.Keys.{MethodKey, own_method, found_method, is_plain_owner, method_key_of, method_key}
-use Rattle.merge_rules.specs.Order.{Met, met_method, met_callee, is_kept_method}
+use Rattle.merge_rules.specs.Order.{met_method, met_callee, is_kept_method}
 use Rattle.merge_rules.specs.Rows.{all_rows, class_token}
 use Rattle.merge_rules.specs.Refs.{Output}
 use Rattle.merge_rules.specs.Moved.{moved_callee}
@@ -53,7 +53,7 @@ use Rattle.merged_owners.proofs.Every.{some_of}
 use Rattle.merged_owners.proofs.Homes.{own_home}
 use Rattle.merged_tokens.specs.Laws.{DeclarationsNamed}
 use Rattle.merged_tokens.proofs.Interfaces.{contained}
-use Rattle.merged_tokens.proofs.OwnMethods.{OwnThere, MethodAt, own_there, key_use, key_some, use_there, own_same}
+use Rattle.merged_tokens.proofs.OwnMethods.{MethodAt, own_there, key_use, key_some, use_there, own_same}
 use Rattle.merged_tokens.proofs.Callees.{method_stands, callee_is}
 use Rattle.merged_tokens.proofs.Bodies.{class_there, declaration_table, body_table, callee_met, row_met}
 

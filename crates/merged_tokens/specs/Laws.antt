@@ -54,7 +54,7 @@ EventsNamed = OfMarked (λ left. Each (λ row. 1 ≤ row.event_type) left.event)
 abbrev pub ConstraintsNamed : Type 0
 ConstraintsNamed = OfMarked (λ left. Each (λ row. 1 ≤ row.constraint) left.generic_param_constraint)
 
--- two of those that name members: the bodies stand in every merge
+-- columns that name members: bodies of MethodImpl rows name some in every merge
 abbrev pub BodiesNamed : Type 0
 BodiesNamed =
     (internal : Bool) (recs : List AsmRec) (kept : Kept) (left : AsmRec) → restricted internal recs kept ≡ Some left → InputsAreRecords recs → ReferencesStand (output_of recs kept) left → RowsFit left
