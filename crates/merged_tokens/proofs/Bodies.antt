@@ -41,7 +41,7 @@ use Rattle.merged_tokens.proofs.OwnMethods.{OwnThere, own_there}
 use Rattle.merged_tokens.proofs.Callees.{method_stands, callee_is}
 
 -- a token of MethodDef or MemberRef is none of MethodSpec
-no_spec : (t : ℕ) → list_any (λ u. u == t) (table.METHOD_DEF ∷ table.MEMBER_REF ∷ []) ≡ true → (t == table.METHOD_SPEC) ≡ false
+pub no_spec : (t : ℕ) → list_any (λ u. u == t) (table.METHOD_DEF ∷ table.MEMBER_REF ∷ []) ≡ true → (t == table.METHOD_SPEC) ≡ false
 no_spec t h = by_test (t == table.METHOD_SPEC) refl
   where
     by_test : (b : Bool) → (t == table.METHOD_SPEC) ≡ b → (t == table.METHOD_SPEC) ≡ false

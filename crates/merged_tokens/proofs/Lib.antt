@@ -9,3 +9,4 @@ pub mod OwnMethods
 pub mod Callees
 pub mod Bodies
 pub mod Declarations
+pub mod Instances

@@ -18,16 +18,20 @@ use Rattle.world_model.specs.declared.expr.MemberSig.{MemberSig}
 use Rattle.world_model.specs.declared.expr.MemberSig.TheVariants as member
 use Rattle.world_model.specs.declared.types.TypeDefRow.{TypeDefRow}
 use Rattle.world_model.specs.declared.members.MemberRefRow.{MemberRefRow}
+use Rattle.world_model.specs.declared.members.MethodSpecRow.{MethodSpecRow}
+use Rattle.il_base.specs.declared.ids.Item.TheVariants as item
+use Rattle.mark_rules.specs.Places.{row_of}
+use Rattle.merged_owners.proofs.Homes.{own_home}
 use Rattle.world_model.specs.declared.record.AsmRec.{AsmRec}
 use Rattle.world_model.specs.Tokens.{table_of, index_in}
 use Rattle.world_model.specs.Exprs.{levels, subst as put}
-use Rattle.world_model.specs.Worlds.{known_then, rows_before, row_below}
+use Rattle.world_model.specs.Worlds.{known_map, known_then, rows_before, row_below}
 use Rattle.world_model.proofs.ExprLayers.{subst_prim, subst_def, subst_inst, subst_array}
 use Rattle.link_rules.specs.declared.row_at.RowAt.{RowAt}
 use Rattle.link_rules.specs.declared.member_type.MethodType.{MethodType}
 use Rattle.link_rules.specs.Types.{at_row}
 use Rattle.link_rules.specs.Signatures.{names_at, method_type}
-use Rattle.link_rules.specs.Members.{args_of, run_of, find_in_run, owner_in, owner_of, type_home, param_count, Found, found_in, or_next, search, closed, with_bases, open_parent, is_method, method_of_type, find_method, methods_in, most_levels, method_use, own_member, owns_method, own_type, method_def_use, is_field_sig, parent_of, method_in_parent, method_ref_use, ref_use_at, def_use_at, generic_method}
+use Rattle.link_rules.specs.Members.{args_of, run_of, find_in_run, owner_in, owner_of, type_home, param_count, Found, found_in, or_next, search, closed, with_bases, open_parent, is_method, method_of_type, find_method, methods_in, most_levels, method_use, own_member, owns_method, own_type, method_def_use, is_field_sig, parent_of, method_in_parent, method_ref_use, instantiated, arguments_of, method_spec_use, ref_use_at, def_use_at, generic_method}
 use Rattle.link_rules.specs.Cycles.{listed, home_of}
 use Rattle.type_rules.specs.Rows.{rec_at}
 use Rattle.type_laws.proofs.Places.{place_within}
@@ -283,6 +287,28 @@ module _ (recs : List AsmRec) where
     pub use_there : (token : ℕ) (u : MethodUse) → generic_method recs a rec token ≡ Good u → MethodAt u.method
     unfolding generic_method
     use_there token u h = use_by token u (table_of token == table.METHOD_DEF) h
+
+    spec_by : (o : Option MethodSpecRow) (u : MethodUse) → spec_use_at recs a rec o ≡ Good u → MethodAt u.method
+    unfolding method_spec_use
+    spec_by None u h = absurd (cc)
+    spec_by (Some row) u h =
+        let g = known_good (λ (v : MethodUse). known_map (instantiated v) (known_then (arguments_of (names_at recs a rec)) row.instantiation)) (generic_method recs a rec row.method) u h in
+        subst MethodAt (use_of g.0 u (known_then (arguments_of (names_at recs a rec)) row.instantiation) g.2) (use_there row.method g.0 g.1)
+      where
+        use_of : (v w : MethodUse) (x : Known (List TypeExpr)) → known_map (instantiated v) x ≡ Good w → v.method ≡ w.method
+        use_of v w (Good args) e = let same : instantiated v args ≡ w = cc in ap (λ (y : MethodUse). y.method) same
+        use_of v w (Bad why) e = absurd (cc)
+
+    named_by : (token : ℕ) (u : MethodUse) (b : Bool)
+        → (if b then spec_use_at recs a rec (option_and_then (slice_get rec.method_spec) (index_in table.METHOD_SPEC token)) else generic_method recs a rec token) ≡ Good u → MethodAt u.method
+    named_by token u true h = spec_by (option_and_then (slice_get rec.method_spec) (index_in table.METHOD_SPEC token)) u h
+    named_by token u false h = use_there token u h
+
+    pub home_named : (token : ℕ) (u : MethodUse) → method_named recs a rec token ≡ Good u → (t : RowAt) × (row_of recs (item.Method u.method) ≡ Some t)
+    unfolding method_named row_of
+    home_named token u h =
+        let t = named_by token u (table_of token == table.METHOD_SPEC) h in
+        (t.at, ap (λ (n : MethodId). row_of recs (item.Method n)) t.is ∙ own_home methods_in recs t.at t.rec t.there t.below)
 
     pub generic_of : (token : ℕ) → (table_of token == table.METHOD_SPEC) ≡ false → method_named recs a rec token ≡ generic_method recs a rec token
     unfolding method_named
