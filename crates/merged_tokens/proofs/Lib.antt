@@ -10,3 +10,4 @@ pub mod Callees
 pub mod Bodies
 pub mod Declarations
 pub mod Instances
+pub mod Methods

@@ -62,3 +62,6 @@ BodiesNamed =
 
 abbrev pub DeclarationsNamed : Type 0
 DeclarationsNamed = OfMarked (λ left. Each (λ row. 1 ≤ row.declaration) left.method_impl)
+
+abbrev pub MethodsNamed : Type 0
+MethodsNamed = OfMarked (λ left. Each (λ row. 1 ≤ row.method) left.method_spec)

@@ -1,4 +1,4 @@
-ghost use Rattle.merged_tokens.specs.Laws.{BodiesNamed, ConstraintsNamed, DeclarationsNamed, EventsNamed, InterfacesNamed, TypeTokensStand};
+ghost use Rattle.merged_tokens.specs.Laws.{BodiesNamed, ConstraintsNamed, DeclarationsNamed, EventsNamed, InterfacesNamed, MethodsNamed, TypeTokensStand};
 
 use merged_owners::laws::owners_stay;
 
@@ -39,4 +39,9 @@ pub fn bodies_named()
 /// A law: so does it its declaration, where exactly what is marked is kept, and no marked item has a flaw. It does nothing.
 pub fn declarations_named()
     ensures { DeclarationsNamed }
+{}
+
+/// A law: so does each row of MethodSpec its method. It does nothing.
+pub fn methods_named()
+    ensures { MethodsNamed }
 {}
