@@ -1,5 +1,5 @@
 -- A method with arguments that is met is kept, if it is known by its own row.
-use Rattle.std.proofs.Common.{◌≡◌, ◌<◌, ℕ, suc, ◌+◌, List, [], ◌∷◌, ◌++◌, length, map, Bool, true, false, Option, Some, None, refl, sym, ap, subst, ◌∙◌, arith}
+use Rattle.std.proofs.Common.{◌≡◌, ◌<◌, ℕ, suc, List, [], ◌∷◌, ◌++◌, length, map, Bool, true, false, Option, Some, None, refl, sym, ap, subst, ◌∙◌, arith}
 use Rattle.std.specs.Prelude.{slice_get, ⊤, ◌==◌, ◌&&◌, ◌||◌, if◌then◌else◌}
 use Rattle.std.specs.List.{Contains, flat_map, filter, list_any, range_with_len}
 use Rattle.std.specs.Option.{is_some, option_and_then, option_map}
@@ -46,8 +46,7 @@ use Rattle.il_base.specs.declared.body.Instr.{Instr}
 use Rattle.il_base.specs.declared.body.Handler.{Handler}
 use Rattle.il_base.specs.declared.body.Body.{Body}
 use Rattle.il_base.specs.declared.table.TheConstants as table
-use Rattle.cli_format.specs.declared.column.CodedIndex.TheVariants.{HasCustomAttribute, MethodDefOrRef, CustomAttributeType}
-use Rattle.cli_format.specs.Tokens.{coded_of}
+use Rattle.cli_format.specs.declared.column.CodedIndex.TheVariants.{MethodDefOrRef}
 use Rattle.world_model.specs.declared.known.Known.{Known}
 use Rattle.world_model.specs.declared.types.TypeDefRow.{TypeDefRow}
 use Rattle.world_model.specs.declared.types.InterfaceImplRow.{InterfaceImplRow}
@@ -57,30 +56,25 @@ use Rattle.world_model.specs.declared.members.FieldRow.{FieldRow}
 use Rattle.world_model.specs.declared.members.MethodDefRow.{MethodDefRow}
 use Rattle.world_model.specs.declared.members.MethodImplRow.{MethodImplRow}
 use Rattle.world_model.specs.declared.members.MethodSpecRow.{MethodSpecRow}
-use Rattle.world_model.specs.declared.members.MemberRefRow.{MemberRefRow}
 use Rattle.world_model.specs.declared.members.PropertyRow.{PropertyRow}
 use Rattle.world_model.specs.declared.members.EventRow.{EventRow}
 use Rattle.world_model.specs.declared.record.AsmRec.{AsmRec}
 use Rattle.world_model.specs.Tokens.{token_of, table_of, index_in}
-use Rattle.world_model.specs.Records.{IsRecord}
 use Rattle.link_rules.specs.declared.row_at.RowAt.{RowAt}
-use Rattle.link_rules.specs.Types.{at_row, or_else}
+use Rattle.link_rules.specs.Types.{at_row}
 use Rattle.link_rules.specs.Cycles.{listed}
 use Rattle.type_rules.specs.Rows.{rec_at, each_row, run_places, methods_of_type, fields_of_type}
 use Rattle.mark_rules.specs.Places.{method_item, field_item, prop_item, event_item, impl_item}
-use Rattle.mark_rules.specs.Attributes.{ref_sig}
 use Rattle.mark_rules.specs.Members.{properties_of_type, events_of_type}
 use Rattle.world_model.specs.Worlds.{types_in}
 use Rattle.merge_rules.specs.Numbers.{Kept, inputs, rows_of_kind, kept_types}
 use Rattle.mark_rules.specs.Places.{type_item}
-use Rattle.merge_rules.specs.Keys.{TypeKey, MethodKey, absent_method, InstanceKey, good, world_sig, world_sigs, world_method_sig, type_key, method_key, field_key, instance_by, instance_key}
-use Rattle.merge_rules.specs.Order.{Met, met_type, met_sig, met_method, met_field, met_instance, met_locals, met_types, met_token, met_good_sig, met_method_sig, met_callee, met_field_token, met_any, met_by_form, met_operand, met_locals_row, met_locals_token, met_body, met_method_row, met_field_row, met_property_row, met_event_row, met_constraint, met_param, met_constraints, is_impl_of, met_impls, met_extends, met_interface, met_interfaces, those, met_in_type, met_by_types}
-use Rattle.merge_rules.specs.Attributes.{is_copied, is_in_input, absent_constructor, copied_constructor, constructor_key, Attribute, attribute_with, attribute_in, kept_attributes, met_by_attributes}
-use Rattle.merge_rules.specs.Rows.{all_rows, kept_row_token}
+use Rattle.merge_rules.specs.Keys.{TypeKey, MethodKey, InstanceKey, good, world_sig, world_sigs, type_key, method_key, field_key, instance_by, instance_key}
+use Rattle.merge_rules.specs.Order.{Met, met_type, met_sig, met_method, met_field, met_instance, met_locals, met_types, met_token, met_good_sig, met_method_sig, met_callee, met_field_token, met_by_form, met_operand, met_locals_row, met_locals_token, met_body, met_method_row, met_field_row, met_property_row, met_event_row, met_constraint, met_param, met_constraints, is_impl_of, met_impls, met_extends, met_interface, met_interfaces, those, met_in_type, met_by_types}
+use Rattle.merge_rules.specs.Attributes.{Attribute, kept_attributes, met_by_attributes}
 use Rattle.merge_rules.specs.Restricted.{output_of}
 use Rattle.merged_record.specs.Laws.{InputsAreRecords}
-use Rattle.merged_record.proofs.Lists.{from_inputs, from_all}
-use Rattle.merged_record.proofs.Sorting.{sorted_in}
+use Rattle.merged_record.proofs.Lists.{from_inputs}
 use Rattle.merged_record.proofs.Tokens.{of_coded}
 use Rattle.merged_owners.proofs.Every.{Every, all_none, all_join, all_listed, all_if, all_either, all_filter, all_flat, all_option, all_map, all_each}
 use Rattle.mark_rules.specs.Bodies.{body_of, is_field_token, is_method_token, is_catch}
@@ -118,7 +112,6 @@ module _ (recs : List AsmRec) (kept : Kept) (records : InputsAreRecords recs) wh
   locals_all a rec token =
       all_option Fine (met_locals_row recs a rec) (option_and_then (slice_get rec.stand_alone_sig) (index_in table.STAND_ALONE_SIG token))
       (λ row e. all_map Fine (λ ss. met_locals (world_sigs recs a rec ss)) (listed (good row.signature)) (λ k c. tt))
-
 
   field_all : (a : ℕ) (rec : AsmRec) (token : ℕ) → All (met_field_token recs a rec token)
   field_all a rec token = all_map Fine met_field (listed (field_key recs a rec token)) (λ k c. tt)
@@ -329,7 +322,6 @@ module _ (recs : List AsmRec) (kept : Kept) (records : InputsAreRecords recs) wh
         all_option Fine (λ (rec : AsmRec). each_row (met_param recs at.asm rec owner) rec.generic_param) (rec_at recs at)
         (λ rec there. all_each Fine (met_param recs at.asm rec owner) rec.generic_param (λ k row e. param_all at.asm rec owner k row))
 
-
     impls_all : (at : RowAt) → Input at → All (met_impls recs kept at)
     impls_all at input =
         all_option Fine (λ (rec : AsmRec). flat_map (λ (row : MethodImplRow). met_callee recs at.asm rec row.body ++ met_callee recs at.asm rec row.declaration) (filter (is_impl_of recs kept at rec) rec.method_impl)) (rec_at recs at)
@@ -404,7 +396,6 @@ module _ (recs : List AsmRec) (kept : Kept) (records : InputsAreRecords recs) wh
     by_types : All (met_by_types recs kept)
     unfolding met_by_types
     by_types = all_flat Fine (met_in_type recs kept) (kept_types recs kept) (λ at c. type_all at (types_input.each at c))
-
 
     by_attributes : All (met_by_attributes recs kept)
     unfolding met_by_attributes

@@ -131,8 +131,8 @@ module _ (recs : List AsmRec) where
       u,
       refl,
       needed (marked (item.Method u.method))
-      (to_flat (λ (p : Part). of_known of_named p.named) (parts_of_item recs i at) (marked (item.Method u.method))
-      (record { item = use_with place offset (Good u); there = c; inside = first_in (marked (item.Method u.method)) (of_expr u.owner ++ of_exprs u.args) })),
+          (to_flat (λ (p : Part). of_known of_named p.named) (parts_of_item recs i at) (marked (item.Method u.method))
+          (record { item = use_with place offset (Good u); there = c; inside = first_in (marked (item.Method u.method)) (of_expr u.owner ++ of_exprs u.args) })),
     )
     method_by place offset (Bad why) c =
         absurd
