@@ -11,3 +11,4 @@ pub mod Bodies
 pub mod Declarations
 pub mod Instances
 pub mod Methods
+pub mod Parents
