@@ -56,7 +56,7 @@ either_kept true c h f = refl
 either_kept false c h f = absurd (cc)
 
 -- a method of an input is none of the core library
-not_core : (recs : List AsmRec) (m : MethodId) → OwnThere recs m → is_core recs (item.Method m) ≡ false
+pub not_core : (recs : List AsmRec) (m : MethodId) → OwnThere recs m → is_core recs (item.Method m) ≡ false
 unfolding is_core row_of
 not_core recs m t =
     let home : row_of recs (item.Method m) ≡ Some t.at = ap (λ (n : MethodId). row_of recs (item.Method n)) t.is ∙ own_home methods_in recs t.at t.rec t.there t.below in

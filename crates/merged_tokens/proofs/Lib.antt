@@ -12,3 +12,4 @@ pub mod Declarations
 pub mod Instances
 pub mod Methods
 pub mod Parents
+pub mod Constructors

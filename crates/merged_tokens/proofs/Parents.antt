@@ -1,5 +1,5 @@
 -- What a kept attribute row belongs to is marked.
-use Rattle.std.proofs.Common.{◌≡◌, ◌<◌, ℕ, suc, ◌+◌, List, [], ◌∷◌, ◌++◌, length, map, Bool, true, false, Option, Some, None, refl, sym, ap, subst, ◌∙◌, arith}
+use Rattle.std.proofs.Common.{◌≡◌, ◌<◌, ℕ, suc, ◌+◌, List, [], ◌∷◌, ◌++◌, map, Bool, true, false, Option, Some, None, refl, sym, ap, subst, ◌∙◌, arith}
 use Rattle.std.specs.Prelude.{slice_get, ◌==◌, ◌||◌, if◌then◌else◌}
 use Rattle.std.specs.List.{Contains, flat_map, list_any}
 use Rattle.std.proofs.lemmas.Bool.{eq-eqb, eqb-true}
@@ -9,10 +9,9 @@ use Rattle.il_base.specs.declared.ids.Item.TheVariants as item
 use Rattle.il_base.specs.declared.table.TheConstants as table
 use Rattle.descriptor_file.specs.declared.root.Root.{Root}
 use Rattle.world_model.specs.declared.types.GenericParamRow.{GenericParamRow}
-use Rattle.world_model.specs.declared.types.GenericParamConstraintRow.{GenericParamConstraintRow}
 use Rattle.world_model.specs.declared.members.MethodDefRow.{MethodDefRow}
 use Rattle.world_model.specs.declared.record.AsmRec.{AsmRec}
-use Rattle.world_model.specs.Tokens.{token_of, table_of, index_in}
+use Rattle.world_model.specs.Tokens.{token_of, table_of}
 use Rattle.world_model.specs.Worlds.{types_in}
 use Rattle.link_rules.specs.declared.row_at.RowAt.{RowAt}
 use Rattle.link_rules.specs.Types.{at_row}
@@ -23,10 +22,10 @@ use Rattle.type_laws.proofs.Places.{place_within}
 use Rattle.known_laws.proofs.Lists.{none_in, first_in, later_in, one_is, from_flat, from_map, to_map, from_option, to_option, to_if, to_each}
 use Rattle.mark_rules.specs.Facts.{start}
 use Rattle.mark_rules.specs.Facts.Fact.{marked}
-use Rattle.mark_rules.specs.Places.{row_of, asm_row, is_core, type_item, method_item, field_item, prop_item, event_item, impl_item, props_in, events_in, impls_in}
+use Rattle.mark_rules.specs.Places.{row_of, is_core, type_item, method_item, field_item, prop_item, event_item, impl_item, props_in, events_in, impls_in}
 use Rattle.mark_rules.specs.Attributes.{constraint_token, param_tokens, generic_tokens, parameter_tokens, tokens_in}
 use Rattle.mark_rules.specs.Roots.{start_facts}
-use Rattle.mark_rules.specs.Marking.{same_fact, given, marking, Marks}
+use Rattle.mark_rules.specs.Marking.{given, marking, Marks}
 use Rattle.merge_rules.specs.Numbers.{Kept, kept_types, kept_methods, kept_fields, kept_properties, kept_events}
 use Rattle.merge_rules.specs.Rows.{SortedRow, places, params_of, kept_params, kept_interfaces, kept_generic_params, kept_constraints, class_token, method_def_token, owner_token, param_token, output_rows, kept_row_token}
 use Rattle.merged_record.specs.Laws.{InputsAreRecords}

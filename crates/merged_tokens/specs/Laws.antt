@@ -65,3 +65,6 @@ DeclarationsNamed = OfMarked (λ left. Each (λ row. 1 ≤ row.declaration) left
 
 abbrev pub MethodsNamed : Type 0
 MethodsNamed = OfMarked (λ left. Each (λ row. 1 ≤ row.method) left.method_spec)
+
+abbrev pub ConstructorsNamed : Type 0
+ConstructorsNamed = OfMarked (λ left. Each (λ row. 1 ≤ row.ctor) left.custom_attribute)

@@ -1,4 +1,4 @@
-ghost use Rattle.merged_tokens.specs.Laws.{BodiesNamed, ConstraintsNamed, DeclarationsNamed, EventsNamed, InterfacesNamed, MethodsNamed, TypeTokensStand};
+ghost use Rattle.merged_tokens.specs.Laws.{BodiesNamed, ConstraintsNamed, ConstructorsNamed, DeclarationsNamed, EventsNamed, InterfacesNamed, MethodsNamed, TypeTokensStand};
 
 use merged_owners::laws::owners_stay;
 
@@ -44,4 +44,9 @@ pub fn declarations_named()
 /// A law: so does each row of MethodSpec its method. It does nothing.
 pub fn methods_named()
     ensures { MethodsNamed }
+{}
+
+/// A law: so does each row of CustomAttribute its constructor. It does nothing.
+pub fn constructors_named()
+    ensures { ConstructorsNamed }
 {}
