@@ -13,3 +13,4 @@ pub mod Instances
 pub mod Methods
 pub mod Parents
 pub mod Constructors
+pub mod Together

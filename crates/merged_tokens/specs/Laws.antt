@@ -15,7 +15,7 @@ use Rattle.merge_rules.specs.Keys.{TypeKey, type_key}
 use Rattle.merge_rules.specs.Order.{met_type}
 use Rattle.merge_rules.specs.Moved.{moved_type}
 use Rattle.merge_rules.specs.Restricted.{output_of, restricted}
-use Rattle.merged_record.specs.Laws.{InputsAreRecords, ReferencesStand, RowsFit}
+use Rattle.merged_record.specs.Laws.{InputsAreRecords, ReferencesStand, NamesAll, RowsFit}
 use Rattle.merged_owners.specs.Laws.{AreMarked, AreKept}
 
 -- a token in a part of a kept item of an input, whose type is met by what is kept
@@ -68,3 +68,7 @@ MethodsNamed = OfMarked (λ left. Each (λ row. 1 ≤ row.method) left.method_sp
 
 abbrev pub ConstructorsNamed : Type 0
 ConstructorsNamed = OfMarked (λ left. Each (λ row. 1 ≤ row.ctor) left.custom_attribute)
+
+-- so all columns name rows where those of the parents of MemberRef rows do
+abbrev pub NamesFollow : Type 0
+NamesFollow = OfMarked (λ left. Each (λ row. 1 ≤ row.class) left.member_ref → NamesAll left)

@@ -1,4 +1,4 @@
-ghost use Rattle.merged_tokens.specs.Laws.{BodiesNamed, ConstraintsNamed, ConstructorsNamed, DeclarationsNamed, EventsNamed, InterfacesNamed, MethodsNamed, TypeTokensStand};
+ghost use Rattle.merged_tokens.specs.Laws.{BodiesNamed, ConstraintsNamed, ConstructorsNamed, DeclarationsNamed, EventsNamed, InterfacesNamed, MethodsNamed, NamesFollow, TypeTokensStand};
 
 use merged_owners::laws::owners_stay;
 
@@ -50,3 +50,16 @@ pub fn methods_named()
 pub fn constructors_named()
     ensures { ConstructorsNamed }
 {}
+
+/// A law: so all columns that have to name a row name one, if the parents of MemberRef rows do. It does nothing.
+pub fn names_follow()
+    ensures { NamesFollow }
+{
+    interfaces_named();
+    events_named();
+    constraints_named();
+    bodies_named();
+    declarations_named();
+    methods_named();
+    constructors_named();
+}
