@@ -48,7 +48,7 @@ use Rattle.merged_tokens.proofs.Interfaces.{contained, token_parts, some_row}
 use Rattle.merged_tokens.proofs.Events.{in_places}
 
 -- a row that a token places
-placed_in : (rows : List RowAt) (t a token owner : ℕ) → option_and_then (λ k. place_token t rows (at_row a k)) (index_in t token) ≡ Some owner → (k : ℕ) × (token ≡ token_of t (suc k)) × Contains rows (at_row a k)
+pub placed_in : (rows : List RowAt) (t a token owner : ℕ) → option_and_then (λ k. place_token t rows (at_row a k)) (index_in t token) ≡ Some owner → (k : ℕ) × (token ≡ token_of t (suc k)) × Contains rows (at_row a k)
 placed_in rows t a token owner e =
     let k = and_then_some (λ k. place_token t rows (at_row a k)) (index_in t token) owner e in
     let n = map_some (λ m. token_of t (suc m) % 4294967296) (new_row rows (at_row a k.0)) owner k.2 in

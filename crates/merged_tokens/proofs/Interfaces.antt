@@ -71,7 +71,7 @@ module _ (recs : List AsmRec) (kept : Kept) (records : InputsAreRecords recs) wh
         owned = ap (λ (n : ℕ). class_token recs kept n row.class) asm ∙ s.1 ∙ ap (λ (n : ℕ). Some n) (sym s.3);
       }
 
-  impl_is : (x : SortedRow) → Contains (kept_interfaces recs kept) x → KeptImpl x
+  pub impl_is : (x : SortedRow) → Contains (kept_interfaces recs kept) x → KeptImpl x
   unfolding kept_interfaces
   impl_is x c =
       let r = from_all (λ rec. rec.interface_impl) (sorted_impl recs kept) recs x (sorted_in (λ (y : SortedRow). y.key) (all_rows (λ rec. rec.interface_impl) (sorted_impl recs kept) recs) x c) in

@@ -39,7 +39,7 @@ pub record HasKey (recs : List AsmRec) (a : ℕ) (rec : AsmRec) (token : ℕ) (e
   pub is : type_key recs a rec token ≡ Some key
   pub says : Says recs e key
 
-known_good : {A B : Type 0} (f : A → Known B) (x : Known A) (y : B) → known_then f x ≡ Good y → (z : A) × (x ≡ Good z) × (f z ≡ Good y)
+pub known_good : {A B : Type 0} (f : A → Known B) (x : Known A) (y : B) → known_then f x ≡ Good y → (z : A) × (x ≡ Good z) × (f z ≡ Good y)
 known_good f (Good z) y e = (z, refl, e)
 known_good f (Bad why) y e = absurd (cc)
 

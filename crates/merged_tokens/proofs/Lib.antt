@@ -5,3 +5,12 @@ pub mod Stand
 pub mod Interfaces
 pub mod Events
 pub mod Constraints
+pub mod OwnMethods
+pub mod Callees
+pub mod Bodies
+pub mod Declarations
+pub mod Instances
+pub mod Methods
+pub mod Parents
+pub mod Constructors
+pub mod Together

@@ -12,7 +12,8 @@ use Rattle.link_rules.specs.declared.row_at.RowAt.{RowAt}
 use Rattle.link_rules.specs.Types.{at_row}
 use Rattle.link_rules.specs.Members.{home_from}
 use Rattle.walk_laws.proofs.Finds.{finds}
-use Rattle.known_laws.proofs.Lists.{none_in, first_in, later_in, head_or}
+use Rattle.std.proofs.lemmas.List.Elements.{Contains-append_cases}
+use Rattle.known_laws.proofs.Lists.{none_in, first_in, later_in, one_is, head_or}
 use Rattle.merge_rules.specs.Refs.{met_once, all_once, each_once}
 use Rattle.merged_owners.proofs.Homes.{passing}
 
@@ -42,6 +43,22 @@ module _ {A : Type 0} (same : A → A → Bool) where
   -- an item that was met is there
   pub any_once : (ys : List A) (x : A) → same x x ≡ true → Contains ys x → list_any (same x) (each_once same ys) ≡ true
   any_once ys x e c = any_by [] ys x e c
+
+  -- an item that is there was met
+  once_by : (xs : List A) (y x : A) (b : Bool) → Contains (if b then xs else xs ++ y ∷ []) x → Contains xs x ⊎ (y ≡ x)
+  once_by xs y x true c = inl c
+  once_by xs y x false c = elim (Contains-append_cases xs (y ∷ []) x c) [ inl d ↦ inl d | inr d ↦ inr (one_is y x d) ]
+
+  from_all_once : (xs ys : List A) (x : A) → Contains (all_once same xs ys) x → Contains xs x ⊎ Contains ys x
+  from_all_once xs [] x c = inl c
+  from_all_once xs (y ∷ ys) x c =
+      elim (from_all_once (met_once same xs y) ys x c) [
+        | inl d ↦ elim (once_by xs y x (list_any (same y) xs) d) [ inl f ↦ inl f | inr e ↦ inr (subst (λ (z : A). Contains (y ∷ ys) z) e (first_in y ys)) ]
+        | inr d ↦ inr (later_in y ys x d)
+      ]
+
+  pub from_once : (ys : List A) (x : A) → Contains (each_once same ys) x → Contains ys x
+  from_once ys x c = elim (from_all_once [] ys x c) [ inl d ↦ absurd (none_in x d) | inr d ↦ d ]
 
 pub any_position : {A : Type 0} (p : A → Bool) (xs : List A) → list_any p xs ≡ true → is_some (position p xs) ≡ true
 any_position p xs h =

@@ -14,6 +14,8 @@ use Rattle.world_model.specs.declared.expr.TypeExpr.{TypeExpr, fold-TypeExpr, fo
 use Rattle.world_model.specs.declared.expr.TypeExpr.TheOpen.{TypeExpr-F}
 use Rattle.world_model.specs.declared.expr.TypeExpr.TheVariants as expr
 use Rattle.world_model.specs.declared.record.AsmRec.{AsmRec}
+use Rattle.world_model.specs.declared.expr.MethodUse.{MethodUse}
+use Rattle.world_model.specs.declared.known.BadKind.{BadKind}
 use Rattle.world_model.specs.Worlds.{known_map}
 use Rattle.link_rules.specs.declared.row_at.RowAt.{RowAt}
 use Rattle.link_rules.specs.Cycles.{listed}
@@ -23,8 +25,8 @@ use Rattle.known_laws.proofs.Lists.{none_in, first_in, to_flat, to_option}
 use Rattle.mark_rules.specs.Facts.{Fact, by_one}
 use Rattle.mark_rules.specs.Facts.Fact.{marked}
 use Rattle.mark_rules.specs.Places.{row_of, is_core}
-use Rattle.mark_rules.specs.Naming.{Part, types_layer, types_in, mark_types, of_named, of_known, of_parts, type_token_part}
-use Rattle.mark_rules.specs.Naming.Named.{type}
+use Rattle.mark_rules.specs.Naming.{Part, bad_part, types_layer, types_in, mark_types, of_expr, of_exprs, of_named, of_known, of_parts, type_token_part, method_named, method_token_part}
+use Rattle.mark_rules.specs.Naming.Named.{type, method}
 use Rattle.mark_rules.specs.Types.{encloser_of, parts_of_type, type_needs, layout_needs, parts_of_field, field_needs, impl_needs}
 use Rattle.mark_rules.specs.Calls.{owner_facts, parts_of_method, method_needs, makes, overrides_of, method_starts, field_starts}
 use Rattle.mark_rules.specs.Properties.{property_owner, event_owner, parts_of_property, parts_of_event, owned, property_needs, event_needs, accessed}
@@ -114,3 +116,30 @@ module _ (recs : List AsmRec) where
                 subst (λ (x : Known TypeExpr). Contains (of_known of_named (known_map type x)) (marked (item.Typ t))) (sym e)
                 (subst (λ (ts : List TypeId). Contains (mark_types ts) (marked (item.Typ t))) (sym (types_of_def t)) (first_in (marked (item.Typ t)) []));
           }))
+
+    -- no part is bad
+    pub no_bad : (place : ℕ) (why : BadKind) → Contains (parts_of_item recs i at) (bad_part place why) → ⊥
+    no_bad place why c =
+        no_flaw (flaw at place 0 why)
+        (to_flat (part_flaw at) (parts_of_item recs i at) (flaw at place 0 why) (record { item = bad_part place why; there = c; inside = first_in (flaw at place 0 why) [] }))
+
+    abbrev use_with : ℕ → ℕ → Known MethodUse → Part
+    use_with place offset x = record { token = place; at = offset; named = known_map method x }
+
+    method_by : (place offset : ℕ) (x : Known MethodUse) → Contains (parts_of_item recs i at) (use_with place offset x) → (u : MethodUse) × (x ≡ Good u) × Marks recs entry roots (marked (item.Method u.method))
+    method_by place offset (Good u) c = (
+      u,
+      refl,
+      needed (marked (item.Method u.method))
+          (to_flat (λ (p : Part). of_known of_named p.named) (parts_of_item recs i at) (marked (item.Method u.method))
+          (record { item = use_with place offset (Good u); there = c; inside = first_in (marked (item.Method u.method)) (of_expr u.owner ++ of_exprs u.args) })),
+    )
+    method_by place offset (Bad why) c =
+        absurd
+        (no_flaw (flaw at place offset why)
+        (to_flat (part_flaw at) (parts_of_item recs i at) (flaw at place offset why) (record { item = use_with place offset (Bad why); there = c; inside = first_in (flaw at place offset why) [] })))
+
+    -- a method that a part names is marked
+    pub names_method : (place offset token : ℕ) → Contains (parts_of_item recs i at) (method_token_part recs at.asm rec place offset token)
+        → (u : MethodUse) × (method_named recs at.asm rec token ≡ Good u) × Marks recs entry roots (marked (item.Method u.method))
+    names_method place offset token c = method_by place offset (method_named recs at.asm rec token) c

@@ -70,7 +70,7 @@ module _ (internal : Bool) (o : Output) (primary : AsmRec) (refs : ReferencesSta
       let f = fit t in
       not_zero (token_of t (suc k) % 4294967296) (stands out t k low (omega arith) (omega arith)).begins
 
-  token_there : {A : Type 0} (t : ℕ) (p : A → Bool) (xs : List A) → is_some (position p xs) ≡ true → t < 256 → length xs ≤ rows_in out t → 1 ≤ row_token t (position p xs)
+  pub token_there : {A : Type 0} (t : ℕ) (p : A → Bool) (xs : List A) → is_some (position p xs) ≡ true → t < 256 → length xs ≤ rows_in out t → 1 ≤ row_token t (position p xs)
   token_there t p xs h low le = token_by t p xs (position p xs) refl h low le
 
   -- ---- signatures

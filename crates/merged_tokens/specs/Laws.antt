@@ -15,7 +15,7 @@ use Rattle.merge_rules.specs.Keys.{TypeKey, type_key}
 use Rattle.merge_rules.specs.Order.{met_type}
 use Rattle.merge_rules.specs.Moved.{moved_type}
 use Rattle.merge_rules.specs.Restricted.{output_of, restricted}
-use Rattle.merged_record.specs.Laws.{InputsAreRecords, ReferencesStand, RowsFit}
+use Rattle.merged_record.specs.Laws.{InputsAreRecords, ReferencesStand, NamesAll, RowsFit}
 use Rattle.merged_owners.specs.Laws.{AreMarked, AreKept}
 
 -- a token in a part of a kept item of an input, whose type is met by what is kept
@@ -53,3 +53,22 @@ EventsNamed = OfMarked (λ left. Each (λ row. 1 ≤ row.event_type) left.event)
 
 abbrev pub ConstraintsNamed : Type 0
 ConstraintsNamed = OfMarked (λ left. Each (λ row. 1 ≤ row.constraint) left.generic_param_constraint)
+
+-- columns that name members: bodies of MethodImpl rows name some in every merge
+abbrev pub BodiesNamed : Type 0
+BodiesNamed =
+    (internal : Bool) (recs : List AsmRec) (kept : Kept) (left : AsmRec) → restricted internal recs kept ≡ Some left → InputsAreRecords recs → ReferencesStand (output_of recs kept) left → RowsFit left
+    → Each (λ row. 1 ≤ row.body) left.method_impl
+
+abbrev pub DeclarationsNamed : Type 0
+DeclarationsNamed = OfMarked (λ left. Each (λ row. 1 ≤ row.declaration) left.method_impl)
+
+abbrev pub MethodsNamed : Type 0
+MethodsNamed = OfMarked (λ left. Each (λ row. 1 ≤ row.method) left.method_spec)
+
+abbrev pub ConstructorsNamed : Type 0
+ConstructorsNamed = OfMarked (λ left. Each (λ row. 1 ≤ row.ctor) left.custom_attribute)
+
+-- so all columns name rows where those of the parents of MemberRef rows do
+abbrev pub NamesFollow : Type 0
+NamesFollow = OfMarked (λ left. Each (λ row. 1 ≤ row.class) left.member_ref → NamesAll left)

@@ -1,4 +1,4 @@
-ghost use Rattle.merged_tokens.specs.Laws.{ConstraintsNamed, EventsNamed, InterfacesNamed, TypeTokensStand};
+ghost use Rattle.merged_tokens.specs.Laws.{BodiesNamed, ConstraintsNamed, ConstructorsNamed, DeclarationsNamed, EventsNamed, InterfacesNamed, MethodsNamed, NamesFollow, TypeTokensStand};
 
 use merged_owners::laws::owners_stay;
 
@@ -29,4 +29,37 @@ pub fn constraints_named()
 {
     type_tokens_stand();
     owners_stay();
+}
+
+/// A law: each kept row of MethodImpl names its body in what is left of records. It does nothing.
+pub fn bodies_named()
+    ensures { BodiesNamed }
+{}
+
+/// A law: so does it its declaration, where exactly what is marked is kept, and no marked item has a flaw. It does nothing.
+pub fn declarations_named()
+    ensures { DeclarationsNamed }
+{}
+
+/// A law: so does each row of MethodSpec its method. It does nothing.
+pub fn methods_named()
+    ensures { MethodsNamed }
+{}
+
+/// A law: so does each row of CustomAttribute its constructor. It does nothing.
+pub fn constructors_named()
+    ensures { ConstructorsNamed }
+{}
+
+/// A law: so all columns that have to name a row name one, if the parents of MemberRef rows do. It does nothing.
+pub fn names_follow()
+    ensures { NamesFollow }
+{
+    interfaces_named();
+    events_named();
+    constraints_named();
+    bodies_named();
+    declarations_named();
+    methods_named();
+    constructors_named();
 }
