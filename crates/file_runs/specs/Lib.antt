@@ -1,4 +1,3 @@
 pub mod Worlds
 pub mod Steps
-pub mod Thin
 pub mod Collect

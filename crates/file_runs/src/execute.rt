@@ -1,51 +1,23 @@
 //! `exec`: runs the program of files.
 
-ghost use Rattle.std.specs.Prelude.{◌≡◌};
-ghost use Rattle.link_rules.specs.Linked.{IsWorld};
 ghost use Rattle.run_rules.specs.Answers.{ExecsTo, Execs, RunsTo};
 ghost use Rattle.run_rules.specs.Runs.{run_of_files};
-ghost use Rattle.file_runs.specs.Worlds.{IsTaken, StartsLinked, alone_run};
+ghost use Rattle.file_runs.specs.Worlds.{IsTaken};
 
 use crate::collect::Collected;
-use crate::thin::run_thin;
 use crate::worlds::run_world;
 use il_base::{Seq, Text};
 use il_outside::Sink;
 use inputs::{InputError, take_files};
 use run_rules::{EndKind, Ending, ExecFault};
 use std::alloc::Global;
-use thin_check::is_thin_linked;
 use world_model::World;
-
-/// The run of the world of one file, which can be thin.
-fn run_alone<O: Sink>(
-    alloc: Global,
-    world: &World,
-    input: &[u8],
-    n: u64,
-    out: &mut O,
-) -> Result<EndKind, ExecFault>
-    requires world { IsWorld world.now }
-    requires linked { StartsLinked world.now.recs }
-    ensures { RunsTo (alone_run world.now input.now n) (O.state out.old) (O.state out.new) result }
-{
-    match world.recs.as_slice() {
-        [] => run_world(alloc, world, input, n, out),
-        [rec, ..] => {
-            if is_thin_linked(rec) {
-                run_thin(alloc, rec, n, out)
-            } else {
-                run_world(alloc, world, input, n, out)
-            }
-        }
-    }
-}
 
 /// The run of the world that files were taken as.
 #[tactic(auto, using(crate::proofs::Taken::is_world))]
 fn run_taken<O: Sink>(
     alloc: Global,
-    files: &[Text],
+    files: &Seq<Text>,
     world: &World,
     input: &[u8],
     n: u64,
@@ -54,11 +26,8 @@ fn run_taken<O: Sink>(
     requires { IsTaken files.now world.now }
     ensures { RunsTo (run_of_files files.now input.now n) (O.state out.old) (O.state out.new) result }
 {
-    match files {
-        [] => run_world(alloc, world, input, n, out),
-        [_] => run_alone(alloc, world, input, n, out),
-        [_, _, ..] => run_world(alloc, world, input, n, out),
-    }
+    let _ = files;
+    run_world(alloc, world, input, n, out)
 }
 
 /// Runs the program of the files, of which the first has the entry point, for at most `n` steps over these bytes of input. What a
@@ -75,7 +44,7 @@ pub fn exec_to<O: Sink>(
 {
     match take_files(alloc, files) {
         Err(why) => Err(ExecFault::Refused(why)),
-        Ok(world) => run_taken(alloc, files.as_slice(), &world, input, n, out),
+        Ok(world) => run_taken(alloc, files, &world, input, n, out),
     }
 }
 

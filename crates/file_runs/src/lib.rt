@@ -7,7 +7,6 @@ mod execute;
 mod fault;
 mod names;
 mod running;
-mod thin;
 mod worlds;
 
 pub use execute::{exec, exec_to};

@@ -1,3 +1,3 @@
 pub mod Runs
 pub mod Answers
-pub mod ThinFiles
+pub mod Alike

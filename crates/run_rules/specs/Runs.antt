@@ -1,11 +1,9 @@
 -- What a run of files comes to: what it prints within n steps, and how it stands then.
-use Rattle.std.specs.Prelude.{ℕ, suc, ◌+◌, ◌%◌, List, [], ◌∷◌, Option, Some, None, unwrap_or, if◌then◌else◌}
+use Rattle.std.specs.Prelude.{ℕ, suc, List, [], ◌∷◌, Option, Some, None, unwrap_or}
 use Rattle.il_base.specs.declared.ids.Place.{Place}
 use Rattle.il_base.specs.declared.table.TheConstants.{METHOD_DEF}
 use Rattle.world_model.specs.declared.record.AsmRec.{AsmRec}
-use Rattle.world_model.specs.declared.world.World.{World}
 use Rattle.world_model.specs.Tokens.{token_of, index_in}
-use Rattle.world_model.specs.Thin.{is_thin}
 use Rattle.link_rules.specs.declared.row_at.RowAt.{RowAt}
 use Rattle.link_rules.specs.Members.{home_from, methods_in}
 use Rattle.link_rules.specs.Linked.{world_of}
@@ -14,10 +12,6 @@ use Rattle.cil_values.specs.declared.end.End.{End}
 use Rattle.cil_values.specs.declared.end.End.TheVariants as run_end
 use Rattle.step_rules.specs.Run as whole
 use Rattle.view_rules.specs.Answers.{queries_of}
-use Rattle.thin_values.specs.declared.state.End as thin_end
-use Rattle.thin_values.specs.declared.state.End.TheVariants as thin_ends
-use Rattle.thin_values.specs.Run as thin
-use Rattle.thin_values.specs.Program.{run_of}
 use Rattle.run_rules.specs.declared.answers.EndKind.{EndKind}
 use Rattle.run_rules.specs.declared.answers.EndKind.TheVariants.{Ended, Threw, Spent, Stopped, Stuck}
 
@@ -25,8 +19,6 @@ use Rattle.run_rules.specs.declared.answers.EndKind.TheVariants.{Ended, Threw, S
 pub record FileRun : Type 0 where
   pub output : List ℕ
   pub end : EndKind
-
--- ---- any files
 
 -- a place in a method of the world, by its assembly and its MethodDef token
 abbrev pub place_by : ℕ → Option RowAt → Place
@@ -55,31 +47,6 @@ entry_of (rec ∷ recs) = unwrap_or (index_in METHOD_DEF rec.entry) 0
 abbrev pub world_run : List AsmRec → List ℕ → ℕ → FileRun
 world_run recs input n = file_run recs (whole.run_from (queries_of recs) (entry_of recs) input n)
 
--- ---- a thin file, which reads no input
-
--- tokens have 32 bits
-abbrev pub thin_place : ℕ → ℕ → Place
-thin_place m at = record { asm = 0; token = (0x06000001 + m) % 4294967296; offset = at }
-
-abbrev pub thin_end_of : Option thin_end.End → EndKind
-thin_end_of None = Spent
-thin_end_of (Some (thin_ends.Ended code)) = Ended code
-thin_end_of (Some (thin_ends.Stopped m at)) = Stopped (thin_place m.0 at)
-thin_end_of (Some (thin_ends.Stuck m at)) = Stuck (thin_place m.0 at)
-
-abbrev pub thin_file_run : thin.Outcome → FileRun
-thin_file_run o = record { output = o.output; end = thin_end_of o.end }
-
-abbrev pub thin_run : AsmRec → ℕ → FileRun
-thin_run rec n = thin_file_run (run_of rec n)
-
--- ---- both
-
--- A thin file runs by the definitions of thin records, any other files by those of all records.
-abbrev pub run_by : List AsmRec → World → List ℕ → ℕ → FileRun
-run_by (rec ∷ []) w input n = if is_thin rec then thin_run rec n else world_run w.recs input n
-run_by recs w input n = world_run w.recs input n
-
 -- n steps of the program of files, of which the first has the entry point, with the bytes of the input
 unfoldable pub run_of_files : List (List ℕ) → List ℕ → ℕ → FileRun
-run_of_files files input n = run_by (records files) (world_of (records files)) input n
+run_of_files files input n = world_run (world_of (records files)).recs input n

@@ -3,6 +3,5 @@
 #![tactic(auto)]
 
 mod answers;
-pub mod laws;
 
 pub use answers::{EndKind, Ending, ExecFault};

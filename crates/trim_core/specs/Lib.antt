@@ -1,5 +1,5 @@
 pub mod Told
 pub mod Taken
-pub mod Places
+pub mod Behaves
 pub mod Trim
 pub mod Colliding

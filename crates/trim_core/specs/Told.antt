@@ -1,14 +1,9 @@
--- Why files and descriptors make no program that can be trimmed, and which files are trimmed by the definitions of thin records.
-use Rattle.std.specs.Prelude.{◌≡◌, ℕ, List, [], ◌∷◌, Option, Some, None, is_some, not, ◌&&◌, Bool, if◌then◌else◌}
-use Rattle.std.specs.List.{list_any}
+-- Why files and descriptors make no program that can be trimmed.
+use Rattle.std.specs.Prelude.{◌≡◌, ℕ, List, [], ◌∷◌, Option, Some, None}
 use Rattle.std.specs.Option.{option_map}
-use Rattle.il_base.specs.Flags.{has_flag}
-use Rattle.il_base.specs.declared.type_flags.TheConstants.{HAS_SECURITY}
 use Rattle.il_base.specs.declared.limit.TheConstants as limit
 use Rattle.il_base.specs.declared.table.TheConstants.{METHOD_DEF}
-use Rattle.world_model.specs.declared.types.TypeDefRow.{TypeDefRow}
 use Rattle.world_model.specs.declared.record.AsmRec.{AsmRec}
-use Rattle.world_model.specs.Thin.{is_thin}
 use Rattle.world_model.specs.Tokens.{index_in}
 use Rattle.link_rules.specs.declared.row_at.RowAt.{RowAt}
 use Rattle.link_rules.specs.Types.{at_row}
@@ -18,7 +13,6 @@ use Rattle.inputs.specs.Files.{limit_fault, input_fault, records}
 use Rattle.descriptor_roots.specs.declared.error.RootsError.{RootsError}
 use Rattle.descriptor_roots.specs.declared.error.RootsError.TheVariants as roots
 use Rattle.descriptor_roots.specs.Roots.{long_descriptor, descriptor_fault}
-use Rattle.trim_core.specs.declared.answers.Opts.{Opts}
 use Rattle.trim_core.specs.declared.answers.Refusal.{Refusal}
 use Rattle.trim_core.specs.declared.answers.Refusal.TheVariants.{BadFile, BadDescriptor, Limit, NoEntry, NoMemory}
 
@@ -56,27 +50,7 @@ short_fault files descriptors =
 unfoldable pub trim_fault : List (List ℕ) → List (List ℕ) → Option Refusal
 trim_fault files descriptors = or_refusal (option_map input_refusal (limit_fault files)) (short_fault files descriptors)
 
--- ---- the way of a trim
-
--- the options say nothing
-abbrev pub is_plain : Opts → Bool
-is_plain opts = not opts.internalize && not opts.keep_list
-
--- the row says that the type has rows of DeclSecurity, of which none is written (II.23.1.15)
-abbrev pub is_secured : TypeDefRow → Bool
-is_secured t = has_flag t.flags HAS_SECURITY
-
-abbrev pub has_security : AsmRec → Bool
-has_security rec = list_any is_secured rec.type_def
-
--- a thin record without a descriptor, whose rows are written as they are
-abbrev pub is_thin_alone : AsmRec → Bool
-is_thin_alone rec = is_thin rec && not (is_some rec.descriptor) && not (has_security rec)
-
--- the record of one file, where no descriptor and no option is given, if it is thin
-abbrev pub thin_alone : List AsmRec → List (List ℕ) → Opts → Option AsmRec
-thin_alone (rec ∷ []) [] opts = if is_plain opts && is_thin_alone rec then Some rec else None
-thin_alone _ _ opts = None
+-- ---- the entry
 
 -- the entry method: that of the first file (II.25.3.3.2)
 abbrev pub entry_row : List AsmRec → Option RowAt

@@ -2,7 +2,6 @@
 //! or the first reason why there is nothing (`specs/Told`). `specs/Trim` defines the answer.
 #![tactic(auto)]
 
-mod alone;
 mod answers;
 mod colliding;
 mod digits;

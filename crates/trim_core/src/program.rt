@@ -6,7 +6,8 @@ ghost use Rattle.flaw_laws.specs.There.{RowsThere};
 ghost use Rattle.inputs.specs.Files.{records};
 ghost use Rattle.trim_core.specs.Told.{entry_row};
 ghost use Rattle.trim_core.specs.Taken.{IsTaken};
-ghost use Rattle.trim_core.specs.Trim.{TrimsProgram, list_if};
+ghost use Rattle.descriptor_roots.specs.Roots.{roots_of};
+ghost use Rattle.trim_core.specs.Trim.{TrimsProgram, TrimsFiles, list_if};
 
 use crate::answers::{Opts, Refusal, Trimmed};
 use crate::taking::{entry_row, inputs_of};
@@ -16,6 +17,7 @@ use input_laws::laws::files_told;
 use link_rules::RowAt;
 use program_trim::{ProgramTrim, TrimFault, trim_world};
 use std::alloc::Global;
+use trim_behaves::laws::{files_merge, trims_behave};
 use world_model::World;
 
 /// What is needed of files that were taken as a world: it is linked, and its rows of MethodImpl name rows of it.
@@ -66,13 +68,18 @@ pub(crate) fn trim_program(
     alloc: Global,
     files: &Seq<Text>,
     world: &World,
+    descriptors: &Seq<Text>,
     roots: &[Root],
     opts: Opts,
 ) -> Result<Trimmed, Refusal>
-    requires { IsTaken files.now world.now }
-    ensures { TrimsProgram world.now.recs (entry_row (records files.now)) roots.now opts result }
+    requires taken { IsTaken files.now world.now }
+    requires roots { roots.now ≡ roots_of (records files.now) descriptors.now }
+    ensures { TrimsFiles files.now descriptors.now opts result }
 {
+    let _ = descriptors;
     world_told(files, world);
+    trims_behave();
+    files_merge();
     let entry = entry_row(inputs_of(files, world));
     trim_from(alloc, world, entry, roots, opts)
 }

@@ -3,16 +3,14 @@
 ghost use Rattle.std.specs.Prelude.{◌≡◌};
 ghost use Rattle.std.specs.Option.{option_map};
 ghost use Rattle.inputs.specs.Files.{records, input_fault};
-ghost use Rattle.descriptor_roots.specs.Roots.{descriptor_fault, roots_of};
+ghost use Rattle.descriptor_roots.specs.Roots.{descriptor_fault};
 ghost use Rattle.trim_core.specs.Told.{or_refusal, input_refusal, roots_refusal, too_long, short_fault};
 ghost use Rattle.trim_core.specs.Taken.{IsTaken};
-ghost use Rattle.trim_core.specs.Trim.{Trims, TrimsFiles, TrimsUnless};
+ghost use Rattle.trim_core.specs.Trim.{Trims, TrimsUnless};
 
-use crate::alone::trim_alone;
 use crate::answers::{Opts, Refusal, Trimmed};
 use crate::program::trim_program;
-use crate::taking::{inputs_of, thin_of};
-use descriptor_file::Root;
+use crate::taking::inputs_of;
 use descriptor_roots::{RootsError, descriptor_roots, within_length};
 use il_base::{Seq, Text, limit};
 use inputs::{InputError, take_files, within_limits};
@@ -51,26 +49,6 @@ fn roots_refusal(error: RootsError) -> Refusal
     }
 }
 
-/// Trims files that were taken as this world, with these elements of descriptors.
-#[tactic(auto, using(crate::proofs::FileLemmas::are_thin, crate::proofs::FileLemmas::by_thin, crate::proofs::FileLemmas::by_all))]
-fn trim_rooted(
-    alloc: Global,
-    files: &Seq<Text>,
-    world: &World,
-    descriptors: &Seq<Text>,
-    roots: &[Root],
-    opts: Opts,
-) -> Result<Trimmed, Refusal>
-    requires taken { IsTaken files.now world.now }
-    requires roots { roots.now ≡ roots_of (records files.now) descriptors.now }
-    ensures { TrimsFiles files.now descriptors.now opts result }
-{
-    match thin_of(files, world, descriptors.as_slice(), opts) {
-        Some(rec) => trim_alone(alloc, files.as_slice(), rec),
-        None => trim_program(alloc, files, world, roots, opts),
-    }
-}
-
 /// Trims files that were taken as this world.
 #[tactic(auto, using(crate::proofs::FileLemmas::roots_due, crate::proofs::FileLemmas::roots_on))]
 fn trim_taken(
@@ -85,7 +63,7 @@ fn trim_taken(
 {
     match descriptor_roots(alloc, inputs_of(files, world), descriptors.as_slice()) {
         Err(error) => Err(roots_refusal(error)),
-        Ok(roots) => trim_rooted(alloc, files, world, descriptors, roots.as_slice(), opts),
+        Ok(roots) => trim_program(alloc, files, world, descriptors, roots.as_slice(), opts),
     }
 }
 

@@ -1,6 +1,0 @@
-use Rattle.std.proofs.Common.{◌≡◌, map, take}
-use Rattle.file_layout.specs.Rows.{assembly_cells}
-use Rattle.assembly_writer.proofs.record.assemblies.Given as goal
-
-abbrev pub invariant-loop-row : goal.invariant-loop-row
-invariant-loop-row l = l.table ≡ map assembly_cells (take l.row-index l.rows)

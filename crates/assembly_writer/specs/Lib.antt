@@ -1,2 +1,0 @@
-pub mod CanWrite
-pub mod Written

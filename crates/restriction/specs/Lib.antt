@@ -1,4 +1,0 @@
-pub mod Numbering
-pub mod References
-pub mod Moved
-pub mod Restricted

@@ -1,5 +1,0 @@
-pub mod Words
-pub mod Calls
-pub mod Forms
-pub mod Runs
-pub mod Itself

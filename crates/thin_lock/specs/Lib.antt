@@ -1,4 +1,0 @@
-pub mod Move
-pub mod Agree
-pub mod Lock
-pub mod Alike

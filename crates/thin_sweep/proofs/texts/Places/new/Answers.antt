@@ -1,6 +1,0 @@
-use Rattle.std.proofs.Common.{refl}
-use Rattle.thin_sweep.proofs.Placing.{places_none}
-use Rattle.thin_sweep.proofs.texts.Places.new.Goals as goal
-
-pub returns-clause-places : goal.returns-clause-places
-returns-clause-places c = places_none (record { texts = c.new.result; tokens = c.new-2.result; end = 0x70000001 }) c.new.ensures.items c.new-2.ensures.empty refl
