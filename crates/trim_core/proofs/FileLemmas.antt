@@ -1,39 +1,29 @@
 -- What files were taken as, and what a trim of them is.
-use Rattle.std.proofs.Common.{◌≡◌, ℕ, suc, ◌≤◌, Bool, List, [], ◌∷◌, ◌++◌, length, take, map, Option, Some, None, Result, Ok, Err, true, false, nat_le, refl, sym, ap, subst, ◌∙◌, arith, rules}
-use Rattle.std.specs.Prelude.{IsTrue, is_some, not, ◌&&◌, ◌||◌, if◌then◌else◌}
-use Rattle.std.specs.List.{list_any}
+use Rattle.std.proofs.Common.{◌≡◌, ℕ, suc, ◌≤◌, List, [], ◌∷◌, ◌++◌, length, take, Option, Some, None, Result, Ok, Err, refl, sym, ap, subst, ◌∙◌, arith, rules}
 use Rattle.std.specs.Option.{option_map}
-use Rattle.std.proofs.lemmas.Bool.Decides.{nat_tests}
-use Rattle.cli_format.specs.declared.error.TablesError.{TablesError}
-use Rattle.cli_format.specs.Demand.{first_fault}
-use Rattle.record_format.specs.Record.{record_demands, record_at, HasRecord}
-use Rattle.world_model.specs.declared.types.TypeDefRow.{TypeDefRow}
+use Rattle.record_format.specs.Record.{record_at}
 use Rattle.world_model.specs.declared.record.AsmRec.{AsmRec}
 use Rattle.world_model.specs.declared.world.World.{World}
-use Rattle.world_model.specs.Thin.{is_thin}
 use Rattle.core_table.specs.Record.{core_record}
 use Rattle.link_rules.specs.declared.link_error.LinkError.{LinkError}
 use Rattle.link_rules.specs.CoreNames.{missing_names, core_with}
 use Rattle.link_rules.specs.Linked.{IsWorld, assemblies, world_in, world_of, link_fault_of}
 use Rattle.flaw_laws.specs.There.{RowsThere}
-use Rattle.file_layout.specs.Laid.{laid}
-use Rattle.restriction.specs.Moved.{moved_type_def}
-use Rattle.restriction.specs.Restricted.{restricted}
-use Rattle.trim_laws.specs.Headline.{Headline}
 use Rattle.inputs.specs.declared.error.InputError.{InputError}
-use Rattle.inputs.specs.Files.{or_fault, limit_fault, record_fault, linking_fault, entry_fault, input_fault, records, unread_as, unlinked_as, Passes, Takes}
-use Rattle.run_rules.specs.Runs.{run_of_files, thin_run}
-use Rattle.run_rules.specs.ThinFiles.{IsThinFile}
+use Rattle.inputs.specs.Files.{or_fault, limit_fault, record_fault, linking_fault, entry_fault, input_fault, records, unlinked_as, Passes, Takes}
 use Rattle.descriptor_file.specs.declared.root.Root.{Root}
 use Rattle.descriptor_roots.specs.declared.error.RootsError.{RootsError}
-use Rattle.descriptor_roots.specs.Roots.{ReadsRoots, roots_of, descriptor_fault, fault_from, long_descriptor}
+use Rattle.descriptor_roots.specs.Roots.{ReadsRoots, roots_of, descriptor_fault}
+use Rattle.trim_behaves.specs.Laws.{FilesMerge}
+use Rattle.trim_behaves.specs.Behaves.{TrimsBehave}
 use Rattle.trim_core.specs.declared.answers.Opts.{Opts}
 use Rattle.trim_core.specs.declared.answers.Refusal.{Refusal}
 use Rattle.trim_core.specs.declared.answers.Refusal.TheVariants as refusal
 use Rattle.trim_core.specs.declared.answers.Trimmed.{Trimmed}
-use Rattle.trim_core.specs.Taken.{IsTaken, IsThinOf, AreThin}
-use Rattle.trim_core.specs.Told.{trim_fault, or_refusal, input_refusal, roots_refusal, too_long, is_plain, is_secured, has_security, is_thin_alone, thin_alone, entry_row, RefusedBy}
-use Rattle.trim_core.specs.Trim.{most_bytes, plain, TakenAs, RunsAs, TrimsRecord, TrimsProgram, TrimsBy, TrimsFiles, TrimsUnless}
+use Rattle.trim_core.specs.Taken.{IsTaken}
+use Rattle.trim_core.specs.Told.{or_refusal, input_refusal, roots_refusal, too_long, entry_row, RefusedBy}
+use Rattle.trim_core.specs.Trim.{TrimmedProgram, TrimsProgram, TrimsFiles, TrimsUnless}
+use Rattle.trim_core.proofs.Behaving.{Bytes, behaves}
 
 -- ---- files that were taken
 
@@ -60,9 +50,6 @@ sound files w t = no_fault files (link_fault_of (records files)) (links files t.
 
 pub is_world : (files : List (List ℕ)) (w : World) → IsTaken files w → IsWorld w
 is_world files w t = record { inputs = records files; sound = sound files w t; linked = t.world }
-
-pub links_alone : (files : List (List ℕ)) (w : World) (inputs : List AsmRec) → IsTaken files w → inputs ≡ records files → link_fault_of inputs ≡ None
-links_alone files w inputs t e = subst (λ (rs : List AsmRec). link_fault_of rs ≡ None) (sym e) (sound files w t)
 
 -- what holds of the world of all files that are refused by nothing
 pub rows_there : (files : List (List ℕ)) (w : World) → IsTaken files w
@@ -101,18 +88,30 @@ count_is files w n xs t a b =
 
 -- ---- what a trim is
 
+module _ (files ds : List (List ℕ)) (w : World) (roots : List Root) (opts : Opts) (taken : IsTaken files w) (are : roots ≡ roots_of (records files) ds) (behave : TrimsBehave) (merging : FilesMerge) (bytes : Bytes files) where
+  abbrev Of : World → List Root → Result Trimmed Refusal → Type 0
+  Of v rs answer = TrimsProgram v.recs (entry_row (records files)) rs opts answer
+
+  moved : (answer : Result Trimmed Refusal) → Of w roots answer → Of (world_of (records files)) (roots_of (records files) ds) answer
+  moved answer t = subst (λ (rs : List Root). Of (world_of (records files)) rs answer) are (subst (λ (v : World). Of v roots answer) taken.world t)
+
+  pub by_program : (answer : Result Trimmed Refusal) → Of w roots answer → TrimsFiles files ds opts answer
+  by_program (Ok t) h =
+      let p : TrimmedProgram (world_of (records files)).recs (entry_row (records files)) (roots_of (records files) ds) opts t = moved (Ok t) h in
+      record {
+        program = p;
+        behaves = λ first there begins. behaves behave merging files taken.sound bytes (sound files w taken) (roots_of (records files) ds) opts.internalize (record { bytes = t.bytes; kept = p.list }) p.trims first there begins;
+      }
+  by_program (Err e) h = moved (Err e) h
+
 pub unless_none : (fault : Option Refusal) (files ds : List (List ℕ)) (opts : Opts) (answer : Result Trimmed Refusal)
     → fault ≡ None → TrimsFiles files ds opts answer → TrimsUnless fault files ds opts answer
 unless_none fault files ds opts answer e t = subst (λ (o : Option Refusal). TrimsUnless o files ds opts answer) (sym e) t
 
 -- ---- refusals
 
-by_no_memory : (o : Option AsmRec) (files ds : List (List ℕ)) (opts : Opts) → TrimsBy o files ds opts (Err refusal.NoMemory)
-by_no_memory None files ds opts = tt
-by_no_memory (Some rec) files ds opts = tt
-
 pub no_memory : (o : Option Refusal) (files ds : List (List ℕ)) (opts : Opts) → TrimsUnless o files ds opts (Err refusal.NoMemory)
-no_memory None files ds opts = by_no_memory (thin_alone (records files) ds opts) files ds opts
+no_memory None files ds opts = tt
 no_memory (Some due) files ds opts = tt
 
 itself : (r : Refusal) → RefusedBy r r

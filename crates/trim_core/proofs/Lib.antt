@@ -1,2 +1,3 @@
 pub mod FileLemmas
 pub mod Lines
+pub mod Behaving

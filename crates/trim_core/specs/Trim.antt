@@ -45,7 +45,7 @@ TrimsProgram recs entry roots opts (Err refusal) = ⊥
 -- type of the first file is `<Module>`, as II.22.37 wants it.
 pub record TrimmedFiles (files descriptors : List (List ℕ)) (opts : Opts) (t : Trimmed) : Type 0 where
   pub program : TrimmedProgram (world_of (records files)).recs (entry_row (records files)) (roots_of (records files) descriptors) opts t
-  pub behaves : ((first : AsmRec) → slice_get (records files) 0 ≡ Some first → BeginsWithModule first) → Behaves files t.bytes program.trims.left
+  pub behaves : (first : AsmRec) → slice_get (records files) 0 ≡ Some first → BeginsWithModule first → Behaves files t.bytes program.trims.left
 
 abbrev pub TrimsFiles : List (List ℕ) → List (List ℕ) → Opts → Result Trimmed Refusal → Type 0
 TrimsFiles files descriptors opts (Ok t) = TrimmedFiles files descriptors opts t
