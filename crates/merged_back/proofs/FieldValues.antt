@@ -34,7 +34,7 @@ use Rattle.merged_places.proofs.Kept.{keeps}
 use Rattle.merged_places.proofs.Worlds.{left_core, after_left, after_core, left_fields}
 use Rattle.merged_places.proofs.Moving.{Stays}
 use Rattle.merged_places.proofs.Situations.{place, situation, Input, Core, Gone}
-use Rattle.merged_places.proofs.Tables.{number_type, number_field, type_kind, type_left, field_left}
+use Rattle.merged_places.proofs.Tables.{number_type, number_field, type_kind, type_left, field_left, those_at}
 use Rattle.merged_rows_move.specs.Premises.{ReadsTokens, HasGoodBases}
 use Rattle.merged_rows_move.proofs.Members.{record_of}
 use Rattle.merged_rows_move.proofs.RowsOf.{field_like}
@@ -43,7 +43,7 @@ use Rattle.merged_back.specs.Premises.{ReadsFieldSignatures}
 use Rattle.merged_back.proofs.Homes.{stands, stands_there, stands_stays, place_is}
 use Rattle.merged_back.proofs.Rows.{KeptRow, InRun, run_item, item_run}
 use Rattle.merged_back.proofs.Values.{From, value_back, values_from}
-use Rattle.merged_back.proofs.Kinds.{field_member}
+use Rattle.merged_back.proofs.MemberKinds.{field_member}
 
 some_run : (internal : Bool) (o : Output) (at : RowAt) (rec : AsmRec) (t : TypeDefRow) → 1 ≤ (moved_type_row internal o at rec t).field_list_first
 unfolding run_at
@@ -78,8 +78,8 @@ module _ (m : Merge) (is : IsMerge m) (k : Keep) (kept : RowAt → Bool) (flags 
     abbrev rec : AsmRec
     rec = i.there.rec
 
-    o : KeptRow types_in (before m) number_type m.kept (new x)
-    o = record { at = x; there = i.there; earlier = i.earlier; keeps_it = i.keeps_it; rank_is = refl }
+    abbrev o : KeptRow types_in (before m) number_type m.kept (new x)
+    o = record { at = x; there = i.there; earlier = i.earlier; keeps_it = i.keeps_it; rank_is = refl; listed = those_at types_in (before m) number_type m.kept x i.there i.earlier i.keeps_it }
 
     -- a field of the input
     field_led : (t : TypeDefRow) (f : FieldRow) (z : RowAt) → slice_get rec.type_def x.row ≡ Some t → In f (run_of t.field_list_first t.field_list_end rec.field) → is_value_type (before m) x ≡ true

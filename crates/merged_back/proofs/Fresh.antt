@@ -68,9 +68,15 @@ module _ (us : List (List ℕ)) (f : ℕ → List ℕ) (most : ℕ) (apart : (a 
   abbrev All : ℕ → ℕ → Type 0
   All n k = (i : ℕ) → k ≤ i → i < k + n → Taken i
 
-  places : (n k : ℕ) → All n k → List ℕ
+  head : (n k : ℕ) → All (suc n) k → Taken k
+  head n k all = all k (omega arith) (omega arith)
+
+  rest : (n k : ℕ) → All (suc n) k → All n (suc k)
+  rest n k all i ge lt = all i (omega (arith, ge)) (omega (arith, lt))
+
+  abbrev places : (n k : ℕ) → All n k → List ℕ
   places zero k all = []
-  places (suc n) k all = (place_of us (f k) (all k (omega arith) (omega arith))).place ∷ places n (suc k) (λ i ge lt. all i (omega (arith, ge)) (omega (arith, lt)))
+  places (suc n) k all = (place_of us (f k) (head n k all)).place ∷ places n (suc k) (rest n k all)
 
   record Of (n k q : ℕ) : Type 0 where
     number : ℕ
@@ -81,10 +87,10 @@ module _ (us : List (List ℕ)) (f : ℕ → List ℕ) (most : ℕ) (apart : (a 
   of_places : (n k : ℕ) (all : All n k) (q : ℕ) → In q (places n k all) → Of n k q
   of_places zero k all q h = absurd h
   of_places (suc n) k all q (inl e) =
-      let p = place_of us (f k) (all k (omega arith) (omega arith)) in
+      let p = place_of us (f k) (head n k all) in
       record { number = k; from = omega arith; to = omega arith; there = ap (slice_get us) e ∙ p.there }
   of_places (suc n) k all q (inr h) =
-      let o = of_places n (suc k) (λ i ge lt. all i (omega (arith, ge)) (omega (arith, lt))) q h in
+      let o = of_places n (suc k) (rest n k all) q h in
       let a = o.from in
       let b = o.to in
       record { number = o.number; from = omega (arith, a); to = omega (arith, b); there = o.there }
@@ -100,23 +106,22 @@ module _ (us : List (List ℕ)) (f : ℕ → List ℕ) (most : ℕ) (apart : (a 
   distinct : (n k : ℕ) (all : All n k) → k + n ≤ suc most → IsDistinct nat_eq (places n k all)
   distinct zero k all le = none_distinct
   distinct (suc n) k all le =
-      let p = place_of us (f k) (all k (omega arith) (omega arith)) in
-      let rest = places n (suc k) (λ i ge lt. all i (omega (arith, ge)) (omega (arith, lt))) in
-      IsDistinct-cons nat_eq p.place rest
-      (all_from (λ (q : ℕ). (p.place == q) ≡ false) rest
+      let p = place_of us (f k) (head n k all) in
+      IsDistinct-cons nat_eq p.place (places n (suc k) (rest n k all))
+      (all_from (λ (q : ℕ). (p.place == q) ≡ false) (places n (suc k) (rest n k all))
       (λ q h.
-      let o = of_places n (suc k) (λ i ge lt. all i (omega (arith, ge)) (omega (arith, lt))) q h in
+      let o = of_places n (suc k) (rest n k all) q h in
       let a = o.from in
       let b = o.to in
       ne_eqb p.place q (λ e.
       let same : f k ≡ f o.number = same_some (f k) (f o.number) (sym p.there ∙ ap (slice_get us) e ∙ o.there) in
       let one = apart k o.number (omega (arith, le)) (omega (arith, b, le)) same in
       absurd (omega (arith, one, a)))))
-      (distinct n (suc k) (λ i ge lt. all i (omega (arith, ge)) (omega (arith, lt))) (omega (arith, le)))
+      (distinct n (suc k) (rest n k all) (omega (arith, le)))
 
   long : (n k : ℕ) (all : All n k) → length (places n k all) ≡ n
   long zero k all = refl
-  long (suc n) k all = ap suc (long n (suc k) (λ i ge lt. all i (omega (arith, ge)) (omega (arith, lt))))
+  long (suc n) k all = ap suc (long n (suc k) (rest n k all))
 
   all_below : (n k : ℕ) (all : All n k) (q : ℕ) → list_any (nat_eq q) (places n k all) ≡ true → q < length us
   all_below n k all q h =

@@ -33,6 +33,7 @@ module _ (count : AsmRec → ℕ) (recs : List AsmRec) (number_item : ℕ → It
     pub earlier : suc at.asm < length recs
     pub keeps_it : kept (number_item (number_at count recs at)) ≡ true
     pub rank_is : rank (keeps count recs number_item kept) (number_at count recs at) ≡ j
+    pub listed : slice_get (those count recs number_item kept) j ≡ Some at
 
   pub kept_row : (j : ℕ) → j < length (those count recs number_item kept) → KeptRow j
   kept_row j lt =
@@ -45,6 +46,7 @@ module _ (count : AsmRec → ℕ) (recs : List AsmRec) (number_item : ℕ → It
         earlier = k.0.1;
         keeps_it = k.1;
         rank_is = place_is_rank (keeps count recs number_item kept) (in_inputs count recs) j (number_at count recs x.0) (ap (λ (ns : List ℕ). slice_get ns j) (sym (kept_numbers count recs number_item kept)) ∙ numbered_at);
+        listed = x.1;
       }
 
   -- a lower place is of a lower number

@@ -1,0 +1,11 @@
+pub mod Homes
+pub mod Rows
+pub mod Graphs
+pub mod Values
+pub mod Members
+pub mod MemberKinds
+pub mod FieldValues
+pub mod Fresh
+pub mod Renamed
+pub mod TypeKeys
+pub mod Whole
