@@ -8,4 +8,5 @@ pub mod FieldValues
 pub mod Fresh
 pub mod Renamed
 pub mod TypeKeys
+pub mod Enclosers
 pub mod Whole

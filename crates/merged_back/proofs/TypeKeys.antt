@@ -121,7 +121,7 @@ module _ (m : Merge) (is : IsMerge m) (around : KeepsEnclosers m) where
   }
 
   kept_around : (j : ℕ) (r : Row j) (a : ℕ) → encloser r.o.there.rec r.o.at.row ≡ Some a → m.kept (number_type (number (at_row r.o.at.asm a))) ≡ true
-  kept_around j r a e = around r.o.at r.o.there.rec a r.o.there.here r.o.earlier e r.o.keeps_it
+  kept_around j r a e = around r.o.at r.o.there.rec a r.o.there.here e r.o.keeps_it
 
   abbrev new_around : RowAt → ℕ → ℕ
   new_around at a = rank passes (number (at_row at.asm a))

@@ -23,5 +23,5 @@ ReadsFieldSignatures m =
 -- the type around a kept type is kept (II.22.32)
 abbrev pub KeepsEnclosers : Merge → Type 0
 KeepsEnclosers m =
-    (at : RowAt) (rec : AsmRec) (j : ℕ) → slice_get (before m) at.asm ≡ Some rec → suc at.asm < length (before m) → encloser rec at.row ≡ Some j → m.kept (type_item (before m) at) ≡ true
+    (at : RowAt) (rec : AsmRec) (j : ℕ) → slice_get (before m) at.asm ≡ Some rec → encloser rec at.row ≡ Some j → m.kept (type_item (before m) at) ≡ true
     → m.kept (type_item (before m) (at_row at.asm j)) ≡ true
