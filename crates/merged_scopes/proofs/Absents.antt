@@ -17,12 +17,13 @@ use Rattle.link_rules.specs.Members.{type_home}
 use Rattle.link_rules.specs.Cycles.{listed}
 use Rattle.type_rules.specs.Rows.{rec_at}
 use Rattle.type_laws.proofs.Places.{place_within}
-use Rattle.known_laws.proofs.Lists.{first_in, to_flat, to_map, from_flat, from_map, and_then_some, map_some}
+use Rattle.known_laws.proofs.Lists.{from_flat, from_map, and_then_some, map_some}
+use Rattle.mark_rules.specs.Places.{type_item}
 use Rattle.merge_rules.specs.Absent.{bare, reference_rows, reference_at, definition_of, assembly_scope, reference_scope, reads_same, type_count, first_same, absent_type, absent_row}
-use Rattle.merge_rules.specs.Numbers.{inputs}
+use Rattle.merge_rules.specs.Numbers.{Kept, inputs, rows_of_kind}
 use Rattle.merge_rules.specs.Refs.{enclosing_type, outer_reference, scope_type_by, scope_type, scope_of, assemblies_of, first_or, own_scope}
-use Rattle.merged_record.proofs.Lists.{OfInput, an_input, place_in}
-use Rattle.merged_record.proofs.Owned.{to_range, an_input_in}
+use Rattle.merged_record.proofs.Lists.{an_input, place_in, from_filter}
+use Rattle.merged_record.proofs.Owned.{to_kept}
 use Rattle.merged_record.proofs.Tokens.{position_is}
 use Rattle.merged_references.proofs.Found.{definition_names}
 use Rattle.merged_owners.proofs.Homes.{position_some, own_home}
@@ -53,11 +54,10 @@ module _ (recs : List AsmRec) (Q : ℕ → Type 0) where
 
   in_rows : (s : RowAt) (rec : AsmRec) (row : TypeRefRow) → suc s.asm < length recs → slice_get recs s.asm ≡ Some rec → slice_get rec.type_ref s.row ≡ Some row → Contains (reference_rows recs) s
   in_rows s rec row input there is =
-      let z : 0 + s.row ≡ s.row = omega arith in
-      let among : Contains (range_with_len 0 (length rec.type_ref)) s.row =
-      subst (λ (n : ℕ). Contains (range_with_len 0 (length rec.type_ref)) n) z (to_range 0 (length rec.type_ref) s.row (place_within rec.type_ref s.row row is)) in
-      to_flat (λ (x : ℕ × AsmRec). map (at_row x.0) (range_with_len 0 (length x.1.type_ref))) (inputs recs) s
-      (record { item = (s.asm, rec); there = an_input_in recs s.asm rec (record { there = there; within = input }); inside = to_map (at_row s.asm) (range_with_len 0 (length rec.type_ref)) s.row among })
+      let count : AsmRec → ℕ = λ r. length r.type_ref in
+      let all : Kept = λ i. true in
+      let c = to_kept count (type_item recs) recs all s rec (record { there = there; within = input }) (place_within rec.type_ref s.row row is) refl in
+      (from_filter (λ at. all (type_item recs at)) (rows_of_kind count recs) s c).0
 
   to_rows : (s : RowAt) (row : TypeRefRow) → suc s.asm < length recs → reference_at recs s ≡ Some row → Contains (reference_rows recs) s
   to_rows s row input e =
