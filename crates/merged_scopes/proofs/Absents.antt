@@ -1,5 +1,5 @@
 -- Types that name nothing: the row that each stands for, and its scopes.
-use Rattle.std.proofs.Common.{◌≡◌, ◌<◌, ℕ, suc, ◌+◌, ◌-◌, List, [], ◌∷◌, length, map, Bool, true, false, Option, Some, None, refl, sym, ap, subst, ◌∙◌, arith}
+use Rattle.std.proofs.Common.{◌≡◌, ◌<◌, ℕ, zero, suc, ◌+◌, ◌-◌, List, [], ◌∷◌, length, map, Bool, true, false, Option, Some, None, refl, sym, ap, subst, ◌∙◌, arith}
 use Rattle.std.specs.Prelude.{slice_get, nat_le, position, if◌then◌else◌}
 use Rattle.std.specs.List.{Contains, flat_map, range_with_len}
 use Rattle.std.specs.Option.{is_some, option_map, option_and_then}
@@ -27,7 +27,7 @@ use Rattle.merged_record.proofs.Owned.{to_kept}
 use Rattle.merged_record.proofs.Tokens.{position_is}
 use Rattle.merged_references.proofs.Found.{definition_names}
 use Rattle.merged_owners.proofs.Homes.{position_some, own_home}
-use Rattle.merged_scopes.proofs.Chains.{one_of, not_both, Stays, AlwaysStays, same_rows, reads_itself, scope_reads, stays_on}
+use Rattle.merged_scopes.proofs.Chains.{one_of, not_both, Stays, AlwaysStays, same_rows, reads_itself, scope_reads, none_reads, stays_on}
 
 module _ (recs : List AsmRec) (Q : ℕ → Type 0) where
   -- over so many scopes references are compared
@@ -120,21 +120,20 @@ module _ (recs : List AsmRec) (Q : ℕ → Type 0) where
         let s = and_then_some (outer_reference recs) (reference_scope recs a.at) u (sym scope_is ∙ e) in
         outer_by s.0 u (definition_of recs s.0) s.1 refl s.2
 
+    abbrev behind : ℕ → TypeId
+    behind k = record { 0 = type_count recs + k }
+
     -- a chain of scopes that comes back to a row reads like none
     some_type : (s : RowAt) → Contains (reference_rows recs) s → reads_same recs most s s ≡ true → absent_type recs s ≡ None → ⊥
     unfolding absent_type
     some_type s c h e = by_option (first_same recs s) (position_some (reads_same recs most s) (reference_rows recs) s c h) e
       where
-        by_option : (o : Option ℕ) → is_some o ≡ true → option_map (λ k. record { 0 = type_count recs + k }) o ≡ None → ⊥
+        by_option : (o : Option ℕ) → is_some o ≡ true → option_map behind o ≡ None → ⊥
         by_option None f g = absurd (cc)
         by_option (Some k) f g = absurd (cc)
 
     row_of_scope : (n : ℕ) (s : RowAt) → reads_same recs n s s ≡ true → (row : TypeRefRow) × (reference_at recs s ≡ Some row)
-    row_of_scope zero s h = absurd (nothing s h)
-      where
-        nothing : (s : RowAt) → reads_same recs 0 s s ≡ true → ⊥
-        unfolding reads_same
-        nothing s h = cc
+    row_of_scope zero s h = absurd (none_reads recs s s h)
     row_of_scope (suc n) s h = let r = same_rows recs n s s h in (r.row, r.is)
 
     same_asm : (s : RowAt) → reference_scope recs a.at ≡ Some s → s.asm ≡ a.at.asm
@@ -143,7 +142,7 @@ module _ (recs : List AsmRec) (Q : ℕ → Type 0) where
         let k = map_some (at_row a.at.asm) (index_in TYPE_REF r.0.resolution_scope) s r.2 in
         ap (λ (x : RowAt). x.asm) (sym k.2)
 
-    none_by : (s : RowAt) (o : Option RowAt) → reference_scope recs a.at ≡ Some s → definition_of recs s ≡ o → (elim o [ Some def ↦ Some (type_id recs def.asm def.row) | None ↦ absent_type recs s ]) ≡ None → ⊥
+    none_by : (s : RowAt) (o : Option RowAt) → reference_scope recs a.at ≡ Some s → definition_of recs s ≡ o → (elim o as (λ o. Option TypeId) [ Some def ↦ Some (type_id recs def.asm def.row) | None ↦ absent_type recs s ]) ≡ None → ⊥
     none_by s (Some d) at def e = absurd (cc)
     none_by s None at none e =
         let reads : reads_same recs most s s ≡ true = scope_reads recs most a.at s a.itself at none in

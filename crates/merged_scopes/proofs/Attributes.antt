@@ -167,7 +167,6 @@ module _ (recs : List AsmRec) (P : TypeId → Type 0) (there_so : (t : TypeId) �
         named_class token k (definition_expr recs at) e is
       where
         named_class : (token k : ℕ) (e : TypeExpr) → index_in table.TYPE_REF token ≡ Some k → known_expr recs (definition_at recs a rec token) ≡ Good e → IsNumber (found_or (number_of recs (known_expr recs (definition_at recs a rec token))) (absent_number recs a token))
-        unfolding class_number named_type
         named_class token k e f h =
             let other = not_table table.TYPE_SPEC table.TYPE_REF token refl (ref_table token k f) in
             named_number recs P there_so a rec there token e (name_again recs P there_so a rec there token e other h) h
@@ -180,7 +179,7 @@ module _ (recs : List AsmRec) (P : TypeId → Type 0) (there_so : (t : TypeId) �
       where
         number_by : (o : Option TypeId) → ((t : TypeId) → o ≡ Some t → P t) → IsNumber (number_or o 0)
         number_by None g t n = absurd (omega (arith, n))
-        number_by (Some u) g = of_number recs P there_so u (g u refl)
+        number_by (Some u) g t n = of_number recs P there_so u (g u refl) t n
 
     class_may : (token : ℕ) → May token → IsNumber (class_number recs a rec token)
     class_may token h =

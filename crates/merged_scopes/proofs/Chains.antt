@@ -21,10 +21,10 @@ use Rattle.merged_references.proofs.Scopes.{name_itself, assembly_itself}
 use Rattle.merged_owners.proofs.Every.{some_of}
 
 -- two values of one option
-one_of : {A : Type 0} (o : Option A) (x y : A) → o ≡ Some x → o ≡ Some y → x ≡ y
+pub one_of : {A : Type 0} (o : Option A) (x y : A) → o ≡ Some x → o ≡ Some y → x ≡ y
 one_of o x y e f = let g : Some x ≡ Some y = sym e ∙ f in cc
 
-not_both : {A : Type 0} (o : Option A) (x : A) → o ≡ Some x → o ≡ None → ⊥
+pub not_both : {A : Type 0} (o : Option A) (x : A) → o ≡ Some x → o ≡ None → ⊥
 not_both o x e f = let g : Some x ≡ None = sym e ∙ f in cc
 
 module _ (recs : List AsmRec) where
@@ -93,7 +93,7 @@ module _ (recs : List AsmRec) where
   unfolding reads_same
   again n x y r = rows_again (reads_same recs n) x y r
 
-  none_reads : (x y : RowAt) → reads_same recs zero x y ≡ true → ⊥
+  pub none_reads : (x y : RowAt) → reads_same recs zero x y ≡ true → ⊥
   unfolding reads_same
   none_reads x y h = cc
 

@@ -179,6 +179,7 @@ module _ (recs : List AsmRec) (records : InputsAreRecords recs) (P : TypeId → 
       (plain_fine recs records P there_so array at.asm rec there input row.declaration (no_spec (table_of row.declaration) (of_coded rec MethodDefOrRef row.declaration is.2).table))))
 
   interfaces_fine : (at : RowAt) → Input at → All (met_interfaces recs kept at)
+  unfolding parts_of_impl row_of
   interfaces_fine at input =
       all_option Holds (λ (rec : AsmRec). each_row (met_interface recs kept at rec) rec.interface_impl) (rec_at recs at)
       (λ rec there.
@@ -188,7 +189,6 @@ module _ (recs : List AsmRec) (records : InputsAreRecords recs) (P : TypeId → 
       (λ h. interface_fine rec there k row is (and_parts (row.class == token_of table.TYPE_DEF (suc at.row)) (kept (impl_item recs (at_row at.asm k))) h).1)))
     where
       interface_fine : (rec : AsmRec) → slice_get recs at.asm ≡ Some rec → (k : ℕ) (row : InterfaceImplRow) → slice_get rec.interface_impl k ≡ Some row → kept (impl_item recs (at_row at.asm k)) ≡ true → All (met_token recs at.asm rec row.interface)
-      unfolding parts_of_impl row_of
       interface_fine rec there k row is keeps =
           let x : RowAt = at_row at.asm k in
           let p : Part = type_token_part recs at.asm rec (token_of table.INTERFACE_IMPL (suc k)) 0 row.interface in
@@ -273,10 +273,10 @@ module _ (recs : List AsmRec) (records : InputsAreRecords recs) (P : TypeId → 
         (λ r e. all_map Here (at_row at.asm) (flat_map (event_places_by r (token_of table.TYPE_DEF (suc at.row))) r.event_map) (λ k c. refl))
 
     of_method : (m : RowAt) → m.asm ≡ at.asm → m.row < length rec.method_def → kept (method_item recs m) ≡ true → All (met_constraints recs m (token_of table.METHOD_DEF (suc m.row)))
+    unfolding parts_of_method row_of
     of_method m same low keeps = by_row m same low keeps
       where
         in_method : (m : RowAt) (r : AsmRec) (d : MethodDefRow) → slice_get recs m.asm ≡ Some r → slice_get r.method_def m.row ≡ Some d → (p : Part) → Contains (constraints_of recs m.asm r (token_of table.METHOD_DEF (suc m.row))) p → Contains (parts_of_item recs (method_item recs m) m) p
-        unfolding parts_of_method
         in_method m r d e is p c =
             let place : ℕ = token_of table.METHOD_DEF (suc m.row) in
             to_option (λ (r : AsmRec). flat_map (row_parts recs m r) (listed (slice_get r.method_def m.row))) (rec_at recs m) r p e
@@ -285,7 +285,6 @@ module _ (recs : List AsmRec) (records : InputsAreRecords recs) (P : TypeId → 
             (Contains-append_right (method_sig_parts recs m.asm r place d.signature) (constraints_of recs m.asm r place) p c)))
 
         method_home : (m : RowAt) (r : AsmRec) → slice_get recs m.asm ≡ Some r → m.row < length r.method_def → row_of recs (method_item recs m) ≡ Some m
-        unfolding row_of
         method_home m r e low = own_home methods_in recs m r e low
 
         by_row : (m : RowAt) → m.asm ≡ at.asm → m.row < length rec.method_def → kept (method_item recs m) ≡ true → All (met_constraints recs m (token_of table.METHOD_DEF (suc m.row)))

@@ -50,7 +50,7 @@ mapped_good f (Bad why) y e = absurd (cc)
 
 -- what is so of each type of the world
 module _ (recs : List AsmRec) (P : TypeId → Type 0) (there_so : (t : TypeId) → t.0 < bound recs → P t) where
-  low_so : (t : TypeId) → IsLow recs t → P t
+  pub low_so : (t : TypeId) → IsLow recs t → P t
   low_so t h = there_so t (ltb-true t.0 (bound recs) h)
 
   -- ---- types of signatures
@@ -72,7 +72,7 @@ module _ (recs : List AsmRec) (P : TypeId → Type 0) (there_so : (t : TypeId) �
   no_number : (t : TypeId) → 0 ≡ suc t.0 → P t
   no_number t e = absurd (omega (arith, e))
 
-  of_number : (t : TypeId) → P t → Number (suc t.0)
+  pub of_number : (t : TypeId) → P t → Number (suc t.0)
   of_number t h u e = let same : t ≡ u = (λ i. record { 0 = less (t.0) (u.0) e i }) in subst P same h
     where
       less : (n m : ℕ) → suc n ≡ suc m → n ≡ m
@@ -234,7 +234,7 @@ module _ (recs : List AsmRec) (P : TypeId → Type 0) (there_so : (t : TypeId) �
         let same : named (record { 0 = t }) ≡ k = cc in
         subst (λ (x : TypeKey). All (types_of_key x)) same (all_one P (record { 0 = t }) (h (record { 0 = t }) refl))
 
-    name_again : (token : ℕ) (e : TypeExpr) → (table_of token == TYPE_SPEC) ≡ false → named_type recs a rec token ≡ Good e → named_in n.types token ≡ Good e
+    pub name_again : (token : ℕ) (e : TypeExpr) → (table_of token == TYPE_SPEC) ≡ false → named_type recs a rec token ≡ Good e → named_in n.types token ≡ Good e
     unfolding named_in
     name_again token e f h = ap (λ (b : Bool). if b then Bad Unresolved else known_or (Some (named_type recs a rec token))) f ∙ h
 
