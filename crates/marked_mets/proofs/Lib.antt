@@ -1,0 +1,5 @@
+pub mod Stays
+pub mod Tokens
+pub mod Signatures
+pub mod Owners
+pub mod Parts
