@@ -3,3 +3,5 @@ pub mod Tokens
 pub mod Signatures
 pub mod Owners
 pub mod Parts
+pub mod Fields
+pub mod Uses
