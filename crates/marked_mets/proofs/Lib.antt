@@ -5,3 +5,7 @@ pub mod Owners
 pub mod Parts
 pub mod Fields
 pub mod Uses
+pub mod Bodies
+pub mod Types
+pub mod Impls
+pub mod Joined
