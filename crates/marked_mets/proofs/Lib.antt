@@ -9,3 +9,4 @@ pub mod Bodies
 pub mod Types
 pub mod Impls
 pub mod Joined
+pub mod Merges

@@ -56,7 +56,7 @@ module _ (recs : List AsmRec) (kept : Kept) where
     -- a claim on signatures that gives what is needed of tokens, and is so of each part
     pub record Opens (P : Sig → Type 0) : Type 0 where
       pub named : (value : Bool) (token : ℕ) → P (sig.Named value token) → TokenStays recs kept a rec token
-      pub instance : (value : Bool) (token : ℕ) (ss : List Sig) → P (sig.Inst value token ss) → TokenStays recs kept a rec token × Every P ss
+      pub generic : (value : Bool) (token : ℕ) (ss : List Sig) → P (sig.Inst value token ss) → TokenStays recs kept a rec token × Every P ss
       pub array : (s : Sig) → P (sig.Array s) → P s
       pub by_ref : (s : Sig) → P (sig.ByRef s) → P s
       pub modified : (required : Bool) (token : ℕ) (s : Sig) → P (sig.Mod required token s) → NumberStays recs kept (modifier_number recs a rec token) × P s
@@ -97,7 +97,7 @@ module _ (recs : List AsmRec) (kept : Kept) where
       layer_fine (Sig-F.Inst v token xs) h =
           let k : ℕ = class_number recs a rec token in
           let ss : List Sig = map world (plain xs) in
-          let t = opens.instance v token (plain xs) (from (Sig-F.Inst v token (plain xs)) (sig.Inst v token (plain xs)) (sig.rolls-Inst v token (plain xs)) h) in
+          let t = opens.generic v token (plain xs) (from (Sig-F.Inst v token (plain xs)) (sig.Inst v token (plain xs)) (sig.rolls-Inst v token (plain xs)) h) in
           of_layer (NumberStays recs kept) (Sig-F.Inst v k ss) (sig.Inst v k ss) (sig.rolls-Inst v k ss)
           (all_more (NumberStays recs kept) k (flat_map (λ ns. ns) (map numbers_in ss)) (class_stays recs kept a rec token t.0) (args_fine xs t.1.each))
       layer_fine (Sig-F.Var n) h = of_layer (NumberStays recs kept) (Sig-F.Var n) (sig.Var n) (sig.rolls-Var n) (all_none (NumberStays recs kept))
@@ -123,9 +123,9 @@ module _ (recs : List AsmRec) (kept : Kept) where
     -- ---- signatures that name types that stay
 
     pub record Reads (s : Sig) : Type 0 where
-      pub expr : TypeExpr
-      pub is : sig_expr (names_at recs a rec) s ≡ Good expr
-      pub stays : Stay recs kept expr
+      pub of : TypeExpr
+      pub is : sig_expr (names_at recs a rec) s ≡ Good of
+      pub stays : Stay recs kept of
 
     abbrev n : Names
     n = names_at recs a rec
@@ -161,38 +161,38 @@ module _ (recs : List AsmRec) (kept : Kept) where
         let g = good_then (λ (y : TypeExpr). known_map (λ ys. y ∷ ys) (all_known (map (sig_expr n) ss))) (sig_expr n s) es h in
         let i = good_map (λ (ys : List TypeExpr). g.from ∷ ys) (all_known (map (sig_expr n) ss)) es g.gives in
         let both : StayAll recs kept (naming.types_in g.from ++ flat_map (λ ts. ts) (map naming.types_in i.from)) = subst (λ (ys : List TypeExpr). StayAll recs kept (flat_map (λ ts. ts) (map naming.types_in ys))) (sym i.gives) stay in
-        all_more Reads s ss (record { expr = g.from; is = g.is; stays = front_stays (naming.types_in g.from) (flat_map (λ ts. ts) (map naming.types_in i.from)) both })
+        all_more Reads s ss (record { of = g.from; is = g.is; stays = front_stays (naming.types_in g.from) (flat_map (λ ts. ts) (map naming.types_in i.from)) both })
         (reads_args ss i.from i.is (back_stays (naming.types_in g.from) (flat_map (λ ts. ts) (map naming.types_in i.from)) both))
 
     reads_open : Opens Reads
     reads_open = record {
       named = λ v token r.
-          let f : named_in n.types token ≡ Good r.expr = sym (layer_is (Sig-F.Named v token) (sig.Named v token) (sig.rolls-Named v token)) ∙ r.is in
-          good_token recs kept a rec token r.expr (named_good recs kept a rec token r.expr f) r.stays;
-      instance = λ v token ss r.
-          let g = good_then (λ (d : TypeId). known_map (λ (ys : List TypeExpr). expr.Inst d ys) (all_known (map (sig_expr n) ss))) (definition_named n token) r.expr
+          let f : named_in n.types token ≡ Good r.of = sym (layer_is (Sig-F.Named v token) (sig.Named v token) (sig.rolls-Named v token)) ∙ r.is in
+          good_token recs kept a rec token r.of (named_good recs kept a rec token r.of f) r.stays;
+      generic = λ v token ss r.
+          let g = good_then (λ (d : TypeId). known_map (λ (ys : List TypeExpr). expr.Inst d ys) (all_known (map (sig_expr n) ss))) (definition_named n token) r.of
           (sym (layer_is (Sig-F.Inst v token ss) (sig.Inst v token ss) (sig.rolls-Inst v token ss)) ∙ r.is) in
-          let i = good_map (λ (ys : List TypeExpr). expr.Inst g.from ys) (all_known (map (sig_expr n) ss)) r.expr g.gives in
+          let i = good_map (λ (ys : List TypeExpr). expr.Inst g.from ys) (all_known (map (sig_expr n) ss)) r.of g.gives in
           let rest : List TypeId = flat_map (λ ts. ts) (map naming.types_in i.from) in
           let all : StayAll recs kept (g.from ∷ rest) = subst (StayAll recs kept) (ap naming.types_in (sym i.gives) ∙ inst_types g.from i.from) r.stays in
           (definition_stays recs kept a rec token g.from g.is (all.each g.from (first_in g.from rest)), reads_args ss i.from i.is (tail_stays g.from rest all));
       array = λ s r.
-          let g = good_map (λ (x : TypeExpr). expr.Array x) (sig_expr n s) r.expr (sym (layer_is (Sig-F.Array s) (sig.Array s) (sig.rolls-Array s)) ∙ r.is) in
-          record { expr = g.from; is = g.is; stays = subst (StayAll recs kept) (ap naming.types_in (sym g.gives) ∙ array_types g.from) r.stays };
+          let g = good_map (λ (x : TypeExpr). expr.Array x) (sig_expr n s) r.of (sym (layer_is (Sig-F.Array s) (sig.Array s) (sig.rolls-Array s)) ∙ r.is) in
+          record { of = g.from; is = g.is; stays = subst (StayAll recs kept) (ap naming.types_in (sym g.gives) ∙ array_types g.from) r.stays };
       by_ref = λ s r.
-          let g = good_map (λ (x : TypeExpr). expr.ByRef x) (sig_expr n s) r.expr (sym (layer_is (Sig-F.ByRef s) (sig.ByRef s) (sig.rolls-ByRef s)) ∙ r.is) in
-          record { expr = g.from; is = g.is; stays = subst (StayAll recs kept) (ap naming.types_in (sym g.gives) ∙ by_ref_types g.from) r.stays };
+          let g = good_map (λ (x : TypeExpr). expr.ByRef x) (sig_expr n s) r.of (sym (layer_is (Sig-F.ByRef s) (sig.ByRef s) (sig.rolls-ByRef s)) ∙ r.is) in
+          record { of = g.from; is = g.is; stays = subst (StayAll recs kept) (ap naming.types_in (sym g.gives) ∙ by_ref_types g.from) r.stays };
       modified = λ q token s r.
-          let g = good_then (λ (d : TypeId). known_map (λ (x : TypeExpr). expr.Mod q d x) (sig_expr n s)) (modifier_named n token) r.expr (sym (layer_is (Sig-F.Mod q token s) (sig.Mod q token s) (sig.rolls-Mod q token s)) ∙ r.is) in
-          let i = good_map (λ (x : TypeExpr). expr.Mod q g.from x) (sig_expr n s) r.expr g.gives in
+          let g = good_then (λ (d : TypeId). known_map (λ (x : TypeExpr). expr.Mod q d x) (sig_expr n s)) (modifier_named n token) r.of (sym (layer_is (Sig-F.Mod q token s) (sig.Mod q token s) (sig.rolls-Mod q token s)) ∙ r.is) in
+          let i = good_map (λ (x : TypeExpr). expr.Mod q g.from x) (sig_expr n s) r.of g.gives in
           let rest : List TypeId = naming.types_in i.from in
           let all : StayAll recs kept (g.from ∷ rest) = subst (StayAll recs kept) (ap naming.types_in (sym i.gives) ∙ mod_types q g.from i.from) r.stays in
-          (modified_stays recs kept a rec token g.from g.is (all.each g.from (first_in g.from rest)), record { expr = i.from; is = i.is; stays = tail_stays g.from rest all });
-      pinned = λ s r. record { expr = r.expr; is = sym (layer_is (Sig-F.Pinned s) (sig.Pinned s) (sig.rolls-Pinned s)) ∙ r.is; stays = r.stays };
+          (modified_stays recs kept a rec token g.from g.is (all.each g.from (first_in g.from rest)), record { of = i.from; is = i.is; stays = tail_stays g.from rest all });
+      pinned = λ s r. record { of = r.of; is = sym (layer_is (Sig-F.Pinned s) (sig.Pinned s) (sig.rolls-Pinned s)) ∙ r.is; stays = r.stays };
     }
 
     pub sig_stays : (s : Sig) (e : TypeExpr) → sig_expr (names_at recs a rec) s ≡ Good e → Stay recs kept e → StayAll recs kept (types_of_sig (world_sig recs a rec s))
-    sig_stays s e is h = world_stays Reads reads_open s (record { expr = e; is = is; stays = h })
+    sig_stays s e is h = world_stays Reads reads_open s (record { of = e; is = is; stays = h })
 
     -- ---- lists of signatures, and those of methods
 
@@ -218,7 +218,7 @@ module _ (recs : List AsmRec) (kept : Kept) where
         let i = good_map (λ (params : List TypeExpr). method_type_of s g.from params) (all_known (map (sig_expr n) s.params)) t g.gives in
         let all : Every (Stay recs kept) (g.from ∷ i.from) = subst (λ (u : MethodType). Every (Stay recs kept) (u.ret ∷ u.params)) (sym i.gives) stay in
         sigs_by Reads (world_stays Reads reads_open) (s.ret ∷ s.params)
-        (all_more Reads s.ret s.params (record { expr = g.from; is = g.is; stays = all.each g.from (first_in g.from i.from) })
+        (all_more Reads s.ret s.params (record { of = g.from; is = g.is; stays = all.each g.from (first_in g.from i.from) })
         (reads_of s.params i.from i.is (record { each = λ e c. all.each e (later_in g.from i.from e c) })))
 
     -- ---- signatures of an assembly all of whose tokens name types that stay, as those of the core library do
@@ -230,7 +230,7 @@ module _ (recs : List AsmRec) (kept : Kept) where
       any_open : Opens Any
       any_open = record {
         named = λ v token h. tokens token;
-        instance = λ v token ss h. (tokens token, record { each = λ s c. tt });
+        generic = λ v token ss h. (tokens token, record { each = λ s c. tt });
         array = λ s h. tt;
         by_ref = λ s h. tt;
         modified = λ q token s h. (modifier_stays recs kept a rec token (class_stays recs kept a rec token (tokens token)), tt);

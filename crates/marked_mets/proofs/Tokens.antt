@@ -1,6 +1,6 @@
 -- The number that a token of a type has in a signature: its type stays where the definition does that the token names.
 use Rattle.std.proofs.Common.{◌≡◌, ◌<◌, ◌≤◌, ℕ, zero, suc, ◌+◌, ◌-◌, List, [], ◌∷◌, length, Bool, true, false, Option, Some, None, refl, sym, ap, subst, ◌∙◌, arith}
-use Rattle.std.specs.Prelude.{slice_get, position, ◌==◌, if◌then◌else◌}
+use Rattle.std.specs.Prelude.{slice_get, position, nat_le, ◌==◌, ◌&&◌, if◌then◌else◌}
 use Rattle.std.specs.List.{Contains}
 use Rattle.std.specs.Option.{option_map, option_and_then}
 use Rattle.std.proofs.lemmas.Bool.{eqb-true}
@@ -14,11 +14,13 @@ use Rattle.world_model.specs.declared.expr.TypeExpr as exprs
 use Rattle.world_model.specs.declared.expr.TypeExpr.TheFolds.{map-TypeExpr}
 use Rattle.world_model.specs.declared.expr.TypeExpr.TheOpen.{TypeExpr-F}
 use Rattle.world_model.specs.declared.expr.TypeExpr.TheVariants as expr
+use Rattle.world_model.specs.declared.types.TypeRefRow.{TypeRefRow}
 use Rattle.world_model.specs.declared.record.AsmRec.{AsmRec}
 use Rattle.world_model.specs.Tokens.{table_of, index_in}
 use Rattle.world_model.specs.Worlds.{types_in, type_id, row_below, core_types, is_code_of, prim_type, known_then, known_type, named_in, definition_of, definition_named, found_or_named, modifier_named}
+use Rattle.core_table.specs.declared.types.TheConstants.{TYPE_COUNT}
 use Rattle.link_rules.specs.declared.row_at.RowAt.{RowAt}
-use Rattle.link_rules.specs.Types.{at_row, is_added, added_at, ref_at, ref_type, ref_definition, added_type, definition_at, added_by}
+use Rattle.link_rules.specs.Types.{at_row, is_added, listed_at, added_at, ref_at, ref_type, ref_definition, added_type, definition_at, added_by}
 use Rattle.link_rules.specs.Signatures.{prim_at, definition_expr, known_expr, named_type, names_at}
 use Rattle.type_laws.proofs.Upwards.{out_is}
 use Rattle.known_laws.proofs.Lists.{first_in, one_is, and_then_some, map_some}
@@ -129,7 +131,7 @@ module _ (recs : List AsmRec) (kept : Kept) where
 
     -- ---- names that only modifiers find are of the core library
 
-    added_last : (at there : RowAt) (b c : Bool) → (suc at.asm == length recs) ≡ b → (if (if b then c else false) then Some at else None) ≡ Some there → (suc at.asm ≡ length recs) × (at ≡ there)
+    added_last : (at there : RowAt) (b c : Bool) → (suc at.asm == length recs) ≡ b → (if b && c then Some at else None) ≡ Some there → (suc at.asm ≡ length recs) × (at ≡ there)
     added_last at there true true e h = (eqb-true (suc at.asm) (length recs) e, cc)
     added_last at there true false e h = absurd (cc)
     added_last at there false c e h = absurd (cc)
@@ -140,7 +142,7 @@ module _ (recs : List AsmRec) (kept : Kept) where
         let k = and_then_some (added_type recs a rec) (index_in table.TYPE_REF token) t e in
         let m = map_some (λ (at : RowAt). type_id recs at.asm at.row) (option_and_then (added_at recs) (ref_at recs a rec k.0)) t k.2 in
         let r = and_then_some (added_at recs) (ref_at recs a rec k.0) m.0 m.1 in
-        let l = added_last r.0 m.0 (suc r.0.asm == length recs) _ refl r.2 in
+        let l = added_last r.0 m.0 (suc r.0.asm == length recs) (nat_le TYPE_COUNT r.0.row) refl r.2 in
         subst (Stays recs kept) m.2 (last_stays recs kept m.0.asm m.0.row (subst (λ (x : RowAt). suc x.asm ≡ length recs) l.1 l.0))
 
     pub modifier_stays : (token : ℕ) → NumberStays (class_number recs a rec token) → NumberStays (modifier_number recs a rec token)
@@ -207,8 +209,8 @@ module _ (recs : List AsmRec) (kept : Kept) where
         subst (λ (x : RowAt). Stays recs kept (type_id recs x.asm x.row)) m.2 (last_stays recs kept a m.0 last)
     token_by token at false last none e =
         let m = and_then_some (ref_definition recs a rec) (index_in table.TYPE_REF token) at e in
-        let r = and_then_some _ (ref_at recs a rec m.0) at m.2 in
-        let f : None ≡ Some r.0 = sym (ap (λ (n : ℕ). ref_type recs a rec n m.0) (ap (λ xs. length xs) none)) ∙ r.1 in
+        let r = and_then_some (listed_at recs) (ref_at recs a rec m.0) at m.2 in
+        let f : None ≡ Some r.0 = sym (ap (λ (n : ℕ). ref_type recs a rec n m.0) (ap (λ (xs : List TypeRefRow). length xs) none)) ∙ r.1 in
         absurd (cc)
 
     pub core_token : suc a ≡ length recs → rec.type_ref ≡ [] → (token : ℕ) → TokenStays token

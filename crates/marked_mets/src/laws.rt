@@ -1,11 +1,6 @@
-ghost use Rattle.marked_mets.specs.Laws.{MembersAreKept, TypesAreKept};
+ghost use Rattle.marked_mets.specs.Laws.{MetsOfTypesAreKept};
 
-/// A law: types of inputs in what the output meets are kept. It does nothing.
-pub fn types_are_kept()
-    ensures { TypesAreKept }
-{}
-
-/// A law: so are members of inputs that it meets. It does nothing.
-pub fn members_are_kept()
-    ensures { MembersAreKept }
+/// A law: what kept types meet of inputs is kept, types and members. It does nothing.
+pub fn mets_of_types_are_kept()
+    ensures { MetsOfTypesAreKept }
 {}
