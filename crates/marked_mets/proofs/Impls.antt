@@ -123,10 +123,10 @@ module _ (recs : List AsmRec) (kept : Kept) (bare : CoreIsBare recs) (records : 
 
     module _ (j : ℕ) (row : MethodImplRow) (is : slice_get rec.method_impl j ≡ Some row) (passes : list_any (is_kept_method recs kept) (listed (method_key recs a rec row.body)) ≡ true) where
       body_plain : (table_of row.body == table.METHOD_SPEC) ≡ false
-      body_plain = no_spec (table_of row.body) (of_coded rec MethodDefOrRef row.body ((records a rec input there).tokens.method_impls j row is).0).table
+      body_plain = no_spec (table_of row.body) (of_coded rec MethodDefOrRef row.body ((records a rec input there).tokens.method_impls j row is).1).table
 
       declaration_plain : (table_of row.declaration == table.METHOD_SPEC) ≡ false
-      declaration_plain = no_spec (table_of row.declaration) (of_coded rec MethodDefOrRef row.declaration ((records a rec input there).tokens.method_impls j row is).1).table
+      declaration_plain = no_spec (table_of row.declaration) (of_coded rec MethodDefOrRef row.declaration ((records a rec input there).tokens.method_impls j row is).2).table
 
       row_fine : Every (Fine recs kept) (met_callee recs a rec row.body ++ met_callee recs a rec row.declaration)
       row_fine =

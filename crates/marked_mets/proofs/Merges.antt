@@ -7,7 +7,7 @@ use Rattle.il_base.specs.declared.ids.Item.{Item}
 use Rattle.descriptor_file.specs.declared.root.Root.{Root}
 use Rattle.world_model.specs.declared.record.AsmRec.{AsmRec}
 use Rattle.world_model.specs.Records.{IsRecord}
-use Rattle.core_table.specs.Record.{core_record}
+use Rattle.core_table.specs.Record.{core_record, record_with}
 use Rattle.link_rules.specs.declared.row_at.RowAt.{RowAt}
 use Rattle.link_rules.specs.declared.core_type_name.CoreTypeName.{CoreTypeName}
 use Rattle.link_rules.specs.CoreNames.{missing_names, core_with}
@@ -28,7 +28,7 @@ last_is [] x = refl
 last_is (y ∷ xs) x = last_is xs x
 
 core_refs : (names : List CoreTypeName) → (core_with core_record names).type_ref ≡ []
-unfolding core_with core_record
+unfolding core_with core_record record_with
 core_refs names = refl
 
 bare_with : (inputs : List AsmRec) (core : AsmRec) → core.type_ref ≡ [] → CoreIsBare (inputs ++ core ∷ [])

@@ -153,16 +153,16 @@ module _ (recs : List AsmRec) (kept : Kept) (bare : CoreIsBare recs) (records : 
         let passes = (and_parts (row.class == token_of table.TYPE_DEF (suc at.row)) (kept (impl_item recs (at_row at.asm k))) h).1 in
         token_of_part (impl_item recs (at_row at.asm k)) (at_row at.asm k) rec (impl_home k row is) passes there input (token_of table.INTERFACE_IMPL (suc k)) row.interface (λ z. impl_part k row is)))
 
-  extends_fine : (at : RowAt) → Input at → kept (type_item recs at) ≡ true → ((rec : AsmRec) → slice_get recs at.asm ≡ Some rec → at.row < types_in rec) → All (met_extends recs at)
+  pub extends_fine : (at : RowAt) → Input at → kept (type_item recs at) ≡ true → ((rec : AsmRec) → slice_get recs at.asm ≡ Some rec → at.row < types_in rec) → All (met_extends recs at)
   extends_fine at input keeps below =
       all_option (Fine recs kept) (λ (rec : AsmRec). flat_map (λ (t : TypeDefRow). met_token recs at.asm rec t.extends) (listed (slice_get rec.type_def at.row))) (rec_at recs at)
       (λ rec there. extends_row at rec there input keeps (below rec there))
 
-  interfaces_fine : (at : RowAt) → Input at → kept (type_item recs at) ≡ true → ((rec : AsmRec) → slice_get recs at.asm ≡ Some rec → at.row < types_in rec) → All (met_interfaces recs kept at)
+  pub interfaces_fine : (at : RowAt) → Input at → kept (type_item recs at) ≡ true → ((rec : AsmRec) → slice_get recs at.asm ≡ Some rec → at.row < types_in rec) → All (met_interfaces recs kept at)
   interfaces_fine at input keeps below =
       all_option (Fine recs kept) (λ (rec : AsmRec). each_row (met_interface recs kept at rec) rec.interface_impl) (rec_at recs at) (λ rec there. interfaces_rows at rec there input keeps (below rec there))
 
-  own_constraints : (at : RowAt) → Input at → kept (type_item recs at) ≡ true → ((rec : AsmRec) → slice_get recs at.asm ≡ Some rec → at.row < types_in rec) → All (met_constraints recs at (token_of table.TYPE_DEF (suc at.row)))
+  pub own_constraints : (at : RowAt) → Input at → kept (type_item recs at) ≡ true → ((rec : AsmRec) → slice_get recs at.asm ≡ Some rec → at.row < types_in rec) → All (met_constraints recs at (token_of table.TYPE_DEF (suc at.row)))
   own_constraints at input keeps below =
       all_option (Fine recs kept) (λ (rec : AsmRec). each_row (met_param recs at.asm rec (token_of table.TYPE_DEF (suc at.row))) rec.generic_param) (rec_at recs at) (λ rec there. type_params at rec there input keeps (below rec there))
 
@@ -180,7 +180,7 @@ module _ (recs : List AsmRec) (kept : Kept) (bare : CoreIsBare recs) (records : 
         to_option (λ (r : AsmRec). flat_map (λ (x : FieldRow). sig_parts recs at.asm r (token_of table.FIELD (suc at.row)) x.signature) (listed (slice_get r.field at.row))) (rec_at recs at) rec p there
         (to_option (λ (x : FieldRow). sig_parts recs at.asm rec (token_of table.FIELD (suc at.row)) x.signature) (slice_get rec.field at.row) f p is c)
 
-    field_row_fine : All (met_field_row recs at)
+    pub field_row_fine : All (met_field_row recs at)
     field_row_fine =
         all_option (Fine recs kept) (λ (rec : AsmRec). flat_map (λ (f : FieldRow). met_good_sig recs at.asm rec f.signature) (listed (slice_get rec.field at.row))) (rec_at recs at)
         (λ rec there.
@@ -204,7 +204,7 @@ module _ (recs : List AsmRec) (kept : Kept) (bare : CoreIsBare recs) (records : 
         to_option (λ (r : AsmRec). flat_map (λ (y : PropertyRow). method_sig_parts recs at.asm r (token_of table.PROPERTY (suc at.row)) y.signature) (listed (slice_get r.property at.row))) (rec_at recs at) rec p there
         (to_option (λ (y : PropertyRow). method_sig_parts recs at.asm rec (token_of table.PROPERTY (suc at.row)) y.signature) (slice_get rec.property at.row) x p is c)
 
-    property_row_fine : All (met_property_row recs at)
+    pub property_row_fine : All (met_property_row recs at)
     property_row_fine =
         all_option (Fine recs kept) (λ (rec : AsmRec). flat_map (λ (x : PropertyRow). met_method_sig recs at.asm rec x.signature) (listed (slice_get rec.property at.row))) (rec_at recs at)
         (λ rec there.
@@ -227,7 +227,7 @@ module _ (recs : List AsmRec) (kept : Kept) (bare : CoreIsBare recs) (records : 
         to_option (λ (r : AsmRec). flat_map (λ (y : EventRow). type_token_part recs at.asm r (token_of table.EVENT (suc at.row)) 0 y.event_type ∷ []) (listed (slice_get r.event at.row))) (rec_at recs at) rec p there
         (to_option (λ (y : EventRow). type_token_part recs at.asm rec (token_of table.EVENT (suc at.row)) 0 y.event_type ∷ []) (slice_get rec.event at.row) x p is (first_in p []))
 
-    event_row_fine : All (met_event_row recs at)
+    pub event_row_fine : All (met_event_row recs at)
     event_row_fine =
         all_option (Fine recs kept) (λ (rec : AsmRec). flat_map (λ (x : EventRow). met_token recs at.asm rec x.event_type) (listed (slice_get rec.event at.row))) (rec_at recs at)
         (λ rec there.
@@ -246,7 +246,7 @@ module _ (recs : List AsmRec) (kept : Kept) (bare : CoreIsBare recs) (records : 
         params_fine (method_item recs at) at rec method_home_is keeps there input (token_of table.METHOD_DEF (suc at.row))
         (λ p c. in_constraints recs kept bare records entry roots stays marks good_all at rec there input keeps d is p c)
 
-  method_constraints : (at : RowAt) → Input at → kept (method_item recs at) ≡ true → ((rec : AsmRec) → slice_get recs at.asm ≡ Some rec → (d : MethodDefRow) × (slice_get rec.method_def at.row ≡ Some d))
+  pub method_constraints : (at : RowAt) → Input at → kept (method_item recs at) ≡ true → ((rec : AsmRec) → slice_get recs at.asm ≡ Some rec → (d : MethodDefRow) × (slice_get rec.method_def at.row ≡ Some d))
       → All (met_constraints recs at (token_of table.METHOD_DEF (suc at.row)))
   method_constraints at input keeps has =
       all_option (Fine recs kept) (λ (rec : AsmRec). each_row (met_param recs at.asm rec (token_of table.METHOD_DEF (suc at.row))) rec.generic_param) (rec_at recs at)
