@@ -6,6 +6,7 @@ pub mod Locals
 pub mod Kept
 pub mod Flaws
 pub mod Mets
+pub mod Places
 pub mod Texts
 pub mod Bodies
 pub mod Flags

@@ -151,6 +151,12 @@ module _ (m : Merge) (is : IsMerge m) (rows : HasReferenceRows m) where
       abbrev Moves : Known (List TypeExpr) → Type 0
       Moves k = locals_of (after m) 0 m.left (moved_locals (output m) a rec token) ≡ known_map (move_exprs (rho_of m)) k
 
+      moved_is : (row : StandAloneSigRow) → row_at ≡ Some row → (ss : List Sig) → row.signature ≡ Good ss → moved_locals (output m) a rec token ≡ locals_token (output m) (world_sigs (before m) a rec ss)
+      unfolding moved_locals output_of
+      moved_is row e ss f =
+          ap (token_or_none (locals_row_token (output m) a rec)) e
+          ∙ ap (λ (k : Known (List Sig)). token_or_none (λ xs. locals_token (output m) (world_sigs (before m) a rec xs)) (good k)) f
+
       by_row : (o : Option StandAloneSigRow) → row_at ≡ o → AreGood (locals_row_parts (before m) a rec place o) → AreMet m (flat_map (met_locals_row (before m) a rec) (listed o)) → Moves (locals_row (before m) a rec o)
       by_row None e goods met = absurd (let n = (goods (bad_part place Unresolved) (first_in (bad_part place Unresolved) [])).1 in cc)
       by_row (Some row) e goods met =
@@ -162,12 +168,6 @@ module _ (m : Merge) (is : IsMerge m) (rows : HasReferenceRows m) where
           (subst (λ (k : Known (List Sig)). Contains (map (λ ss. met_locals (world_sigs (before m) a rec ss)) (listed (good k))) (met_locals ws)) (sym s.is) (first_in (met_locals ws) [])) in
           let moved : moved_locals (output m) a rec token ≡ locals_token (output m) ws = moved_is row e s.from s.is in
           ap (locals_of (after m) 0 m.left) moved ∙ sigs_read s.from g.0 s.gives (met (met_locals ws) inside) ∙ sym (ap (known_map (move_exprs (rho_of m))) g.1)
-        where
-          moved_is : (row : StandAloneSigRow) → row_at ≡ Some row → (ss : List Sig) → row.signature ≡ Good ss → moved_locals (output m) a rec token ≡ locals_token (output m) (world_sigs (before m) a rec ss)
-          unfolding moved_locals output_of
-          moved_is row e ss f =
-              ap (token_or_none (locals_row_token (output m) a rec)) e
-              ∙ ap (λ (k : Known (List Sig)). token_or_none (λ xs. locals_token (output m) (world_sigs (before m) a rec xs)) (good k)) f
 
       none_moved : token ≡ 0 → moved_locals (output m) a rec token ≡ 0
       unfolding moved_locals

@@ -19,13 +19,14 @@ use Rattle.link_rules.specs.declared.row_at.RowAt.{RowAt}
 use Rattle.link_rules.specs.Types.{at_row}
 use Rattle.link_rules.specs.Members.{owns_method}
 use Rattle.link_rules.specs.Cycles.{listed}
-use Rattle.type_rules.specs.Rows.{rec_at, run_places, methods_of_type}
+use Rattle.type_rules.specs.Rows.{rec_at, run_places, methods_of_type, fields_of_type}
 use Rattle.type_rules.specs.Slots.{type_of_method}
 use Rattle.known_laws.proofs.Lists.{to_flat, to_map, to_option, and_then_some, map_some}
-use Rattle.mark_rules.specs.Places.{type_item, method_item}
+use Rattle.mark_rules.specs.Places.{type_item, method_item, field_item, prop_item, event_item}
+use Rattle.mark_rules.specs.Members.{properties_of_type, events_of_type}
 use Rattle.mark_rules.specs.Bodies.{body_of, is_catch}
 use Rattle.merge_rules.specs.Numbers.{kept_types}
-use Rattle.merge_rules.specs.Order.{Met, met_token, met_operand, met_locals_token, met_method_sig, met_body, met_method_row, those, met_in_type, met_by_types, met_impls}
+use Rattle.merge_rules.specs.Order.{Met, met_token, met_operand, met_locals_token, met_method_sig, met_body, met_method_row, those, met_in_type, met_by_types, met_impls, met_extends, met_interfaces, met_field_row, met_constraints, met_property_row, met_event_row}
 use Rattle.merge_rules.specs.Attributes.{met_by_attributes}
 use Rattle.merge_rules.specs.Restricted.{output_of}
 use Rattle.merged_record.proofs.Lists.{OfInput}
@@ -75,25 +76,28 @@ module _ (m : Merge) (is : IsMerge m) (at : RowAt) (rec : AsmRec) (row : MethodD
         let o = owner_is m at rec owner h.there of in
         let t : TypeDefRow = o.row in
         let p = and_parts (nat_le t.method_list_first (suc at.row)) (nat_lt (suc at.row) t.method_list_end) o.owns in
-        let record_is = is.records at.asm rec (sym (before_input m at.asm h.input) ∙ h.there) in
+        let whole = is.records at.asm rec (sym (before_input m at.asm h.input) ∙ h.there) in
         subst (λ (x : RowAt). Contains (methods_of_type (before m) x) at) o.same
-        (to_option (λ (r : AsmRec). flat_map (λ (y : TypeDefRow). map_rows y r) (listed (slice_get r.type_def o.place))) (rec_at (before m) (at_row at.asm o.place)) rec at h.there
-        (to_option (λ (y : TypeDefRow). map_rows y rec) (slice_get rec.type_def o.place) t at o.is
+        (to_option (λ (r : AsmRec). flat_map (λ (y : TypeDefRow). map (at_row at.asm) (run_places y.method_list_first y.method_list_end r.method_def)) (listed (slice_get r.type_def o.place))) (rec_at (before m) (at_row at.asm o.place)) rec at h.there
+        (to_option (λ (y : TypeDefRow). map (at_row at.asm) (run_places y.method_list_first y.method_list_end rec.method_def)) (slice_get rec.type_def o.place) t at o.is
         (to_map (at_row at.asm) (run_places t.method_list_first t.method_list_end rec.method_def) at.row
-        (in_places t.method_list_first t.method_list_end rec.method_def at.row (leb-true t.method_list_first (suc at.row) p.0) (record_is.runs.methods.begins o.place t o.is) (ltb-true (suc at.row) t.method_list_end p.1)
+        (in_places t.method_list_first t.method_list_end rec.method_def at.row (leb-true t.method_list_first (suc at.row) p.0) (whole.runs.methods.begins o.place t o.is) (ltb-true (suc at.row) t.method_list_end p.1)
         (place_within rec.method_def at.row row h.is)))))
-      where
-        abbrev map_rows : TypeDefRow → AsmRec → List RowAt
-        map_rows y r = map (at_row at.asm) (run_places y.method_list_first y.method_list_end r.method_def)
 
     in_type : (x : Met) → Contains (flat_map (met_method_row (before m)) (those (before m) m.kept (method_item (before m)) (methods_of_type (before m) owner))) x → Contains (met_in_type (before m) m.kept owner) x
     in_type x c =
-        Contains-append_left _ (met_impls (before m) m.kept owner) x
-        (Contains-append_left _ _ x
-        (Contains-append_left _ _ x
-        (Contains-append_left _ _ x
-        (Contains-append_left _ _ x
-        (Contains-append_right _ (flat_map (met_method_row (before m)) (those (before m) m.kept (method_item (before m)) (methods_of_type (before m) owner))) x c)))))
+        let recs : List AsmRec = before m in
+        let methods : List RowAt = those recs m.kept (method_item recs) (methods_of_type recs owner) in
+        let first : List Met = met_extends recs owner ++ met_interfaces recs m.kept owner ++ flat_map (met_field_row recs) (those recs m.kept (field_item recs) (fields_of_type recs owner)) in
+        let here : List Met = flat_map (met_method_row recs) methods in
+        let own : List Met = met_constraints recs owner (token_of table.TYPE_DEF (suc owner.row)) in
+        let others : List Met = flat_map (λ y. met_constraints recs y (token_of table.METHOD_DEF (suc y.row))) methods in
+        let props : List Met = flat_map (met_property_row recs) (those recs m.kept (prop_item recs) (properties_of_type recs owner)) in
+        let events : List Met = flat_map (met_event_row recs) (those recs m.kept (event_item recs) (events_of_type recs owner)) in
+        Contains-append_left (first ++ here ++ own ++ others ++ props ++ events) (met_impls recs m.kept owner) x
+        (Contains-append_left (first ++ here ++ own ++ others ++ props) events x
+        (Contains-append_left (first ++ here ++ own ++ others) props x
+        (Contains-append_left (first ++ here ++ own) others x (Contains-append_left (first ++ here) own x (Contains-append_right first here x c)))))
 
     row_met : AreMet m (met_method_row (before m) at)
     unfolding output_of met_by_types

@@ -1,5 +1,5 @@
 -- `<Module>` of the first input is the first type of the output, so a kept method that isn't global isn't global there.
-use Rattle.std.proofs.Common.{◌≡◌, ◌<◌, ◌≤◌, ℕ, zero, suc, ◌+◌, Bool, true, false, List, [], ◌∷◌, ◌++◌, length, Option, Some, None, ◌⊎◌, inl, inr, refl, sym, ap, subst, ◌∙◌, arith, eq-eqb}
+use Rattle.std.proofs.Common.{◌≡◌, ◌<◌, ◌≤◌, ℕ, zero, suc, ◌+◌, Bool, true, false, List, [], ◌∷◌, ◌++◌, length, codes, Option, Some, None, ◌⊎◌, inl, inr, refl, sym, ap, subst, ◌∙◌, arith, eq-eqb}
 use Rattle.std.specs.Prelude.{slice_get, ◌==◌, ◌&&◌, ◌||◌, if◌then◌else◌}
 use Rattle.std.specs.List.{Contains, flat_map, list_any}
 use Rattle.std.specs.Option.{is_some, option_and_then}
@@ -9,6 +9,7 @@ use Rattle.il_base.specs.declared.ids.Item.TheVariants as item
 use Rattle.descriptor_file.specs.declared.root.Root.{Root}
 use Rattle.world_model.specs.declared.types.TypeDefRow.{TypeDefRow}
 use Rattle.world_model.specs.declared.record.AsmRec.{AsmRec}
+use Rattle.world_model.specs.Core.{same_name}
 use Rattle.world_model.specs.Worlds.{rows_before, types_in}
 use Rattle.link_rules.specs.declared.row_at.RowAt.{RowAt}
 use Rattle.link_rules.specs.Types.{at_row}
@@ -36,10 +37,7 @@ or_none b e = or_left b false e
 -- a row that isn't the first is no `<Module>`
 none_is : (n : ℕ) (xs : List TypeDefRow) → (n == 0) ≡ false → list_any (is_module_type n) xs ≡ false
 none_is n [] e = refl
-none_is n (x ∷ xs) e = first_not x e ∙ none_is n xs e
-  where
-    first_not : (x : TypeDefRow) → (n == 0) ≡ false → (is_module_type n x || list_any (is_module_type n) xs) ≡ list_any (is_module_type n) xs
-    first_not x e = (λ i. e i && _ && _ || list_any (is_module_type n) xs)
+none_is n (x ∷ xs) e = (λ i. e i && same_name x.name (codes "<Module>") && same_name x.namespace [] || list_any (is_module_type n) xs) ∙ none_is n xs e
 
 pub later_not_global : (recs : List AsmRec) (t : RowAt) → (t.row == 0) ≡ false → is_global recs (Some t) ≡ false
 later_not_global recs t e = ap (λ (b : Bool). b || false) (none_is t.row (listed (type_row_at recs t)) e)

@@ -1,6 +1,6 @@
 -- What the tokens of a kept method name in the world of the output is what they named, moved (III.1.9, II.25.4.6): each of them names
 -- something, and the output refers to it.
-use Rattle.std.proofs.Common.{◌≡◌, ◌<◌, ℕ, suc, ◌+◌, ◌%◌, Bool, true, false, List, [], ◌∷◌, length, map, Option, Some, None, find, refl, sym, ap, subst, ◌∙◌}
+use Rattle.std.proofs.Common.{◌≡◌, ◌<◌, ℕ, suc, ◌+◌, ◌%◌, Bool, true, false, List, [], ◌∷◌, length, map, Option, Some, None, cond, find, refl, sym, ap, subst, ◌∙◌}
 use Rattle.std.specs.Prelude.{slice_get, ◌==◌, ◌||◌, if◌then◌else◌}
 use Rattle.std.specs.List.{Contains, list_any}
 use Rattle.il_base.specs.declared.body.Form.{Form}
@@ -56,13 +56,13 @@ AreGood parts = (p : Part) → Contains parts p → IsGood p
 abbrev pub IsText : Merge → List ℕ → Type 0
 IsText m units = find (is_token (text_token (output m) units)) m.left.user ≡ Some (new_text (output m) units)
 
+found_first : {A : Type 0} (p : A → Bool) (x : A) (xs : List A) → (list_any p xs ≡ true → (y : A) × (find p xs ≡ Some y)) → (b : Bool) → p x ≡ b → (b || list_any p xs) ≡ true → (y : A) × (cond b (Some x) (find p xs) ≡ Some y)
+found_first p x xs later true e f = (x, refl)
+found_first p x xs later false e f = later f
+
 some_found : {A : Type 0} (p : A → Bool) (xs : List A) → list_any p xs ≡ true → (x : A) × (find p xs ≡ Some x)
 some_found p [] e = absurd (cc)
-some_found p (x ∷ xs) e = by_first (p x) refl e
-  where
-    by_first : (b : Bool) → p x ≡ b → (b || list_any p xs) ≡ true → (y : _) × ((if b then Some x else find p xs) ≡ Some y)
-    by_first true f g = (x, refl)
-    by_first false f g = some_found p xs g
+some_found p (x ∷ xs) e = found_first p x xs (some_found p xs) (p x) refl e
 
 module _ (m : Merge) (tokens : ReadsTokens m) (callees : ReadsCallees m) (fields : ReadsFieldTokens m) (a : ℕ) (rec : AsmRec) (there : slice_get (before m) a ≡ Some rec) (input : suc a < length (before m)) where
   abbrev r : Rho

@@ -1,5 +1,5 @@
 -- A text that a kept method loads (III.4.16) is found in the output by its new token: each text has a place of its own, which a token holds.
-use Rattle.std.proofs.Common.{◌≡◌, ◌<◌, ◌≤◌, ℕ, suc, ◌+◌, ◌*◌, ◌%◌, List, [], ◌∷◌, length, map, find, Some, None, refl, sym, ap, subst, ◌∙◌, arith}
+use Rattle.std.proofs.Common.{◌≡◌, ◌<◌, ◌≤◌, ℕ, zero, suc, ◌+◌, ◌*◌, ◌%◌, List, [], ◌∷◌, length, map, find, Some, None, inl, inr, refl, sym, ap, subst, ◌∙◌, arith, eq-eqb, eqb-true}
 use Rattle.std.specs.Prelude.{slice_get}
 use Rattle.std.specs.List.{Contains, flat_map}
 use Rattle.il_base.specs.declared.body.Body.{Body}
@@ -8,6 +8,7 @@ use Rattle.world_model.specs.declared.known.Known.TheVariants.{Good}
 use Rattle.world_model.specs.declared.members.MethodDefRow.{MethodDefRow}
 use Rattle.world_model.specs.declared.record.UserText.{UserText}
 use Rattle.world_model.specs.declared.record.AsmRec.{AsmRec}
+use Rattle.file_layout.specs.Interning.{each_once}
 use Rattle.file_layout.specs.Heaps.{users_heap, user_place}
 use Rattle.record_layout.specs.Limits.{limit_of}
 use Rattle.link_rules.specs.declared.row_at.RowAt.{RowAt}
@@ -22,16 +23,24 @@ use Rattle.view_rules.specs.Code.{is_token}
 use Rattle.merge_rules.specs.Numbers.{kept_methods}
 use Rattle.merge_rules.specs.Moved.{texts_by, texts_of_body, texts_of_method, kept_texts, text_token}
 use Rattle.merge_rules.specs.Restricted.{new_text, output_of}
-use Rattle.agreement.proofs.Places.{in_each_once, user_place_within, user_places_apart, found_by_number}
+use Rattle.written_tables.specs.Written.{IsIn}
+use Rattle.written_tables.proofs.Once.{once_law}
+use Rattle.merged_loads.proofs.Lists.{to_place}
+use Rattle.merged_code.proofs.Lists.{found_only}
+use Rattle.merged_code.proofs.Places.{user_place_within, user_places_apart}
 use Rattle.merged_record.proofs.Lists.{OfInput}
 use Rattle.merged_record.proofs.Owned.{to_kept}
 use Rattle.merged_loads.proofs.Limits.{users_few}
 use Rattle.merged_places.proofs.Rows.{place_within}
 use Rattle.merged_places.proofs.Worlds.{left_is}
-use Rattle.merged_references.proofs.Lists.{contained}
 use Rattle.merged_world_rules.specs.Merge.{Merge, IsMerge, before, output}
 use Rattle.merged_code.proofs.Operands.{IsText}
 use Rattle.merged_code.proofs.Kept.{IsKept, body_in}
+
+in_place : {A : Type 0} (xs : List A) (k : ℕ) (x : A) → slice_get xs k ≡ Some x → In x xs
+in_place [] k x e = absurd (cc)
+in_place (y ∷ xs) zero x e = inl (let same : x ≡ y = cc in same)
+in_place (y ∷ xs) (suc k) x e = inr (in_place xs k x e)
 
 module _ (m : Merge) (is : IsMerge m) (within : limit_of m.left ≡ None) where
   abbrev texts : List (List ℕ)
@@ -60,7 +69,8 @@ module _ (m : Merge) (is : IsMerge m) (within : limit_of m.left ≡ None) where
   pub text_found : (u : List ℕ) → In u (kept_texts (output m)) → IsText m u
   text_found u h =
       ap (find (is_token (text_token (output m) u))) user_is
-      ∙ found_by_number (λ (t : UserText). t.token) (new_text (output m)) u (kept_texts (output m)) h (λ y g e. apart y u g h e)
+      ∙ found_only (new_text (output m)) (is_token (text_token (output m) u)) u (kept_texts (output m)) (λ y g e. apart y u g h (eqb-true (text_token (output m) y) (text_token (output m) u) e))
+      (eq-eqb (text_token (output m) u) (text_token (output m) u) refl) h
 
   -- ---- of a kept method
 
@@ -81,9 +91,9 @@ module _ (m : Merge) (is : IsMerge m) (within : limit_of m.left ≡ None) where
     among : (u : List ℕ) → Contains (texts_by rec i.form i.operand) u → In u (kept_texts (output m))
     unfolding kept_texts output_of
     among u c =
-        in_each_once (flat_map (texts_of_method (before m)) (kept_methods (before m) m.kept)) u
-        (contained (flat_map (texts_of_method (before m)) (kept_methods (before m) m.kept)) u
-        (to_flat (texts_of_method (before m)) (kept_methods (before m) m.kept) u (record { item = at; there = in_kept; inside = of_method u c })))
+        let all : List (List ℕ) = flat_map (texts_of_method (before m)) (kept_methods (before m) m.kept) in
+        let p = (once_law all).all u (to_place all u (to_flat (texts_of_method (before m)) (kept_methods (before m) m.kept) u (record { item = at; there = in_kept; inside = of_method u c }))) in
+        in_place (each_once all) p.0 u p.1
 
     pub text_there : (u : List ℕ) → Contains (texts_by rec i.form i.operand) u → IsText m u
     text_there u c = text_found u (among u c)
