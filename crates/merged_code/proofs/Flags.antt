@@ -10,10 +10,11 @@ use Rattle.il_base.specs.Flags.{has_flag}
 use Rattle.world_model.specs.declared.known.Known.{Known}
 use Rattle.world_model.specs.declared.members.MethodDefRow.{MethodDefRow}
 use Rattle.world_model.specs.declared.record.AsmRec.{AsmRec}
+use Rattle.world_model.specs.Worlds.{known_map}
 use Rattle.link_rules.specs.declared.row_at.RowAt.{RowAt}
 use Rattle.mark_rules.specs.BadItems.{no_body, has_other_code, is_platform}
 use Rattle.merge_rules.specs.Refs.{Output}
-use Rattle.merge_rules.specs.Moved.{without, moved_method_row}
+use Rattle.merge_rules.specs.Moved.{without, moved_body, moved_method_row}
 use Rattle.merge_rules.specs.Restricted.{put_rva}
 use Rattle.merged_rows_move.proofs.Flags.{seen_stays}
 
@@ -35,16 +36,16 @@ flag_8192 flags =
 pub seen_same : (flags : ℕ) → bit_and (without 0x4000 flags) 0x450 ≡ bit_and flags 0x450
 seen_same flags = seen_stays 0x4000 0x450 flags refl
 
-body_same : (f : Known Body → Known Body) (o : Option (Known Body)) → elim (option_map f o) [ Some b ↦ false | None ↦ true ] ≡ elim o [ Some b ↦ false | None ↦ true ]
-body_same f None = refl
-body_same f (Some b) = refl
+body_same : (f : Known Body → Known Body) (row : MethodDefRow) (o : Option (Known Body)) → no_body (record row { body = option_map f o }) ≡ no_body (record row { body = o })
+body_same f row None = refl
+body_same f row (Some b) = refl
 
 module _ (rva : ℕ) (o : Output) (at : RowAt) (rec : AsmRec) (row : MethodDefRow) where
   abbrev new : MethodDefRow
   new = put_rva rva (moved_method_row o at rec row)
 
   pub no_body_same : no_body (put_rva rva (moved_method_row o at rec row)) ≡ no_body row
-  no_body_same = body_same _ row.body
+  no_body_same = body_same (known_map (moved_body o at.asm rec)) row row.body
 
   pub platform_same : is_platform (put_rva rva (moved_method_row o at rec row)) ≡ is_platform row
   platform_same =

@@ -53,7 +53,7 @@ map_at f (y ∷ xs) zero x e = let same : y ≡ x = cc in ap (λ z. Some (f z)) 
 map_at f (y ∷ xs) (suc k) x e = map_at f xs k x e
 
 -- the parts of what has no reading are none that name something
-good_parts : {A : Type 0} (place : ℕ) (f : A → List Part) (x : Known A) → AreGood (parts_of place f x) → (y : A) × (x ≡ Good y)
+pub good_parts : {A : Type 0} (place : ℕ) (f : A → List Part) (x : Known A) → AreGood (parts_of place f x) → (y : A) × (x ≡ Good y)
 good_parts place f (Good y) good = (y, refl)
 good_parts place f (Bad why) good = absurd (let n = (good (bad_part place why) (first_in (bad_part place why) [])).1 in cc)
 

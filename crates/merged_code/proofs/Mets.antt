@@ -66,7 +66,7 @@ module _ (m : Merge) (is : IsMerge m) (at : RowAt) (rec : AsmRec) (row : MethodD
     in_kept_types =
         let o = owner_is m at rec owner h.there of in
         let input : OfInput (before m) at.asm rec = record { there = h.there; within = h.input } in
-        subst (λ (x : RowAt). Contains _ x) o.same
+        subst (λ (x : RowAt). Contains (kept_types (before m) m.kept) x) o.same
         (to_kept types_in (type_item (before m)) (before m) m.kept (at_row at.asm o.place) rec input (place_within rec.type_def o.place o.row o.is)
         (subst (λ (x : RowAt). m.kept (type_item (before m) x) ≡ true) (sym o.same) keeps))
 

@@ -86,8 +86,8 @@ module _ (m : Merge) (tokens : ReadsTokens m) (callees : ReadsCallees m) (fields
       pub is : token_type (after m) 0 m.left (moved_type (output m) a rec token) ≡ Good (move_expr (rho_of m) from)
 
     met_key : (token : ℕ) (b : Bool) → (token == 0) ≡ b → b ≡ false → AreMet m (if b then [] else met_types (type_key (before m) a rec token)) → IsMet m a rec token
-    met_key token true e f met = cc
-    met_key token false e f met k g = met (met_type k) (to_map met_type (listed (type_key (before m) a rec token)) k (to_listed (type_key (before m) a rec token) k g))
+    met_key token true e f met = λ k g. absurd (cc)
+    met_key token false e f met = λ k g. met (met_type k) (to_map met_type (listed (type_key (before m) a rec token)) k (to_listed (type_key (before m) a rec token) k g))
 
     moves_type : (token : ℕ) → IsGood (type_part token) → AreMet m (met_token (before m) a rec token) → MovesType token
     moves_type token good met =
@@ -201,8 +201,8 @@ module _ (m : Merge) (tokens : ReadsTokens m) (callees : ReadsCallees m) (fields
     unfolding instruction_of
     instruction_moves i good met texts =
         let size = instr_length (output m) a rec i in
-        let use = operand_moves i.at i.form i.operand good met texts in
-        λ j. record { at = i.at; next = (i.at + size j) % 4294967296; form = i.form; opcode = i.opcode; operand = use j }
+        let names = operand_moves i.at i.form i.operand good met texts in
+        λ j. record { at = i.at; next = (i.at + size j) % 4294967296; form = i.form; opcode = i.opcode; operand = names j }
 
     -- ---- clauses
 
