@@ -1,12 +1,11 @@
 -- Nothing is wrong with a kept method of a marked merge: each of its parts names something, and it has no form outside the profile.
-use Rattle.std.proofs.Common.{◌≡◌, ◌<◌, ℕ, suc, Bool, true, false, List, [], ◌∷◌, ◌++◌, length, Option, Some, None, refl, sym, ap, subst, ◌∙◌, arith}
+use Rattle.std.proofs.Common.{◌≡◌, ℕ, suc, Bool, true, false, List, [], ◌++◌, Option, Some, None, refl, ap}
 use Rattle.std.specs.Prelude.{slice_get, ◌==◌, ◌&&◌, ◌||◌, if◌then◌else◌}
 use Rattle.std.specs.List.{Contains, flat_map, list_any}
 use Rattle.std.specs.Option.{option_and_then}
 use Rattle.std.proofs.lemmas.Bool.{and_from, or_left}
 use Rattle.std.proofs.lemmas.List.Elements.{Contains-append_left, Contains-append_right}
 use Rattle.il_base.specs.declared.ids.Item.{Item}
-use Rattle.il_base.specs.declared.ids.Item.TheVariants as item
 use Rattle.il_base.specs.declared.outside.TheConstants as outside
 use Rattle.il_base.specs.declared.table.TheConstants as table
 use Rattle.il_base.specs.declared.body.Body.{Body}
@@ -31,9 +30,9 @@ use Rattle.type_rules.specs.Rows.{rec_at}
 use Rattle.type_rules.specs.Slots.{type_of_method}
 use Rattle.known_laws.proofs.Lists.{first_in, to_flat, to_option, to_if}
 use Rattle.mark_rules.specs.Places.{row_of, method_item}
-use Rattle.mark_rules.specs.Naming.{Named, Part, bad_part, type_parts, method_type_parts, parts_of, method_sig_parts}
+use Rattle.mark_rules.specs.Naming.{Named, Part, bad_part, type_parts, method_type_parts, method_sig_parts}
 use Rattle.mark_rules.specs.Types.{constraints_of}
-use Rattle.mark_rules.specs.Bodies.{body_of, is_read, are_locals_read, instruction_parts, locals_row_parts, locals_parts, operands_of, code_parts, handler_parts, body_parts}
+use Rattle.mark_rules.specs.Bodies.{body_of, is_read, are_locals_read, instruction_parts, locals_row_parts, locals_parts, operands_of, handler_parts, body_parts}
 use Rattle.mark_rules.specs.Calls.{row_parts, parts_of_method}
 use Rattle.mark_rules.specs.BadItems.{Flaw, flaw, flaw_if, part_flaw, part_flaws, variance_flaws, is_platform, is_interface_body, is_global, body_flaws, method_flaws, own_flaws, attribute_flaws, flaws_of, of_item}
 use Rattle.merged_places.proofs.Rows.{place_within}
@@ -41,7 +40,7 @@ use Rattle.merged_loads.proofs.Flawless.{own_home, not_core}
 use Rattle.merged_signatures.proofs.Reading.{good_then}
 use Rattle.merged_world_rules.specs.Merge.{Merge, before}
 use Rattle.marked_merge_rules.specs.Merges.{IsMarkedMerge}
-use Rattle.merged_code.proofs.Operands.{IsGood, AreGood}
+use Rattle.merged_code.proofs.Operands.{AreGood}
 use Rattle.merged_code.proofs.Locals.{good_parts}
 use Rattle.merged_code.proofs.Kept.{IsKept, body_in}
 

@@ -5,7 +5,6 @@ use Rattle.std.specs.List.{flat_map}
 use Rattle.std.specs.Option.{option_and_then}
 use Rattle.std.proofs.lemmas.Bool.{ne_eqb}
 use Rattle.std.proofs.lemmas.List.{length-map}
-use Rattle.il_base.specs.declared.ids.TypeId.{TypeId}
 use Rattle.il_base.specs.declared.sig.Sig.{Sig}
 use Rattle.il_base.specs.declared.table.TheConstants as table
 use Rattle.world_model.specs.declared.known.Known.{Known}
@@ -24,11 +23,11 @@ use Rattle.link_rules.specs.Members.{arguments_of}
 use Rattle.type_laws.proofs.Within.{In, flat_in}
 use Rattle.known_laws.proofs.Lists.{first_in, to_option}
 use Rattle.key_codes.proofs.SameSig.{sigs_decide}
-use Rattle.mark_rules.specs.Naming.{Part, bad_part, type_parts, parts_of, sigs_parts}
+use Rattle.mark_rules.specs.Naming.{Part, bad_part, type_parts, parts_of}
 use Rattle.mark_rules.specs.Bodies.{locals_row_parts, locals_parts}
 use Rattle.view_rules.specs.Code.{locals_row, locals_of}
 use Rattle.merge_rules.specs.Keys.{good, same_sigs, world_sig, world_sigs}
-use Rattle.merge_rules.specs.Order.{Met, met_locals, met_locals_row, met_locals_token}
+use Rattle.merge_rules.specs.Order.{met_locals, met_locals_row, met_locals_token}
 use Rattle.merge_rules.specs.Refs.{row_token, types_of_sig, types_of_sigs, locals_of_met, locals_sigs, locals_rows, locals_token, new_sig}
 use Rattle.merge_rules.specs.Moved.{token_or_none, locals_row_token, moved_locals}
 use Rattle.merge_rules.specs.Restricted.{output_of}
@@ -40,7 +39,7 @@ use Rattle.merged_references.proofs.Lists.{Placed, has_place, contains, containe
 use Rattle.merged_references.proofs.Tokens.{token_table, token_index}
 use Rattle.merged_references.proofs.Left.{left_locals}
 use Rattle.merged_references.proofs.Merges.{premises}
-use Rattle.merged_signatures.specs.Laws.{IsThere, AreThere}
+use Rattle.merged_signatures.specs.Laws.{AreThere}
 use Rattle.merged_signatures.proofs.Reading.{good_map, good_then}
 use Rattle.merged_signatures.proofs.Merges.{sig_moves}
 use Rattle.marked_merge_rules.specs.Reads.{AreMet, AllThere}

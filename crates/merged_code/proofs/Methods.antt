@@ -1,9 +1,7 @@
 -- All of a kept method moves.
-use Rattle.std.proofs.Common.{◌≡◌, ◌<◌, ℕ, suc, Bool, true, false, List, length, codes, Option, Some, None, inl, inr, refl, sym, ap, subst, ◌∙◌, arith}
-use Rattle.std.specs.Prelude.{IsTrue, slice_get, bit_and, not, ◌==◌, ◌&&◌, ◌||◌, if◌then◌else◌}
-use Rattle.std.specs.List.{list_any}
+use Rattle.std.proofs.Common.{◌≡◌, ◌<◌, suc, Bool, true, false, List, length, codes, Option, Some, None, refl, sym, ap, ◌∙◌}
+use Rattle.std.specs.Prelude.{IsTrue, slice_get, bit_and, if◌then◌else◌}
 use Rattle.std.specs.Option.{option_map, option_and_then}
-use Rattle.std.proofs.lemmas.Bool.{ne_eqb, eq-eqb}
 use Rattle.il_base.specs.declared.outside.TheConstants.{PLATFORM, INTERFACE_BODY, GLOBAL_MEMBER}
 use Rattle.descriptor_file.specs.declared.root.Root.{Root}
 use Rattle.world_model.specs.declared.known.Known.{Known}
@@ -16,49 +14,30 @@ use Rattle.world_model.specs.Core.{same_name}
 use Rattle.world_model.specs.Worlds.{types_in, known_map, known_then}
 use Rattle.link_rules.specs.declared.row_at.RowAt.{RowAt}
 use Rattle.link_rules.specs.declared.member_type.MethodType.{MethodType}
-use Rattle.link_rules.specs.Types.{at_row}
 use Rattle.link_rules.specs.Signatures.{names_at, method_type}
-use Rattle.link_rules.specs.Members.{methods_in, is_interface_row}
-use Rattle.link_rules.specs.Cycles.{listed}
-use Rattle.type_rules.specs.Rows.{rec_at, type_row_at}
-use Rattle.type_rules.specs.Slots.{is_static, type_of_method, type_of_row}
+use Rattle.link_rules.specs.Members.{methods_in}
+use Rattle.type_rules.specs.Rows.{type_row_at}
+use Rattle.type_rules.specs.Slots.{type_of_method, type_of_row}
 use Rattle.mark_rules.specs.Places.{type_item}
-use Rattle.mark_rules.specs.BadItems.{is_global, is_platform, is_interface_body, no_body}
-use Rattle.cil_values.specs.declared.definition.Signature.{Signature}
-use Rattle.cil_values.specs.declared.definition.Method.{Method}
 use Rattle.cil_values.specs.declared.resolved.Code.{Code}
-use Rattle.view_rules.specs.Methods.{signature_by, body_by, is_core_row, body_of, method_by, method_at}
+use Rattle.view_rules.specs.Methods.{signature_by, body_of, method_by, method_at}
 use Rattle.merge_rules.specs.Numbers.{kept_types, kept_methods}
-use Rattle.merge_rules.specs.Moved.{moved_method_row}
-use Rattle.merge_rules.specs.Restricted.{put_rva}
-use Rattle.change_rules.specs.Change.{Rho, Keep, Undone}
+use Rattle.change_rules.specs.Change.{Rho, Keep}
 use Rattle.change_rules.specs.Answers.{move_signature, move_code, move_method}
 use Rattle.world_change_rules.specs.Places.{type_number, keeps_method_row}
-use Rattle.world_change_rules.specs.Rows.{move_method_type, MethodMoves}
-use Rattle.merged_world_rules.specs.Merge.{Merge, before, after, output}
-use Rattle.merged_world_rules.specs.Numbering.{number_at}
-use Rattle.merged_world_rules.specs.NewNumbers.{rho_of, back_of, change_of, places_of}
+use Rattle.world_change_rules.specs.Rows.{move_method_type}
+use Rattle.merged_world_rules.specs.Merge.{Merge, before, after}
+use Rattle.merged_world_rules.specs.NewNumbers.{rho_of, places_of}
 use Rattle.merged_world_rules.specs.Kept.{HasFlags}
-use Rattle.merged_places.proofs.Ranks.{rank}
-use Rattle.merged_places.proofs.Rows.{IsThere, place_has, place_past, place_within}
-use Rattle.merged_places.proofs.Kept.{keeps}
-use Rattle.merged_places.proofs.Worlds.{core_of, left_core, after_is, after_left, after_core, core_at, core_rec}
-use Rattle.merged_places.proofs.CoreTables.{method_same}
-use Rattle.merged_places.proofs.Moving.{place_kept}
-use Rattle.merged_places.proofs.Situations.{place, place_there, situation, Input, Core, Gone, HasNone}
-use Rattle.merged_places.proofs.Tables.{number_type, number_method, type_kind, method_kind, method_left}
-use Rattle.merged_places.proofs.Whole.{row_there, type_stays, method_stays, undone_of, places_move}
-use Rattle.merged_rows_move.proofs.RowsOf.{LikeType, type_test, method_like}
+use Rattle.merged_places.proofs.Rows.{place_past}
+use Rattle.merged_places.proofs.Worlds.{after_is}
+use Rattle.merged_places.proofs.Situations.{place, HasNone}
+use Rattle.merged_places.proofs.Tables.{number_type, number_method, type_kind, method_kind}
+use Rattle.merged_places.proofs.Whole.{undone_of, places_move}
 use Rattle.merged_rows_move.proofs.Whole.{marks, signatures}
 use Rattle.merged_references.specs.Written.{HasReferenceRows}
 use Rattle.marked_merge_rules.specs.Merges.{IsMarkedMerge}
 use Rattle.merged_code.specs.Laws.{ReadsCode}
-use Rattle.merged_code.proofs.Kept.{IsKept}
-use Rattle.merged_code.proofs.Flags.{seen_same, no_body_same, platform_same}
-use Rattle.merged_code.proofs.Flaws.{not_platform, not_interface_body, not_global}
-use Rattle.merged_code.proofs.Mets.{owner_is}
-use Rattle.merged_code.proofs.Modules.{later_not_global, not_first}
-use Rattle.merged_code.proofs.Bodies.{body_moves}
 
 -- ---- methods and signatures of rows
 

@@ -1,8 +1,8 @@
 -- The output refers to all that a kept method names, since its type is kept.
-use Rattle.std.proofs.Common.{◌≡◌, ◌<◌, ◌≤◌, ℕ, suc, Bool, true, List, [], ◌++◌, length, map, Option, Some, None, refl, sym, ap, subst, ◌∙◌, arith}
-use Rattle.std.specs.Prelude.{slice_get, nat_le, nat_lt, ◌&&◌, if◌then◌else◌}
+use Rattle.std.proofs.Common.{◌≡◌, ℕ, suc, true, List, [], ◌++◌, map, Option, Some, sym, subst, ◌∙◌}
+use Rattle.std.specs.Prelude.{slice_get, nat_le, nat_lt, if◌then◌else◌}
 use Rattle.std.specs.List.{Contains, flat_map, position_from}
-use Rattle.std.specs.Option.{option_map, option_and_then}
+use Rattle.std.specs.Option.{option_map}
 use Rattle.std.proofs.lemmas.Bool.{and_parts, leb-true, ltb-true}
 use Rattle.std.proofs.lemmas.List.Elements.{Contains-append_left, Contains-append_right}
 use Rattle.il_base.specs.declared.table.TheConstants as table
@@ -36,7 +36,7 @@ use Rattle.merged_tokens.proofs.Events.{in_places}
 use Rattle.merged_places.proofs.Rows.{place_within}
 use Rattle.merged_places.proofs.Worlds.{before_input}
 use Rattle.merged_rows_move.proofs.Owners.{first_is}
-use Rattle.merged_world_rules.specs.Merge.{Merge, IsMerge, before, output}
+use Rattle.merged_world_rules.specs.Merge.{Merge, IsMerge, before}
 use Rattle.marked_merge_rules.specs.Reads.{AreMet}
 use Rattle.merged_code.proofs.Kept.{IsKept, body_in}
 

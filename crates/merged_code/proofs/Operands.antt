@@ -1,6 +1,6 @@
 -- What the tokens of a kept method name in the world of the output is what they named, moved (III.1.9, II.25.4.6): each of them names
 -- something, and the output refers to it.
-use Rattle.std.proofs.Common.{◌≡◌, ◌<◌, ℕ, suc, ◌+◌, ◌%◌, Bool, true, false, List, [], ◌∷◌, length, map, Option, Some, None, cond, find, refl, sym, ap, subst, ◌∙◌}
+use Rattle.std.proofs.Common.{◌≡◌, ◌<◌, ℕ, suc, ◌+◌, ◌%◌, Bool, true, false, List, [], ◌∷◌, length, map, Option, Some, cond, find, refl, sym, ap, subst, ◌∙◌}
 use Rattle.std.specs.Prelude.{slice_get, ◌==◌, ◌||◌, if◌then◌else◌}
 use Rattle.std.specs.List.{Contains, list_any}
 use Rattle.il_base.specs.declared.body.Form.{Form}
@@ -18,7 +18,6 @@ use Rattle.world_model.specs.declared.expr.FieldUse.{FieldUse}
 use Rattle.world_model.specs.declared.record.UserText.{UserText}
 use Rattle.world_model.specs.declared.record.AsmRec.{AsmRec}
 use Rattle.world_model.specs.Worlds.{known_map}
-use Rattle.body_grammar.specs.BodySpelling.{instr_bytes}
 use Rattle.link_rules.specs.Cycles.{listed}
 use Rattle.link_rules.specs.Signatures.{token_type}
 use Rattle.known_laws.proofs.Lists.{first_in, to_map, to_listed}
@@ -27,9 +26,9 @@ use Rattle.mark_rules.specs.Naming.Named.{type, method, field}
 use Rattle.mark_rules.specs.Bodies.{is_field_token, is_method_token, is_text_of, text_parts, token_parts, operand_parts, instruction_parts, is_catch, handler_parts}
 use Rattle.cil_values.specs.declared.resolved.Use.{Use}
 use Rattle.cil_values.specs.declared.resolved.Use.TheVariants as use_of
-use Rattle.view_rules.specs.Code.{is_token, text_by, text_named, handle_use, token_use, use_by, instruction_of, kind_by, caught_by, clause_of}
-use Rattle.merge_rules.specs.Keys.{TypeKey, type_key}
-use Rattle.merge_rules.specs.Order.{Met, met_type, met_types, met_token, met_callee, met_field_token, met_by_form, met_operand}
+use Rattle.view_rules.specs.Code.{is_token, text_by, text_named, handle_use, token_use, use_by, instruction_of, kind_by, clause_of}
+use Rattle.merge_rules.specs.Keys.{type_key}
+use Rattle.merge_rules.specs.Order.{met_type, met_types, met_token, met_callee, met_field_token, met_by_form, met_operand}
 use Rattle.merge_rules.specs.Refs.{first_or}
 use Rattle.merge_rules.specs.Moved.{moved_type, moved_callee, moved_field, texts_named, texts_by, text_token, moved_text, moved_by_form, moved_operand, moved_instr, moved_handler}
 use Rattle.merge_rules.specs.Restricted.{new_text}

@@ -1,5 +1,5 @@
 -- A text that a kept method loads (III.4.16) is found in the output by its new token: each text has a place of its own, which a token holds.
-use Rattle.std.proofs.Common.{◌≡◌, ◌<◌, ◌≤◌, ℕ, zero, suc, ◌+◌, ◌*◌, ◌%◌, List, [], ◌∷◌, length, map, find, Some, None, inl, inr, refl, sym, ap, subst, ◌∙◌, arith, eq-eqb, eqb-true}
+use Rattle.std.proofs.Common.{◌≡◌, ◌<◌, ◌≤◌, ℕ, zero, suc, List, [], ◌∷◌, length, map, find, Some, None, inl, inr, refl, ap, subst, ◌∙◌, arith, eq-eqb, eqb-true}
 use Rattle.std.specs.Prelude.{slice_get}
 use Rattle.std.specs.List.{Contains, flat_map}
 use Rattle.il_base.specs.declared.body.Body.{Body}
@@ -23,7 +23,6 @@ use Rattle.view_rules.specs.Code.{is_token}
 use Rattle.merge_rules.specs.Numbers.{kept_methods}
 use Rattle.merge_rules.specs.Moved.{texts_by, texts_of_body, texts_of_method, kept_texts, text_token}
 use Rattle.merge_rules.specs.Restricted.{new_text, output_of}
-use Rattle.written_tables.specs.Written.{IsIn}
 use Rattle.written_tables.proofs.Once.{once_law}
 use Rattle.merged_loads.proofs.Lists.{to_place}
 use Rattle.merged_code.proofs.Lists.{found_only}

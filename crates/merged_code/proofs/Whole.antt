@@ -1,11 +1,10 @@
 -- A kept method moves, whether it is of an input or of the core library; the law.
-use Rattle.std.proofs.Common.{◌≡◌, ◌<◌, ℕ, suc, Bool, true, false, List, length, Option, Some, None, inl, inr, refl, sym, ap, subst, ◌∙◌, arith}
-use Rattle.std.specs.Prelude.{IsTrue, slice_get, not, ◌==◌, ◌&&◌, ◌||◌, if◌then◌else◌}
+use Rattle.std.proofs.Common.{◌≡◌, ◌<◌, ℕ, suc, Bool, true, false, List, length, Option, Some, inl, inr, refl, sym, ap, subst, ◌∙◌, arith}
+use Rattle.std.specs.Prelude.{IsTrue, slice_get, not, ◌==◌, ◌&&◌, ◌||◌}
 use Rattle.std.specs.List.{list_any}
 use Rattle.std.specs.Option.{option_map, option_and_then}
 use Rattle.std.proofs.lemmas.Bool.{ne_eqb, eq-eqb}
 use Rattle.descriptor_file.specs.declared.root.Root.{Root}
-use Rattle.world_model.specs.declared.known.Known.{Known}
 use Rattle.world_model.specs.declared.types.TypeDefRow.{TypeDefRow}
 use Rattle.world_model.specs.declared.members.MethodDefRow.{MethodDefRow}
 use Rattle.world_model.specs.declared.record.AsmRec.{AsmRec}
@@ -15,10 +14,9 @@ use Rattle.link_rules.specs.Types.{at_row}
 use Rattle.link_rules.specs.Members.{methods_in, is_interface_row}
 use Rattle.link_rules.specs.Cycles.{listed}
 use Rattle.type_rules.specs.Rows.{type_row_at}
-use Rattle.type_rules.specs.Slots.{is_static, type_of_method}
+use Rattle.type_rules.specs.Slots.{type_of_method}
 use Rattle.mark_rules.specs.Places.{type_item}
-use Rattle.mark_rules.specs.BadItems.{is_global, is_platform, is_interface_body, no_body}
-use Rattle.cil_values.specs.declared.resolved.Code.{Code}
+use Rattle.mark_rules.specs.BadItems.{is_global, is_platform, is_interface_body}
 use Rattle.view_rules.specs.Methods.{body_by, is_core_row, body_of, method_at}
 use Rattle.merge_rules.specs.Numbers.{kept_methods}
 use Rattle.merge_rules.specs.Moved.{moved_method_row}
@@ -37,7 +35,7 @@ use Rattle.merged_places.proofs.Kept.{keeps}
 use Rattle.merged_places.proofs.Worlds.{core_of, left_core, after_left, after_core, core_at, core_rec}
 use Rattle.merged_places.proofs.CoreTables.{method_same}
 use Rattle.merged_places.proofs.Moving.{place_kept}
-use Rattle.merged_places.proofs.Situations.{place_there, situation, Input, Core, Gone}
+use Rattle.merged_places.proofs.Situations.{place_there, situation, Input, Core}
 use Rattle.merged_places.proofs.Tables.{number_type, number_method, type_kind, method_kind, method_left}
 use Rattle.merged_places.proofs.Whole.{row_there, type_stays, method_stays}
 use Rattle.merged_rows_move.proofs.RowsOf.{type_test, method_like}
