@@ -1,3 +1,4 @@
 pub mod Lists
 pub mod Rowing
 pub mod Finding
+pub mod Declaring

@@ -1,22 +1,26 @@
 //! The declarations of MethodImpl rows whose body is a method (II.22.27).
 
-ghost use Rattle.std.specs.Prelude.{◌≡◌, ◌++◌, slice_get, Some, IfOk, OnOk};
+ghost use Rattle.std.specs.Prelude.{◌≡◌, [], ◌++◌, slice_get, Some, IfOk, OnOk};
 ghost use Rattle.std.specs.List.{flat_map};
+ghost use Rattle.std.specs.Option.{option_map_or};
 ghost use Rattle.link_rules.specs.Members.{generic_method};
 ghost use Rattle.link_rules.specs.Cycles.{listed};
-ghost use Rattle.type_rules.specs.Dispatch.{good_use};
+ghost use Rattle.type_rules.specs.Dispatch.{good_use, method_id};
+ghost use Rattle.type_tables.specs.Groups.{AreGroups};
 ghost use Rattle.mark_rules.specs.Naming.{of_method_use};
 ghost use Rattle.mark_rules.specs.Calls.{has_body, declared_by, declared_in};
 ghost use Rattle.mark_tables.specs.Assemblies.{all_of, IsMarker};
+ghost use Rattle.mark_tables.specs.Impls.{body_numbers};
 ghost use Rattle.mark_calls.specs.Declared.{declared_facts, body_facts};
 
-use il_base::NoMemory;
+use il_base::{MethodId, NoMemory};
 use link_rules::RowAt;
 use mark_facts::facts::Facts;
 use mark_facts::naming::mark_method_use;
 use mark_tables::marker::Marker;
 use member_search::counted::row_of;
-use type_tables::methods::{method_home, use_at};
+use type_tables::groups::Groups;
+use type_tables::methods::{method_home, method_id, use_at};
 use virtual_calls::impls::same_row;
 use world_model::{AsmRec, MethodImplRow, MethodUse};
 
@@ -91,22 +95,62 @@ fn add_row(
     Ok(())
 }
 
-/// Marks what the rows of an assembly name whose body is the method.
-fn add_rows(
+/// Marks what a row of an assembly, by its number from 0, names, where its body is the method.
+fn add_numbered(
     marker: &Marker<'_>,
     at: RowAt,
     asm: u32,
     rec: &AsmRec,
+    k: u32,
     facts: &mut Facts,
 ) -> Result<(), NoMemory>
     requires marker { IsMarker marker.now }
     requires here { slice_get (all_of marker.now) asm ≡ Some rec.now }
-    ensures { OnOk result (facts.new ≡ facts.old ++ declared_in (all_of marker.now) at asm rec.now) }
+    ensures { OnOk result (facts.new ≡ facts.old ++ option_map_or (declared_by (all_of marker.now) at asm rec.now) (slice_get rec.now.method_impl k) []) }
 {
-    for row in rec.method_impl.as_slice() {
-        add_row(marker, at, asm, rec, row, facts)?;
+    match rec.method_impl.get(k as usize) {
+        Some(row) => add_row(marker, at, asm, rec, row, facts),
+        None => Ok(()),
+    }
+}
+
+/// Marks what these rows of an assembly name whose body is the method.
+fn add_among(
+    marker: &Marker<'_>,
+    at: RowAt,
+    asm: u32,
+    rec: &AsmRec,
+    ks: &[u32],
+    facts: &mut Facts,
+) -> Result<(), NoMemory>
+    requires marker { IsMarker marker.now }
+    requires here { slice_get (all_of marker.now) asm ≡ Some rec.now }
+    ensures { OnOk result (facts.new ≡ facts.old ++ flat_map (λ k. option_map_or (declared_by (all_of marker.now) at asm rec.now) (slice_get rec.now.method_impl k) []) ks.now) }
+{
+    for k in ks {
+        add_numbered(marker, at, asm, rec, *k, facts)?;
     }
     Ok(())
+}
+
+/// Marks what the rows of an assembly name whose body is the method, by the numbers of their bodies.
+fn add_rows(
+    marker: &Marker<'_>,
+    at: RowAt,
+    id: MethodId,
+    asm: u32,
+    rec: &AsmRec,
+    rows: &Groups,
+    facts: &mut Facts,
+) -> Result<(), NoMemory>
+    requires marker { IsMarker marker.now }
+    requires here { slice_get (all_of marker.now) asm ≡ Some rec.now }
+    requires id { id ≡ method_id (all_of marker.now) at }
+    requires rows { AreGroups (body_numbers (all_of marker.now) asm rec.now) rows.now }
+    ensures { OnOk result (facts.new ≡ facts.old ++ declared_in (all_of marker.now) at asm rec.now) }
+{
+    let ks = rows.rows_with(id.0);
+    add_among(marker, at, asm, rec, ks, facts)
 }
 
 /// Puts what the rows of all assemblies name whose body is a method at the end.
@@ -119,9 +163,11 @@ pub(crate) fn add_declared(
     ensures { OnOk result (facts.new ≡ facts.old ++ declared_facts (all_of marker.now) at) }
 {
     let all = marker.tables.world.recs.as_slice();
+    let made = marker.impls.as_slice();
+    let id = method_id(all, at)?;
     for (a, rec) in all.iter().enumerate() {
         let asm = row_of(a)?;
-        add_rows(marker, at, asm, rec, facts)?;
+        add_rows(marker, at, id, asm, rec, &made[a], facts)?;
     }
     Ok(())
 }

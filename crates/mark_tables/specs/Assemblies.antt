@@ -8,6 +8,7 @@ use Rattle.type_tables.specs.Tables.{AreRowTables, IsTables}
 use Rattle.mark_tables.specs.declared.assembly.Assembly.{Assembly}
 use Rattle.mark_tables.specs.declared.marker.Marker.{Marker}
 use Rattle.mark_tables.specs.Owners.{AreOwnerRows}
+use Rattle.mark_tables.specs.Impls.{AreImplBodies}
 
 -- all assemblies of the world, the place of this one, and its record
 abbrev pub recs_of : Assembly → List AsmRec
@@ -33,6 +34,7 @@ all_of m = m.tables.world.now.recs
 pub record IsMarker (m : Marker) : Type 0 where
   pub tables : IsTables m.tables
   pub rows : AllZip AreOwnerRows (all_of m) m.rows.items
+  pub impls : AreImplBodies (all_of m) m.impls.items
 
 -- an assembly in a place
 pub record IsAssemblyAt (m : Marker) (asm : ℕ) (a : Assembly) : Type 0 where

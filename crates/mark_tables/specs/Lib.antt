@@ -1,2 +1,3 @@
 pub mod Owners
+pub mod Impls
 pub mod Assemblies

@@ -4,6 +4,7 @@
 
 pub mod assembly;
 pub mod enclosers;
+mod impl_bodies;
 pub mod keys;
 pub mod marker;
 pub mod owners;

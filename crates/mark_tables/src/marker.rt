@@ -4,9 +4,11 @@ ghost use Rattle.link_rules.specs.Linked.{IsWorld};
 ghost use Rattle.mark_tables.specs.Assemblies.{rec_of, IsMarker, IsAssemblyAt};
 
 use crate::assembly::Assembly;
+use crate::impl_bodies::impl_bodies;
 use crate::owners::{OwnerRows, owner_rows};
 use il_base::NoMemory;
 use std::alloc::Global;
+use type_tables::groups::Groups;
 use type_tables::tables::Tables;
 use world_model::World;
 
@@ -15,6 +17,8 @@ use world_model::World;
 pub struct Marker<'w> {
     pub tables: Tables<'w>,
     pub rows: Vec<OwnerRows>,
+    /// Of each assembly its MethodImpl rows by the numbers of the methods that are their bodies.
+    pub impls: Vec<Groups>,
 }
 
 impl<'w> Marker<'w> {
@@ -26,7 +30,12 @@ impl<'w> Marker<'w> {
     {
         let tables = Tables::of(alloc, world)?;
         let rows = owner_rows(alloc, world.recs.as_slice())?;
-        Ok(Marker { tables, rows })
+        let impls = impl_bodies(alloc, &tables)?;
+        Ok(Marker {
+            tables,
+            rows,
+            impls,
+        })
     }
 
     /// An assembly of the world, by its place from 0, with what is made of it.

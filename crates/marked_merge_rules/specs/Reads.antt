@@ -20,7 +20,7 @@ use Rattle.change_rules.specs.Moves.{move_use, move_field_use}
 use Rattle.merged_world_rules.specs.Merge.{Merge, before, after, output}
 use Rattle.merged_world_rules.specs.NewNumbers.{type_core, rho_of}
 use Rattle.merged_references.specs.Written.{KeepsMet}
-use Rattle.merged_signatures.specs.Laws.{AreThere}
+use Rattle.merged_signatures.specs.Laws.{IsThere}
 
 -- ---- what is met is there
 
@@ -34,9 +34,10 @@ CoreStays m =
     (x : Met) (t : TypeId) (at : RowAt) → Contains (output m).mets x → Contains (types_of_met (before m) x) t → type_home (before m) t ≡ Some at → suc at.asm ≡ length (before m)
     → (s : ℕ) × ((type_core m).to at.row ≡ Some s)
 
--- so each type in what is met has a token that names it
+-- so each type in what is met that is a row of the world has a token that names it
 abbrev pub AllThere : Merge → Type 0
-AllThere m = (x : Met) → Contains (output m).mets x → AreThere m (types_of_met (before m) x)
+AllThere m =
+    (x : Met) (t : TypeId) (at : RowAt) → Contains (output m).mets x → Contains (types_of_met (before m) x) t → type_home (before m) t ≡ Some at → IsThere m t
 
 -- ---- members that are met are kept
 

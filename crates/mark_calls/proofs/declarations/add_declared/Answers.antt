@@ -1,12 +1,27 @@
-use Rattle.std.proofs.Common.{◌≡◌, ℕ, ◌+◌, ◌++◌, drop, List, Some, sym, subst, ap, ◌∙◌}
+use Rattle.std.proofs.Common.{◌≡◌, ℕ, ◌+◌, ◌<◌, ◌++◌, drop, List, length, Some, sym, subst, ap, ◌∙◌}
 use Rattle.std.specs.Prelude.{slice_get}
+use Rattle.std.specs.List.{AllZip}
 use Rattle.world_model.specs.declared.record.AsmRec.{AsmRec}
+use Rattle.member_search.proofs.Zips.{zip_as_long, zip_at}
 use Rattle.type_rules.specs.Rows.{each_from}
+use Rattle.type_rules.specs.Dispatch.{method_id}
+use Rattle.type_tables.specs.declared.groups.Groups.{Groups}
+use Rattle.type_tables.specs.Groups.{AreGroups}
 use Rattle.mark_rules.specs.Facts.{Fact}
 use Rattle.mark_rules.specs.Calls.{declared_in}
 use Rattle.mark_tables.specs.Assemblies.{all_of}
+use Rattle.mark_tables.specs.Impls.{body_numbers, numbers_from}
+use Rattle.mark_tables.proofs.Impls.{numbers_at}
 use Rattle.mark_calls.proofs.Finding.{each_next, each_end, here_at}
 use Rattle.mark_calls.proofs.declarations.add_declared.Goals as goal
+
+pub bounds-made-a : goal.bounds-made-a
+bounds-made-a c =
+    let all = c.as_slice-all.result.now in
+    let recs = all_of c.args.marker.now in
+    let there : slice_get recs c.loop-a.a ≡ Some c.index-all-a.result = subst (λ (rs : List AsmRec). slice_get rs c.loop-a.a ≡ Some c.index-all-a.result) c.as_slice-all.ensures (here_at all c.loop-a.a c.index-all-a.result c.loop-a-test.true c.index-all-a.is) in
+    rw c.as_slice-made.ensures
+    (zip_as_long AreGroups (numbers_from recs 0 recs) c.args.marker.now.impls.items c.requires.impls c.loop-a.a (body_numbers recs c.loop-a.a c.index-all-a.result) (numbers_at recs 0 recs c.loop-a.a c.index-all-a.result there))
 
 pub add_rows-requires-clause-here : goal.add_rows-requires-clause-here
 add_rows-requires-clause-here c =
