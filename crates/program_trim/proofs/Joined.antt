@@ -9,6 +9,7 @@ use Rattle.world_model.specs.declared.known.BadKind.TheVariants.{Unresolved, Out
 use Rattle.world_model.specs.declared.record.AsmRec.{AsmRec}
 use Rattle.link_rules.specs.declared.row_at.RowAt.{RowAt}
 use Rattle.descriptor_file.specs.declared.root.Root.{Root}
+use Rattle.mark_rules.specs.Facts.{Fact}
 use Rattle.mark_rules.specs.Facts.Fact.{marked, shown}
 use Rattle.mark_rules.specs.Marking.{Marks}
 use Rattle.mark_rules.specs.KeepList.{keep_list}
@@ -21,10 +22,11 @@ use Rattle.merge_plan.specs.Kept.{kept_by}
 use Rattle.merge_plan.specs.Contests.{shown_by}
 use Rattle.record_layout.specs.Laid.{laid}
 use Rattle.record_layout.specs.Limits.{limit_of}
+use Rattle.record_writer.specs.CanWrite.{CanWrite}
 use Rattle.kept_marks.specs.Keeping.{KeepsMarked, ShowsMarked}
 use Rattle.program_trim.specs.declared.answers.ProgramTrim.{ProgramTrim}
 use Rattle.program_trim.specs.declared.answers.TrimFault.TheVariants as refusal
-use Rattle.program_trim.specs.Trim.{IsKeptSet, IsShownSet, IsCollision, HasNoFlaw, IsFlawedAt, TrimmedWorld, Collides, RefusesWorld}
+use Rattle.program_trim.specs.Trim.{AreFacts, IsKeptSet, IsShownSet, IsCollision, HasNoFlaw, IsFlawedAt, TrimmedWorld, Collides, RefusesWorld}
 use Rattle.program_trim.specs.Programs.{IsFirst, refusal_by}
 
 module _ (recs : List AsmRec) (entry : Option RowAt) (roots : List Root) where
@@ -57,15 +59,19 @@ module _ (recs : List AsmRec) (entry : Option RowAt) (roots : List Root) where
     }
 
     module _ (unique : IsCollision recs entry roots kept None) (internal : Bool) (left : AsmRec) (is : restricted internal recs kept ≡ Some left) where
-      pub trimmed : (t : ProgramTrim) → t.bytes ≡ laid left → limit_of left ≡ None → t.kept ≡ keep_list recs kept → TrimmedWorld recs entry roots internal t
-      trimmed t bytes within list = record {
+      pub trimmed : (t : ProgramTrim) (holds : Fact → Bool) → AreFacts recs entry roots holds → t.bytes ≡ laid left → CanWrite left → limit_of left ≡ None → t.kept ≡ keep_list recs kept
+          → TrimmedWorld recs entry roots internal t
+      trimmed t holds facts bytes can within list = record {
         kept = kept;
         exact = exact;
         good = good;
+        holds = holds;
+        facts = facts;
         unique = unique;
         left = left;
         restricted = is;
         bytes = bytes;
+        can = can;
         within = within;
         list = list;
       }

@@ -9,6 +9,7 @@ use Rattle.world_model.specs.declared.known.BadKind.TheVariants.{Unresolved, Out
 use Rattle.world_model.specs.declared.record.AsmRec.{AsmRec}
 use Rattle.link_rules.specs.declared.row_at.RowAt.{RowAt}
 use Rattle.descriptor_file.specs.declared.root.Root.{Root}
+use Rattle.mark_rules.specs.Facts.{Fact}
 use Rattle.mark_rules.specs.Facts.Fact.{marked, shown}
 use Rattle.mark_rules.specs.Marking.{Marks}
 use Rattle.mark_rules.specs.BadItems.{Flaw, IsFirstFlaw}
@@ -20,6 +21,7 @@ use Rattle.merge_rules.specs.Restricted.{restricted}
 use Rattle.merge_plan.specs.Plans.{id_of}
 use Rattle.record_layout.specs.Laid.{laid}
 use Rattle.record_layout.specs.Limits.{limit_of}
+use Rattle.record_writer.specs.CanWrite.{CanWrite}
 use Rattle.program_trim.specs.declared.answers.ProgramTrim.{ProgramTrim}
 use Rattle.program_trim.specs.declared.answers.TrimFault.{TrimFault}
 use Rattle.program_trim.specs.declared.answers.TrimFault.TheVariants as refusal
@@ -57,16 +59,23 @@ IsFlawedAt recs entry roots place kind = IsFirstFlaw recs entry (Marks recs entr
 
 -- ---- the answers
 
+-- of each fact whose item or type is there the test says whether the rules of marking derive it
+abbrev pub AreFacts : List AsmRec → Option RowAt → List Root → (Fact → Bool) → Type 0
+AreFacts recs entry roots holds = (f : Fact) → IsTrue (is_there recs f) → IsTrue (holds f) ↔ Marks recs entry roots f
+
 -- What is needed has no flaw, and no two types of it want one name. The bytes are those of the file that the rows of exactly what is
--- needed are laid out in; it passes no limit. The list has a line for each of them.
+-- needed are laid out in, where each signature and body has a spelling; it passes no limit. The list has a line for each of them.
 pub record TrimmedWorld (recs : List AsmRec) (entry : Option RowAt) (roots : List Root) (internal : Bool) (t : ProgramTrim) : Type 0 where
   pub kept : Kept
   pub exact : IsKeptSet recs entry roots kept
   pub good : HasNoFlaw recs entry roots
+  pub holds : Fact → Bool
+  pub facts : AreFacts recs entry roots holds
   pub unique : IsCollision recs entry roots kept None
   pub left : AsmRec
   pub restricted : restricted internal recs kept ≡ Some left
   pub bytes : t.bytes ≡ laid left
+  pub can : CanWrite left
   pub within : limit_of left ≡ None
   pub list : t.kept ≡ keep_list recs kept
 

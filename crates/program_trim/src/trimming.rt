@@ -45,11 +45,13 @@ fn refusal_of(flaw: Flaw) -> TrimFault
 fn write_left(
     alloc: Global,
     program: &Program<'_>,
+    marked: &Marked,
     kept: &KeptItems,
     left: &AsmRec,
 ) -> Result<ProgramTrim, TrimFault>
     requires linked { IsLinked program.now }
     requires good { IsGood program.now }
+    requires marked { HasMarks program.now marked.now }
     requires kept { Keeps program.now (kept_by kept.now) }
     requires unique { Collides program.now (kept_by kept.now) None }
     requires left { Leaves program.now (kept_by kept.now) left.now }
@@ -68,11 +70,13 @@ fn write_left(
 fn trim_kept(
     alloc: Global,
     program: &Program<'_>,
+    marked: &Marked,
     kept: &KeptItems,
     plan: &Plan,
 ) -> Result<ProgramTrim, TrimFault>
     requires linked { IsLinked program.now }
     requires good { IsGood program.now }
+    requires marked { HasMarks program.now marked.now }
     requires kept { Keeps program.now (kept_by kept.now) }
     requires unique { Collides program.now (kept_by kept.now) None }
     requires names { Names program.now (kept_by kept.now) plan.now }
@@ -80,7 +84,7 @@ fn trim_kept(
 {
     match restrict(alloc, program.world, kept, plan) {
         Err(_) => Err(TrimFault::NoMemory),
-        Ok(left) => write_left(alloc, program, kept, &left),
+        Ok(left) => write_left(alloc, program, marked, kept, &left),
     }
 }
 
@@ -101,7 +105,7 @@ fn trim_marked(
     match plan_of(alloc, recs, &kept, &shown, program.internal) {
         Err(PlanError::NoMemory) => Err(TrimFault::NoMemory),
         Err(PlanError::Collision { first, second }) => Err(TrimFault::Collision { first, second }),
-        Ok(plan) => trim_kept(alloc, program, &kept, &plan),
+        Ok(plan) => trim_kept(alloc, program, marked, &kept, &plan),
     }
 }
 

@@ -7,6 +7,7 @@ ghost use Rattle.mark_tables.specs.Assemblies.{all_of, IsMarker};
 ghost use Rattle.merge_plan.specs.Kept.{kept_by};
 ghost use Rattle.record_layout.specs.Laid.{laid};
 ghost use Rattle.record_layout.specs.Limits.{limit_of};
+ghost use Rattle.record_writer.specs.CanWrite.{CanWrite};
 ghost use Rattle.record_writer.specs.Written.{Refuses};
 
 use il_base::{NoMemory, Seq, Text};
@@ -21,6 +22,7 @@ use written_signatures::can_write;
 /// The bytes of the file of a record.
 pub(crate) fn file_of(alloc: Global, rec: &AsmRec) -> Result<Text, WriteError>
     ensures is { IfOk result (λ bytes. bytes ≡ laid rec.now) }
+    ensures can { IfOk result (λ _. CanWrite rec.now) }
     ensures within { IfOk result (λ _. limit_of rec.now ≡ None) }
     ensures refused { IfErr result (Refuses rec.now) }
 {

@@ -1,0 +1,12 @@
+use Rattle.marking.specs.Holding.{holds}
+use Rattle.merge_plan.specs.Kept.{kept_by}
+use Rattle.program_trim.specs.Programs.{recs_of}
+use Rattle.program_trim.proofs.Joined.{trimmed}
+use Rattle.program_trim.proofs.trimming.write_left.Goals as goal
+
+pub returns : goal.returns
+returns c =
+    let p = c.args.program.now in
+    let kept = kept_by c.args.kept.now in
+    trimmed (recs_of p) p.entry p.roots.now kept c.requires.kept c.requires.good c.requires.unique p.internal c.args.left.now c.requires.left
+    (record { bytes = c.in-Ok.bytes; kept = c.in_ok-kept.kept }) (holds c.args.marked.now) c.requires.marked c.in-Ok.ensures.is c.in-Ok.ensures.can c.in-Ok.ensures.within c.in_ok-kept.ensures
