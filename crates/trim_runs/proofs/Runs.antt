@@ -8,14 +8,14 @@ use Rattle.world_model.specs.Records.{IsRecord, table_sizes, rows_in}
 use Rattle.link_rules.specs.declared.row_at.RowAt.{RowAt}
 use Rattle.mark_rules.specs.Facts.{Fact}
 use Rattle.world_laws.specs.Inputs.{AreRecords}
-use Rattle.change_rules.specs.Change.{Keep, Change, Undone}
+use Rattle.change_rules.specs.Change.{Keep}
 use Rattle.world_change_rules.specs.Rows.{RowsMove}
 use Rattle.dispatch_laws.specs.Kept.{Apart}
 use Rattle.marked_call_laws.specs.Laws.{HasFewTypes}
 use Rattle.closed_laws.specs.Laws.{OnlyMarks}
 use Rattle.closed_laws.proofs.Trims as closed
 use Rattle.merged_world_rules.specs.Merge.{Merge, IsMerge, before, after}
-use Rattle.merged_world_rules.specs.NewNumbers.{rho_of, back_of, change_of, places_of}
+use Rattle.merged_world_rules.specs.NewNumbers.{change_of, places_of}
 use Rattle.merged_world_rules.specs.Kept.{HasFlags}
 use Rattle.merged_places.proofs.Whole.{undone_of, places_move, stay_apart}
 use Rattle.merged_rows_move.specs.Laws.{ReadsRows, MarksMove}
@@ -44,21 +44,18 @@ few_types m is a rec e = let lt = is.few_inputs a rec e TYPE_DEF in let size = t
 -- ---- all rows
 
 module _ (m : Merge) (is : IsMerge m) (k : Keep) (kept : RowAt → Bool) (flags : HasFlags m k kept) (rows : ReadsRows m k) (reads : OutputReads m k) where
-  undone : Undone (back_of m) (rho_of m)
-  undone = undone_of m
-
   all_marks : MarksMove m k
   all_marks = marks m k kept is flags
 
-  pub rows_move : RowsMove (change_of m undone k) kept (places_of m) (after m) (before m)
+  pub rows_move : RowsMove (change_of m (undone_of m) k) kept (places_of m) (after m) (before m)
   rows_move = record {
-    places = places_move m undone k kept is flags;
-    types = λ at keeps. types m k kept is flags undone rows at keeps;
+    places = places_move m (undone_of m) k kept is flags;
+    types = λ at keeps. types m k kept is flags (undone_of m) rows at keeps;
     methods = λ at keeps.
         let mark = all_marks.methods at keeps in
         record { there = mark.there; absent = mark.absent; signature = signatures m k kept is flags reads.signatures at keeps; owner = mark.owner; method = reads.methods at keeps };
     fields = λ at keeps. record { field = reads.fields at keeps; instance = all_marks.instance at keeps };
-    core = core_moves m is k kept flags undone;
+    core = core_moves m is k kept flags (undone_of m);
   }
 
   pub rows_apart : Apart k (places_of m) (before m)

@@ -110,13 +110,7 @@ module _ (recs : List AsmRec) where
     pub own_key : (token : ℕ) → index_in METHOD_DEF token ≡ Some k → k < methods_in rec → slice_get recs a ≡ Some rec → suc a < length recs → method_key recs a rec token ≡ Some (own_method (number_of a k))
     own_key token h lt there input =
         key_some recs a rec there input token own_use (not_spec token h) (token_named token h lt)
-        ∙ ap (λ (b : Bool). Some (if b || plain then own_method (number_of a k) else found)) (own_table token h)
-      where
-        abbrev plain : Bool
-        plain = is_plain_owner recs (own_type recs rec (at_row a j))
-
-        abbrev found : MethodKey
-        found = found_method (number_of a k) (own_type recs rec (at_row a j))
+        ∙ ap (λ (b : Bool). Some (if b || is_plain_owner recs (own_type recs rec (at_row a j)) then own_method (number_of a k) else found_method (number_of a k) (own_type recs rec (at_row a j)))) (own_table token h)
 
 -- ---- a token of the output
 
