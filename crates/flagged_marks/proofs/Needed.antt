@@ -25,7 +25,6 @@ use Rattle.mark_rules.specs.Shown.{parts_of_item, item_shows}
 use Rattle.mark_rules.specs.Marking.{row_needs, item_needs, one}
 use Rattle.marked_laws.proofs.Closing.{mapped_in}
 
-
 contained : (xs : List Fact) (i : Fact) → Contains xs i → In i xs
 contained [] i c = absurd (let lt = c.1 in omega arith)
 contained (x ∷ xs) i (zero, lt, is) = inl (sym is)
