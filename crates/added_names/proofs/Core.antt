@@ -1,5 +1,5 @@
 -- The tokens in the core library's rows and signatures are those of its table's types.
-use Rattle.std.proofs.Common.{◌≡◌, ◌<◌, ℕ, suc, List, [], ◌∷◌, ◌++◌, length, map, Bool, true, false, Option, Some, None, ◌⊎◌, inl, inr, refl, sym, ap, subst, ◌∙◌, ◌&&◌, ◌||◌, eqb-true}
+use Rattle.std.proofs.Common.{◌≡◌, ◌<◌, ℕ, zero, suc, List, [], ◌∷◌, ◌++◌, length, map, Bool, true, false, Option, Some, None, ◌⊎◌, inl, inr, refl, sym, ap, subst, ◌∙◌, ◌&&◌, ◌||◌, eqb-true}
 use Rattle.std.specs.Prelude.{slice_get, ◌==◌, if◌then◌else◌}
 use Rattle.std.specs.List.{list_all}
 use Rattle.std.specs.Option.{option_and_then}
@@ -81,7 +81,7 @@ all_in p (y ∷ xs) x h (inr i) = all_in p xs x (and_parts (p y) (list_all p xs)
 
 pub in_place : {A : Type 0} (xs : List A) (k : ℕ) (x : A) → slice_get xs k ≡ Some x → In x xs
 in_place [] k x e = absurd (cc)
-in_place (y ∷ xs) 0 x e = inl cc
+in_place (y ∷ xs) zero x e = inl cc
 in_place (y ∷ xs) (suc k) x e = inr (in_place xs k x e)
 
 added_low : (names : List CoreTypeName) → list_all has_low_base (map (added_row core_record) names) ≡ true

@@ -232,16 +232,16 @@ module _ (recs : List AsmRec) where
     pub sig_there : (s : Sig) (e : TypeExpr) (t : TypeId) → sig_expr n s ≡ Good e → In t (types_of_sig (world_sig recs a rec s)) → (at : RowAt) × (type_home recs t ≡ Some at)
     sig_there s e t h i = sig_homes (world_sig recs a rec s) (sig_low s e h) t i
 
+    head_good : (x s : Sig) (ss : List Sig) (e : TypeExpr) → sig_expr n x ≡ Good e → (In s ss → (e : TypeExpr) × (sig_expr n s ≡ Good e)) → (s ≡ x) ⊎ In s ss → (e : TypeExpr) × (sig_expr n s ≡ Good e)
+    head_good x s ss e f more (inl is) = (e, ap (sig_expr n) is ∙ f)
+    head_good x s ss e f more (inr j) = more j
+
     params_good : (ss : List Sig) (es : List TypeExpr) (s : Sig) → all_known (map (sig_expr n) ss) ≡ Good es → In s ss → (e : TypeExpr) × (sig_expr n s ≡ Good e)
     params_good [] es s h i = absurd i
     params_good (x ∷ ss) es s h i =
         let k = known_good (λ (y : TypeExpr). known_map (λ ys. y ∷ ys) (all_known (map (sig_expr n) ss))) (sig_expr n x) es h in
         let m = mapped_good (λ ys. k.0 ∷ ys) (all_known (map (sig_expr n) ss)) es k.2 in
-        by_head k.0 k.1 m.0 m.1 i
-      where
-        by_head : (e : TypeExpr) → sig_expr n x ≡ Good e → (fs : List TypeExpr) → all_known (map (sig_expr n) ss) ≡ Good fs → (s ≡ x) ⊎ In s ss → (e : TypeExpr) × (sig_expr n s ≡ Good e)
-        by_head e f fs g (inl is) = (e, ap (sig_expr n) is ∙ f)
-        by_head e f fs g (inr j) = params_good ss fs s g j
+        head_good x s ss k.0 k.1 (params_good ss m.0 s m.1) i
 
     -- the return and the parameters
     pub method_good : (g : MethodSig) (m : MethodType) (s : Sig) → method_type n g ≡ Good m → In s (g.ret ∷ g.params) → (e : TypeExpr) × (sig_expr n s ≡ Good e)
@@ -249,11 +249,7 @@ module _ (recs : List AsmRec) where
     method_good g m s h i =
         let r = known_good (λ (ret : TypeExpr). known_map (λ params. method_type_of g ret params) (all_known (map (sig_expr n) g.params))) (sig_expr n g.ret) m h in
         let p = mapped_good (λ params. method_type_of g r.0 params) (all_known (map (sig_expr n) g.params)) m r.2 in
-        by_part r.0 r.1 p.0 p.1 i
-      where
-        by_part : (e : TypeExpr) → sig_expr n g.ret ≡ Good e → (es : List TypeExpr) → all_known (map (sig_expr n) g.params) ≡ Good es → (s ≡ g.ret) ⊎ In s g.params → (e : TypeExpr) × (sig_expr n s ≡ Good e)
-        by_part e f es k (inl is) = (e, ap (sig_expr n) is ∙ f)
-        by_part e f es k (inr j) = params_good g.params es s k j
+        head_good g.ret s g.params r.0 r.1 (params_good g.params p.0 s p.1) i
 
     pub method_there : (g : MethodSig) (m : MethodType) (t : TypeId) → method_type n g ≡ Good m → In t (types_of_method_sig (world_method_sig recs a rec g)) → (at : RowAt) × (type_home recs t ≡ Some at)
     method_there g m t h i =

@@ -13,3 +13,5 @@ pub mod Rows
 pub mod Reference
 pub mod Missing
 pub mod Together
+pub mod Homes
+pub mod Readings

@@ -48,6 +48,9 @@ module _ (inputs : List AsmRec) where
   abbrev Ends : ℕ → Type 0
   Ends a = (suc a ≡ length recs) ⊎ ((suc a < length recs) ⊎ (length recs < suc a))
 
+  fine_as : (s w : Sig) → s ≡ w → IsFine recs w → IsFine recs s
+  fine_as s w e f = subst (λ (x : Sig). IsFine recs x) (sym e) f
+
   -- ---- methods
 
   core_method : (a k : ℕ) (rec : AsmRec) (row : MethodDefRow) (g : MethodSig) (y : Sig) → slice_get recs a ≡ Some rec → suc a ≡ length recs → slice_get rec.method_def k ≡ Some row → row.signature ≡ Good g → In y (g.ret ∷ g.params)
@@ -71,7 +74,7 @@ module _ (inputs : List AsmRec) where
       let w = in_map (world_method_sig recs at.asm r.0) g (known_list m.0.signature) m.2 in
       let j : In s (map (world_sig recs at.asm r.0) (w.0.ret ∷ w.0.params)) = subst (λ (x : MethodSig). In s (x.ret ∷ x.params)) w.2 i in
       let y = in_map (world_sig recs at.asm r.0) s (w.0.ret ∷ w.0.params) j in
-      subst (λ (x : Sig). IsFine recs x) (sym y.2)
+      fine_as s (world_sig recs at.asm r.0 y.0) y.2
       (method_by at.asm at.row r.0 m.0 w.0 y.0 (in_listed r.0 (rec_at recs at) r.1) (cases_order (suc at.asm) (length recs)) (in_listed m.0 (slice_get r.0.method_def at.row) m.1) (in_known m.0.signature w.0 w.1) y.1)
 
   -- ---- fields
@@ -94,5 +97,5 @@ module _ (inputs : List AsmRec) where
       let r = in_flat (λ (rec : AsmRec). flat_map (λ (f : FieldRow). map (world_sig recs at.asm rec) (known_list f.signature)) (listed (slice_get rec.field at.row))) s (listed (rec_at recs at)) h in
       let f = in_flat (λ (f : FieldRow). map (world_sig recs at.asm r.0) (known_list f.signature)) s (listed (slice_get r.0.field at.row)) r.2 in
       let w = in_map (world_sig recs at.asm r.0) s (known_list f.0.signature) f.2 in
-      subst (λ (x : Sig). IsFine recs x) (sym w.2)
+      fine_as s (world_sig recs at.asm r.0 w.0) w.2
       (field_by at.asm at.row r.0 f.0 w.0 (in_listed r.0 (rec_at recs at) r.1) (cases_order (suc at.asm) (length recs)) (in_listed f.0 (slice_get r.0.field at.row) f.1) (in_known f.0.signature w.0 w.1))

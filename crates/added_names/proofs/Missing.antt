@@ -50,15 +50,15 @@ module _ (recs : List AsmRec) (namespace name : List ℕ) where
   from_by a b rec next None None there e more h = let same : a ≡ b = cc in subst (Ends recs namespace name) same (record { rec = rec; there = there; none = e })
   from_by a b rec next None (Some c) there e more h = more c h
 
+  rec_by : (a b : ℕ) (next : ℕ → Option ℕ) (o : Option AsmRec) → slice_get recs a ≡ o → ((c : ℕ) → next c ≡ Some b → Ends recs namespace name b)
+      → option_and_then (λ (rec : AsmRec). ends_from a next (type_in rec None namespace name) (forwarded_to recs rec namespace name)) o ≡ Some b → Ends recs namespace name b
+  rec_by a b next None e more g = absurd (cc)
+  rec_by a b next (Some rec) e more g = from_by a b rec next (type_in rec None namespace name) (forwarded_to recs rec namespace name) e refl more g
+
   ends_is : (n a b : ℕ) → ends_at recs n namespace name a ≡ Some b → Ends recs namespace name b
   unfolding ends_at
   ends_is zero a b h = absurd (cc)
-  ends_is (suc n) a b h = by_rec (slice_get recs a) refl h
-    where
-      by_rec : (o : Option AsmRec) → slice_get recs a ≡ o
-          → option_and_then (λ (rec : AsmRec). ends_from a (ends_at recs n namespace name) (type_in rec None namespace name) (forwarded_to recs rec namespace name)) o ≡ Some b → Ends recs namespace name b
-      by_rec None e g = absurd (cc)
-      by_rec (Some rec) e g = from_by a b rec (ends_at recs n namespace name) (type_in rec None namespace name) (forwarded_to recs rec namespace name) e refl (λ c i. ends_is n c b i) g
+  ends_is (suc n) a b h = rec_by a b (ends_at recs n namespace name) (slice_get recs a) refl (λ c i. ends_is n c b i) h
 
   -- a missing name isn't in the last assembly
   last_by : (o : Option ℕ) → is_last recs o ≡ true → (b : ℕ) × (o ≡ Some b) × (suc b ≡ length recs)
@@ -105,13 +105,13 @@ module _ (inputs : List AsmRec) (core : AsmRec) where
       let r = in_flat (missing_name all a rec) x (listed (option_and_then (slice_get rec.type_ref) (index_in 0x01 m.0))) m.2 in
       row_lacks x r.0 (scope_assembly all a rec r.0) (is_missing all (scope_assembly all a rec r.0) r.0.namespace r.0.name) refl r.2
 
+  part_lacks : (a : ℕ) (rec : AsmRec) (recs : List AsmRec) (x : CoreTypeName) → (In x (missing_from all (suc a) recs) → Lacks x) → In x (missing_in all a rec) ⊎ In x (missing_from all (suc a) recs) → Lacks x
+  part_lacks a rec recs x more (inl i) = in_lacks a rec x i
+  part_lacks a rec recs x more (inr i) = more i
+
   from_lacks : (a : ℕ) (recs : List AsmRec) (x : CoreTypeName) → In x (missing_from all a recs) → Lacks x
   from_lacks a [] x h = absurd h
-  from_lacks a (rec ∷ recs) x h = by_part (in_parts x (missing_in all a rec) (missing_from all (suc a) recs) h)
-    where
-      by_part : In x (missing_in all a rec) ⊎ In x (missing_from all (suc a) recs) → Lacks x
-      by_part (inl i) = in_lacks a rec x i
-      by_part (inr i) = from_lacks (suc a) recs x i
+  from_lacks a (rec ∷ recs) x h = part_lacks a rec recs x (from_lacks (suc a) recs x) (in_parts x (missing_in all a rec) (missing_from all (suc a) recs) h)
 
   names_by : (x : CoreTypeName) → In x [] ⊎ In x (missing_from all 0 all) → Lacks x
   names_by x (inl h) = absurd h

@@ -152,16 +152,16 @@ module _ (o : Output) where
   unfolding new_sig
   new_is x = fold-roll-Sig Sig (new_sig_layer o) x
 
-  abbrev Part : Type 0
-  Part = (s : Sig) × IsWritten s
+  abbrev Piece : Type 0
+  Piece = (s : Sig) × IsWritten s
 
-  abbrev plain : List Part → List Sig
-  plain xs = map (λ x. x.0) xs
+  abbrev bare : List Piece → List Sig
+  bare xs = map (λ x. x.0) xs
 
-  args_written : (xs : List Part) → Written (flat_map (λ ns. ns) (map modifiers (plain xs))) (flat_map (λ ns. ns) (map modifiers (map (new_sig o) (plain xs))))
+  args_written : (xs : List Piece) → Written (flat_map (λ ns. ns) (map modifiers (bare xs))) (flat_map (λ ns. ns) (map modifiers (map (new_sig o) (bare xs))))
   args_written [] = written_none
   args_written (x ∷ xs) =
-      written_join (modifiers x.0) (modifiers (new_sig o x.0)) (flat_map (λ ns. ns) (map modifiers (plain xs))) (flat_map (λ ns. ns) (map modifiers (map (new_sig o) (plain xs)))) x.1 (args_written xs)
+      written_join (modifiers x.0) (modifiers (new_sig o x.0)) (flat_map (λ ns. ns) (map modifiers (bare xs))) (flat_map (λ ns. ns) (map modifiers (map (new_sig o) (bare xs)))) x.1 (args_written xs)
 
   from_layers : (x : Sig-F Sig) (z : Sig-F Sig) (t : Sig) → roll-Sig z ≡ t → new_sig o (roll-Sig x) ≡ t
       → Written (modifiers_layer (map-Sig Sig (List ℕ) modifiers x)) (modifiers_layer (map-Sig Sig (List ℕ) modifiers z)) → IsWritten (roll-Sig x)
@@ -169,7 +169,7 @@ module _ (o : Output) where
       subst (λ (ns : List ℕ). Written ns (modifiers (new_sig o (roll-Sig x)))) (sym (modifiers_are x (roll-Sig x) refl))
       (subst (λ (ms : List ℕ). Written (modifiers_layer (map-Sig Sig (List ℕ) modifiers x)) ms) (sym (ap modifiers f ∙ modifiers_are z t e)) w)
 
-  layer_written : (y : Sig-F Part) → IsWritten (roll-Sig (map-Sig Part Sig (λ x. x.0) y))
+  layer_written : (y : Sig-F Piece) → IsWritten (roll-Sig (map-Sig Piece Sig (λ x. x.0) y))
   layer_written (Sig-F.Prim n) = from_layers (Sig-F.Prim n) (Sig-F.Prim n) (sig.Prim n) (sig.rolls-Prim n) (new_is (Sig-F.Prim n)) written_none
   layer_written (Sig-F.Named v n) =
       let k : ℕ = number_token o n in from_layers (Sig-F.Named v n) (Sig-F.Named v k) (sig.Named v k) (sig.rolls-Named v k) (new_is (Sig-F.Named v n)) written_none
@@ -179,8 +179,8 @@ module _ (o : Output) where
       let s : Sig = new_sig o x.0 in from_layers (Sig-F.ByRef x.0) (Sig-F.ByRef s) (sig.ByRef s) (sig.rolls-ByRef s) (new_is (Sig-F.ByRef x.0)) x.1
   layer_written (Sig-F.Inst v n xs) =
       let k : ℕ = number_token o n in
-      let ss : List Sig = map (new_sig o) (plain xs) in
-      from_layers (Sig-F.Inst v n (plain xs)) (Sig-F.Inst v k ss) (sig.Inst v k ss) (sig.rolls-Inst v k ss) (new_is (Sig-F.Inst v n (plain xs))) (args_written xs)
+      let ss : List Sig = map (new_sig o) (bare xs) in
+      from_layers (Sig-F.Inst v n (bare xs)) (Sig-F.Inst v k ss) (sig.Inst v k ss) (sig.rolls-Inst v k ss) (new_is (Sig-F.Inst v n (bare xs))) (args_written xs)
   layer_written (Sig-F.Var n) = from_layers (Sig-F.Var n) (Sig-F.Var n) (sig.Var n) (sig.rolls-Var n) (new_is (Sig-F.Var n)) written_none
   layer_written (Sig-F.MVar n) = from_layers (Sig-F.MVar n) (Sig-F.MVar n) (sig.MVar n) (sig.rolls-MVar n) (new_is (Sig-F.MVar n)) written_none
   layer_written (Sig-F.Mod required n x) =

@@ -1,5 +1,5 @@
 -- The type in which a reference of an input finds a member has names that only modifiers use (II.7.1.1) in modifiers alone.
-use Rattle.std.proofs.Common.{◌≡◌, ◌<◌, ℕ, zero, suc, ◌+◌, List, [], ◌∷◌, ◌++◌, length, map, Bool, true, false, not, Option, Some, None, ◌⊎◌, inl, inr, refl, sym, ap, subst, ◌∙◌, ◌||◌, arith}
+use Rattle.std.proofs.Common.{◌≡◌, ◌<◌, ℕ, zero, suc, ◌+◌, List, [], ◌∷◌, ◌++◌, length, map, Bool, true, false, nat_lt, not, Option, Some, None, ◌⊎◌, inl, inr, refl, sym, ap, subst, ◌∙◌, ◌||◌, arith}
 use Rattle.std.specs.Prelude.{slice_get, ◌==◌, if◌then◌else◌}
 use Rattle.std.specs.List.{Contains, list_all, range_with_len}
 use Rattle.std.specs.Option.{option_map, option_and_then}
@@ -119,7 +119,7 @@ module _ (inputs : List AsmRec) where
 
   vars_plain : (ns : List ℕ) → ArePlain recs (map (λ k. expr.Var k) ns)
   vars_plain [] = refl
-  vars_plain (n ∷ ns) = and_from (is_plain recs (expr.Var n)) (list_all itself (map (is_plain recs) (map (λ k. expr.Var k) ns))) (plain_var recs n) (vars_plain ns)
+  vars_plain (n ∷ ns) = and_from (is_plain recs (expr.Var n)) (list_all (itself recs) (map (is_plain recs) (map (λ k. expr.Var k) ns))) (plain_var recs n) (vars_plain ns)
 
   array_by : (e : TypeExpr) (o : Option TypeId) → array_type recs ≡ o → Plain recs e → Plain recs (elim o [ Some t ↦ expr.Def t | None ↦ e ])
   array_by e None f h = h
@@ -127,7 +127,7 @@ module _ (inputs : List AsmRec) where
 
   open_by : (e : TypeExpr) (x : TypeExpr-F TypeExpr) → plain_layer recs (map-TypeExpr TypeExpr Bool (is_plain recs) x) ≡ true → Plain recs e → Plain recs (open_in recs e x)
   open_by e (TypeExpr-F.Inst t args) g h =
-      inst_plain recs t (own_args (length args)) (first_so (is_listed recs (suc t.0)) (list_all itself (map (is_plain recs) args)) g) (vars_plain (range_with_len 0 (length args)))
+      inst_plain recs t (own_args (length args)) (first_so (is_listed recs (suc t.0)) (list_all (itself recs) (map (is_plain recs) args)) g) (vars_plain (range_with_len 0 (length args)))
   open_by e (TypeExpr-F.Array x) g h = array_by e (array_type recs) refl h
   open_by e (TypeExpr-F.Prim n) g h = h
   open_by e (TypeExpr-F.Def t) g h = h

@@ -30,10 +30,10 @@ use Rattle.merge_rules.specs.Refs.{numbers_in}
 use Rattle.added_names.proofs.Modifiers.{is_listed, Fine, fine_none, fine_one, fine_listed, fine_modifier, fine_join, IsFine, of_layer}
 
 module _ (recs : List AsmRec) where
-  abbrev itself : Bool → Bool
+  abbrev pub itself : Bool → Bool
   itself b = b
 
-  abbrev plain_layer : TypeExpr-F Bool → Bool
+  abbrev pub plain_layer : TypeExpr-F Bool → Bool
   plain_layer (TypeExpr-F.Prim n) = true
   plain_layer (TypeExpr-F.Def t) = is_listed recs (suc t.0)
   plain_layer (TypeExpr-F.Inst t args) = is_listed recs (suc t.0) && list_all itself args

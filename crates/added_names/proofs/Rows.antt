@@ -120,7 +120,7 @@ module _ (inputs : List AsmRec) (internal : Bool) (kept : Kept) (mets : List Met
         let k = in_flat types_of_key t (listed (expr_key recs e)) h in
         key_used k.0 (expr_fine inputs e k.0 p (in_listed k.0 (expr_key recs e) k.1)) (λ s i. specs s (flat_in spec_of_key s k.0 (listed (expr_key recs e)) k.1 i)) k.2
 
-    found_row : MethodId → TypeExpr → RowAt → MethodSig → MemberRefRow
+    abbrev found_row : MethodId → TypeExpr → RowAt → MethodSig → MemberRefRow
     found_row m e at g = record { class = parent_token o e; name = method_name recs at; signature = Good (member.Method (new_method_sig o g)) }
 
     found_used : (m : MethodId) (e : TypeExpr) → In (a_method m e) (flat_map members_of_met mets) → In t (flat_map types_of_method_sig (flat_map (own_method_sig recs) (listed (method_at recs m)))) → Used
@@ -132,7 +132,7 @@ module _ (inputs : List AsmRec) (internal : Bool) (kept : Kept) (mets : List Met
         (flat_in (λ at. map (found_row m e at) (own_method_sig recs at)) (found_row m e at.0 g.0) at.0 (listed (method_at recs m)) at.1 (mapped (found_row m e at.0) g.0 (own_method_sig recs at.0) at.2)) refl
         s.1 (own_method_fine inputs at.0 g.0 s.0 at.2 s.1) s.2
 
-    absent_row : TypeKey → List ℕ → MethodSig → MemberRefRow
+    abbrev absent_row : TypeKey → List ℕ → MethodSig → MemberRefRow
     absent_row p name g = record { class = key_token o p; name = name; signature = Good (member.Method (new_method_sig o g)) }
 
     absent_used : (p : TypeKey) (name : List ℕ) (g : MethodSig) → AllFine recs (g.ret ∷ g.params) → In (an_absent p name g) (flat_map members_of_met mets) → In t (types_of_method_sig g) → Used
@@ -159,7 +159,7 @@ module _ (inputs : List AsmRec) (internal : Bool) (kept : Kept) (mets : List Met
         found_by m e f has (in_parts t (types_of_owner recs e) (flat_map types_of_method_sig (flat_map (own_method_sig recs) (listed (method_at recs m)))) h)
     method_used (absent_method p name g) f has h = absent_by p name g f has (in_parts t (types_of_key p) (types_of_method_sig g) h)
 
-    field_row_of : FieldId → TypeExpr → RowAt → Sig → MemberRefRow
+    abbrev field_row_of : FieldId → TypeExpr → RowAt → Sig → MemberRefRow
     field_row_of m e at s = record { class = parent_token o e; name = field_name recs at; signature = Good (member.Field (new_sig o s)) }
 
     field_used : (m : FieldId) (e : TypeExpr) → In (a_field m e) (flat_map members_of_met mets) → In t (types_of_sigs (flat_map (own_field_sig recs) (listed (field_at recs m)))) → Used

@@ -100,7 +100,7 @@ module _ (m : Merge) (is : IsMerge m) where
   abbrev o : Output
   o = record { recs = assemblies m.inputs; kept = m.kept; mets = mets }
 
-  records : InputsAreRecords (assemblies m.inputs)
+  pub records : InputsAreRecords (assemblies m.inputs)
   unfolding assemblies
   records a rec lt e = is.records a rec (front m.inputs (core_with core_record names) a rec lt e)
 

@@ -1,6 +1,6 @@
 -- What is met comes to a row of the output: a name that only modifiers use (II.7.1.1) is a modifier of a signature that is written.
 use Rattle.std.proofs.Common.{◌≡◌, ◌<◌, ℕ, zero, suc, List, [], ◌∷◌, ◌++◌, length, map, Bool, true, false, not, Option, Some, None, ◌⊎◌, inl, inr, refl, sym, ap, subst, ◌∙◌, ◌||◌}
-use Rattle.std.specs.Prelude.{slice_get, ⊤, tt, Contains, ◌==◌, if◌then◌else◌}
+use Rattle.std.specs.Prelude.{slice_get, ⊤, Contains, ◌==◌, if◌then◌else◌}
 use Rattle.std.specs.List.{flat_map}
 use Rattle.std.specs.Option.{option_map, option_and_then}
 use Rattle.il_base.specs.declared.ids.TypeId.{TypeId}
