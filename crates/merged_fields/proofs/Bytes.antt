@@ -97,7 +97,7 @@ field_table rec w h =
 low_token : (i : ℕ) → i < 16777215 → token_32 FIELD i ≡ token_of FIELD (suc i)
 low_token i lt = omega (arith, lt)
 
-field_size : (rec : AsmRec) → rows_in rec FIELD ≡ length rec.field
+pub field_size : (rec : AsmRec) → rows_in rec FIELD ≡ length rec.field
 unfolding table_sizes
 field_size rec = refl
 

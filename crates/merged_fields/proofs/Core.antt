@@ -57,13 +57,13 @@ string_owns : position_from (owns_field 1) 0 core_record.type_def ≡ Some 20
 unfolding core_record record_with type_rows type_row fields_of methods_of
 string_owns = refl
 
-front_by : {A : Type 0} (d k : ℕ) (b : Bool) (o q : Option ℕ) → (o ≡ Some k → q ≡ Some k) → cond b (Some d) o ≡ Some k → cond b (Some d) q ≡ Some k
+front_by : (d k : ℕ) (b : Bool) (o q : Option ℕ) → (o ≡ Some k → q ≡ Some k) → cond b (Some d) o ≡ Some k → cond b (Some d) q ≡ Some k
 front_by d k true o q more e = e
 front_by d k false o q more e = more e
 
 front_found : {A : Type 0} (t : A → Bool) (xs ys : List A) (d k : ℕ) → position_from t d xs ≡ Some k → position_from t d (xs ++ ys) ≡ Some k
 front_found t [] ys d k e = absurd (cc)
-front_found {A} t (x ∷ xs) ys d k e = front_by {A} d k (t x) (position_from t (d + 1) xs) (position_from t (d + 1) (xs ++ ys)) (front_found t xs ys (d + 1) k) e
+front_found t (x ∷ xs) ys d k e = front_by d k (t x) (position_from t (d + 1) xs) (position_from t (d + 1) (xs ++ ys)) (front_found t xs ys (d + 1) k) e
 
 module _ (recs : List AsmRec) (a : ℕ) (rec : AsmRec) (last : suc a ≡ length recs) (here : slice_get recs a ≡ Some rec) where
   -- a row of a type behind the first is no `<Module>`

@@ -33,7 +33,7 @@ use Rattle.cil_values.specs.declared.definition.First.{First}
 use Rattle.cil_values.specs.declared.definition.First.TheVariants.{EmptyText as empty_text, Bytes as bytes}
 use Rattle.view_rules.specs.declared.seen_flags.TheConstants as seen
 use Rattle.view_rules.specs.Methods.{has_explicit_layout, bytes_by, first_bytes, field_owner, field_by, field_at}
-use Rattle.merge_rules.specs.Numbers.{kept_fields}
+use Rattle.merge_rules.specs.Numbers.{kept_types, kept_fields}
 use Rattle.merge_rules.specs.Moved.{moved_sig, moved_field_row}
 use Rattle.change_rules.specs.Change.{Keep}
 use Rattle.change_rules.specs.Moves.{move_expr}
@@ -169,6 +169,7 @@ module _ (m : Merge) (entry : Option RowAt) (roots : List Root) (k : Keep) (kept
         flags.types (at_row at.asm t.place_of) r.0 h.earlier r.1 ∙ t.keeps_it
 
     type_moved : (places_of m).typ (at_row at.asm t.place_of) ≡ at_row 0 new_type
+    unfolding kept_types
     type_moved =
         place_there m types_in number_type (type_kind m is) (at_row at.asm t.place_of) there
         ∙ place_kept m types_in number_type (type_kind m is) (at_row at.asm t.place_of) there h.earlier t.keeps_it
