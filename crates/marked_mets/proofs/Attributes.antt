@@ -1,14 +1,13 @@
 -- What kept attributes meet is kept: the constructor of one whose constructor is in an input is needed, another is the core library's or
 -- names nothing.
-use Rattle.std.proofs.Common.{◌≡◌, ◌<◌, ℕ, suc, ◌+◌, Bool, true, false, List, [], ◌∷◌, ◌++◌, length, map, not, Option, Some, None, refl, sym, ap, subst, ◌∙◌}
-use Rattle.std.specs.Prelude.{slice_get, ◌==◌, ◌&&◌, ◌||◌, if◌then◌else◌}
+use Rattle.std.proofs.Common.{◌≡◌, ℕ, suc, Bool, true, false, List, [], ◌++◌, length, map, not, Option, Some, None, refl, sym, ap, subst, ◌∙◌}
+use Rattle.std.specs.Prelude.{slice_get, ◌==◌, ◌||◌, if◌then◌else◌}
 use Rattle.std.specs.List.{Contains, list_any, flat_map, filter}
 use Rattle.std.specs.Option.{option_map, option_and_then}
 use Rattle.std.specs.Cmp.{first_so, second_so}
 use Rattle.std.proofs.lemmas.Bool.{eq-eqb, eqb-true}
 use Rattle.std.proofs.lemmas.List.Elements.{Contains-append_left}
 use Rattle.il_base.specs.declared.ids.MethodId.{MethodId}
-use Rattle.il_base.specs.declared.ids.Item.{Item}
 use Rattle.il_base.specs.declared.ids.Item.TheVariants as item
 use Rattle.il_base.specs.declared.sig.MethodSig.{MethodSig}
 use Rattle.il_base.specs.declared.table.TheConstants as table
@@ -28,7 +27,7 @@ use Rattle.link_rules.specs.Types.{at_row, or_else}
 use Rattle.link_rules.specs.Cycles.{listed}
 use Rattle.link_rules.specs.Members.{methods_in, method_ref_use, ref_use_at, def_use_at, generic_method}
 use Rattle.type_rules.specs.Rows.{rec_at}
-use Rattle.known_laws.proofs.Lists.{first_in, from_flat, from_map, to_map, from_option, to_option, from_listed, to_listed, to_if, to_flat, to_any, and_then_some, map_some}
+use Rattle.known_laws.proofs.Lists.{first_in, from_map, to_map, from_option, to_option, from_listed, to_listed, to_if, to_flat, to_any, and_then_some, map_some}
 use Rattle.mark_rules.specs.Facts.{Fact, start}
 use Rattle.mark_rules.specs.Facts.Fact.{marked}
 use Rattle.mark_rules.specs.Places.{row_of, is_core}
@@ -38,8 +37,8 @@ use Rattle.mark_rules.specs.Roots.{start_facts}
 use Rattle.mark_rules.specs.Marking.{same_fact, given, marking, Marks}
 use Rattle.mark_rules.specs.BadItems.{IsFirstFlaw}
 use Rattle.merge_rules.specs.Numbers.{Kept}
-use Rattle.merge_rules.specs.Keys.{TypeKey, MethodKey, absent_method, good, method_key_of, world_method_sig, type_key, method_key, instance_key}
-use Rattle.merge_rules.specs.Order.{Met, met_method, met_instance, met_callee}
+use Rattle.merge_rules.specs.Keys.{MethodKey, absent_method, good, method_key_of, world_method_sig, type_key, method_key, instance_key}
+use Rattle.merge_rules.specs.Order.{met_method, met_instance}
 use Rattle.merge_rules.specs.Refs.{types_of_key, types_of_method_sig}
 use Rattle.merge_rules.specs.Rows.{all_rows, kept_row_token}
 use Rattle.merge_rules.specs.Attributes.{may_be_parent, may_take, is_copied, absent_constructor, copied_constructor, is_in_input, constructor_key, Attribute, attribute_with, attribute_in, kept_attributes, met_by_attributes}
@@ -48,7 +47,7 @@ use Rattle.merged_record.proofs.Lists.{from_all, OfInput, place_in}
 use Rattle.merged_record.proofs.Sorting.{sorted_in}
 use Rattle.merged_record.proofs.Tokens.{of_coded}
 use Rattle.merged_owners.specs.Laws.{AreMarked, AreKept}
-use Rattle.merged_owners.proofs.Every.{Every, all_none, all_one, all_join, all_map, some_of}
+use Rattle.merged_owners.proofs.Every.{Every, all_none, all_join, all_map, some_of}
 use Rattle.merged_tokens.proofs.Bodies.{no_spec}
 use Rattle.merged_tokens.proofs.Once.{to_filter}
 use Rattle.merged_tokens.proofs.Parents.{Parent, parent_is}
@@ -107,6 +106,7 @@ named_row recs a rec token row e =
     by_test true c f g = absurd (cc)
     by_test false true f g = absurd (cc)
     by_test false false f g = ap (ref_use_at recs a rec) e
+
     by_table : table_of token ≡ table.MEMBER_REF
         → (if table_of token == table.METHOD_SPEC then spec_use_at recs a rec (option_and_then (slice_get rec.method_spec) (index_in table.METHOD_SPEC token))
         else if table_of token == table.METHOD_DEF then def_use_at recs a rec (row_below (methods_in rec) (index_in table.METHOD_DEF token))

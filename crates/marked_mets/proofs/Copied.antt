@@ -1,8 +1,8 @@
 -- The constructor of a copied attribute: the types that it may name are the core library's, or references that name nothing, and so it
 -- is found in the core library alone.
-use Rattle.std.proofs.Common.{◌≡◌, ◌<◌, ℕ, zero, suc, ◌+◌, nat_lt, Bool, true, false, List, [], ◌∷◌, ◌++◌, length, map, not, Option, Some, None, refl, sym, ap, subst, ◌∙◌}
+use Rattle.std.proofs.Common.{◌≡◌, ℕ, zero, suc, ◌+◌, nat_lt, Bool, true, false, List, [], ◌∷◌, ◌++◌, length, map, Option, Some, None, refl, sym, ap, subst, ◌∙◌}
 use Rattle.std.specs.Prelude.{slice_get, nat_le, ◌==◌, ◌&&◌, ◌||◌, if◌then◌else◌}
-use Rattle.std.specs.List.{Contains, list_any, list_all, flat_map}
+use Rattle.std.specs.List.{list_any, list_all, flat_map}
 use Rattle.std.specs.Option.{option_map, option_and_then}
 use Rattle.std.specs.Cmp.{first_so, second_so}
 use Rattle.std.proofs.lemmas.Bool.{eqb-true}
@@ -31,13 +31,11 @@ use Rattle.world_model.specs.Worlds.{types_in as type_rows, type_id, known_then,
 use Rattle.core_table.specs.declared.types.TheConstants.{TYPE_COUNT}
 use Rattle.link_rules.specs.declared.row_at.RowAt.{RowAt}
 use Rattle.link_rules.specs.declared.member_type.MethodType.{MethodType}
-use Rattle.link_rules.specs.Types.{at_row, is_added, listed_at, added_at, ref_at, ref_type, ref_definition, added_type, definition_at, added_by}
+use Rattle.link_rules.specs.Types.{at_row, listed_at, added_at, ref_at, ref_type, ref_definition, added_type, definition_at, added_by}
 use Rattle.link_rules.specs.Signatures.{names_at, named_type, spec_type_at, token_type, method_type}
-use Rattle.link_rules.specs.Members.{method_of_type, find_method, Found, methods_in, most_levels, method_use, is_field_sig, parent_of, method_in_parent, method_ref_use, ref_use_at, def_use_at, generic_method}
+use Rattle.link_rules.specs.Members.{method_of_type, find_method, Found, methods_in, most_levels, method_use, is_field_sig, parent_of, method_in_parent, method_ref_use}
 use Rattle.link_rules.specs.Cycles.{listed}
-use Rattle.known_laws.proofs.Lists.{first_in, later_in, and_then_some, map_some, from_option, from_any}
-use Rattle.mark_rules.specs.Naming.{spec_use_at, method_named}
-use Rattle.mark_rules.specs.Attributes.{ref_sig}
+use Rattle.known_laws.proofs.Lists.{first_in, later_in, and_then_some, map_some}
 use Rattle.merge_rules.specs.Numbers.{Kept}
 use Rattle.merge_rules.specs.Keys.{TypeKey, named, spec, good, class_number, numbered_key, spec_key, type_key, world_sig, world_method_sig}
 use Rattle.merge_rules.specs.Refs.{numbers_layer, numbers_in, types_of_sig, types_of_key, types_of_method_sig}
@@ -47,7 +45,7 @@ use Rattle.merged_signatures.proofs.Reading.{good_then}
 use Rattle.marked_mets.proofs.Stays.{Stays, StayAll, last_stays}
 use Rattle.marked_mets.proofs.Tokens.{NumberStays, TokenStays, class_stays, modifier_stays}
 use Rattle.marked_mets.proofs.Signatures.{Opens, world_stays, sigs_by}
-use Rattle.marked_mets.proofs.CoreOnly.{IsLast, Core, NamesLast, row_last, named_core, sig_core, definition_core, closed_owner}
+use Rattle.marked_mets.proofs.CoreOnly.{IsLast, Core, NamesLast, row_last, named_core, sig_core, closed_owner}
 
 -- each item of a list that a test holds of
 every_of : {A : Type 0} (p : A → Bool) (xs : List A) → list_all p xs ≡ true → Every (λ x. p x ≡ true) xs
@@ -257,6 +255,7 @@ module _ (recs : List AsmRec) where
         only : (b : Bool) → (b || false) ≡ true → b ≡ true
         only true m = refl
         only false m = m
+
         known_by : (s : Known Sig) → list_any (may_have recs a rec) (listed (good s) ++ []) ≡ true → spec_key recs a rec (Some (record { signature = s })) ≡ Some k → StayAll recs kept (types_of_key k)
         known_by (Good s) m e =
             let same : spec (world_sig recs a rec s) ≡ k = cc in

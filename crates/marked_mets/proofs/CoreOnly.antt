@@ -1,9 +1,8 @@
 -- Types that name types of the core library alone: so do signatures of a copied attribute, bases, and types in which members are found.
-use Rattle.std.proofs.Common.{◌≡◌, ◌<◌, ◌≤◌, ℕ, zero, suc, ◌+◌, ◌-◌, Bool, true, false, List, [], ◌∷◌, ◌++◌, length, map, Option, Some, None, refl, sym, ap, subst, ◌∙◌, arith}
+use Rattle.std.proofs.Common.{◌≡◌, ℕ, zero, suc, ◌-◌, Bool, true, false, List, [], ◌∷◌, length, map, Option, Some, None, refl, sym, ap, subst, ◌∙◌, arith}
 use Rattle.std.specs.Prelude.{slice_get, position, ◌==◌, ◌||◌, if◌then◌else◌}
 use Rattle.std.specs.List.{Contains, flat_map, range_with_len}
 use Rattle.std.specs.Option.{option_map, option_and_then}
-use Rattle.std.proofs.lemmas.Bool.{eqb-true}
 use Rattle.std.proofs.lemmas.List.Elements.{Contains-append_left, Contains-append_right}
 use Rattle.il_base.specs.declared.ids.TypeId.{TypeId}
 use Rattle.il_base.specs.declared.sig.Sig.{Sig, fold-roll-Sig, ind-Sig, roll-Sig}
@@ -17,7 +16,6 @@ use Rattle.world_model.specs.declared.expr.TypeExpr.{TypeExpr, ind-TypeExpr, out
 use Rattle.world_model.specs.declared.expr.TypeExpr.TheFolds.{map-TypeExpr}
 use Rattle.world_model.specs.declared.expr.TypeExpr.TheOpen.{TypeExpr-F}
 use Rattle.world_model.specs.declared.expr.TypeExpr.TheVariants as expr
-use Rattle.world_model.specs.declared.types.TypeSpecRow.{TypeSpecRow}
 use Rattle.world_model.specs.declared.types.TypeDefRow.{TypeDefRow}
 use Rattle.world_model.specs.declared.record.AsmRec.{AsmRec}
 use Rattle.world_model.specs.Tokens.{table_of, index_in}
@@ -28,19 +26,18 @@ use Rattle.world_model.proofs.ExprLayers.{subst_prim, subst_def, subst_inst, sub
 use Rattle.core_table.specs.declared.tokens.TheConstants.{ARRAY}
 use Rattle.link_rules.specs.declared.row_at.RowAt.{RowAt}
 use Rattle.link_rules.specs.Types.{definition_at, added_by}
-use Rattle.link_rules.specs.Signatures.{prim_at, definition_expr, known_expr, named_type, names_at, spec_type_at, token_type}
+use Rattle.link_rules.specs.Signatures.{prim_at, definition_expr, known_expr, named_type, names_at, token_type}
 use Rattle.link_rules.specs.Members.{type_home, array_type, owner_in, owner_of, args_in, args_of, good_type, is_named, only_named, is_interface_row, base_in, base_at, base_of, bases_from, type_count, with_bases, Found, found_in, or_next, search, own_args, open_in, open_parent, closed}
 use Rattle.type_laws.proofs.Places.{home_is, place_within}
-use Rattle.type_laws.proofs.Upwards.{out_is}
 use Rattle.known_laws.proofs.Lists.{first_in, later_in, and_then_some, map_some}
 use Rattle.change_laws.proofs.Exprs.{With, plain_parts}
 use Rattle.mark_rules.specs.Naming as naming
 use Rattle.merge_rules.specs.Numbers.{Kept}
 use Rattle.merge_rules.specs.Refs.{numbers_layer, numbers_in}
-use Rattle.merged_owners.proofs.Every.{Every, all_none, all_one, all_more, all_join, all_flat, all_map}
+use Rattle.merged_owners.proofs.Every.{Every, all_none, all_one, all_more, all_join, all_map}
 use Rattle.merged_owners.proofs.Homes.{not_before}
 use Rattle.merged_signatures.proofs.Reading.{good_map, good_then}
-use Rattle.marked_mets.proofs.Stays.{Stays, StayAll, Stay}
+use Rattle.marked_mets.proofs.Stays.{Stay}
 use Rattle.marked_mets.proofs.Tokens.{types_are}
 
 module _ (recs : List AsmRec) where
