@@ -1,7 +1,11 @@
 -- The laws on a merge that keeps exactly what is marked, joined: what is left of files loads, links and runs as they do.
-use Rattle.std.proofs.Common.{◌≡◌, ◌<◌, ◌≤◌, ℕ, zero, suc, Bool, List, [], ◌∷◌, ◌++◌, length, Option, Some, None, subst, arith}
+use Rattle.std.proofs.Common.{◌≡◌, ◌<◌, ◌≤◌, ℕ, zero, suc, Bool, List, [], ◌∷◌, ◌++◌, length, Option, Some, None, inl, inr, sym, subst, arith}
 use Rattle.std.specs.Prelude.{IsTrue, slice_get}
+use Rattle.std.specs.List.{Contains}
 use Rattle.std.specs.Option.{option_map}
+use Rattle.type_laws.proofs.Within.{In}
+use Rattle.merge_rules.specs.Keys.{world_sig}
+use Rattle.merge_rules.specs.Refs.{types_of_sig}
 use Rattle.descriptor_file.specs.declared.root.Root.{Root}
 use Rattle.world_model.specs.declared.record.AsmRec.{AsmRec}
 use Rattle.world_model.specs.Records.{IsRecord}
@@ -35,7 +39,8 @@ use Rattle.marked_merge_rules.specs.Reads.{KeepsAllMet, CoreStays, AllThere, Kee
 use Rattle.marked_mets.specs.Laws.{MetsAreKept, MembersAreKept}
 use Rattle.merged_scopes.specs.Laws.{MarkedReferencesStand}
 use Rattle.member_parents.specs.Laws.{AllNamed}
-use Rattle.added_names.specs.Laws.{NamesStay, MetThere, TokensRead, SignaturesRead, SignaturesHaveHomes}
+use Rattle.added_names.specs.Laws.{NamesStay, MetThere, TokensRead, SignaturesRead}
+use Rattle.added_names.proofs.Homes.{sig_there}
 use Rattle.merged_back.specs.Premises.{ReadsFieldSignatures}
 use Rattle.merged_back.specs.Laws.{MarkedLinks, FieldSignaturesRead}
 use Rattle.merged_uses.specs.Laws as uses
@@ -70,6 +75,11 @@ input_below : (inputs : List AsmRec) (a : ℕ) (rec : AsmRec) → slice_get inpu
 unfolding assemblies
 input_below inputs a rec e = below_end inputs _ a rec e
 
+contained : {A : Type 0} (xs : List A) (x : A) → Contains xs x → In x xs
+contained [] x c = absurd (let lt = c.1 in omega arith)
+contained (y ∷ xs) x (zero, lt, is) = inl (sym is)
+contained (y ∷ xs) x (suc n, lt, is) = inr (contained xs x (n, omega arith, is))
+
 -- ---- the laws
 
 pub record Laws : Type 1 where
@@ -87,12 +97,13 @@ pub record Laws : Type 1 where
   -- what tokens and signatures name
   pub tokens : TokensRead
   pub signatures : SignaturesRead
-  pub homes : SignaturesHaveHomes
   pub field_signatures : FieldSignaturesRead
   pub callees : CalleesRead
   pub field_tokens : FieldTokensRead
   pub impls : ImplsRead
   -- flags
+  pub parts : PartsStayAll
+  pub plain : CoreIsPlainAll
   pub follow : FlagsFollow
   pub flags : FlagsSay
   pub bases : BasesAreGood
@@ -136,10 +147,10 @@ module _ (l : Laws) (m : Merge) (entry : Option RowAt) (roots : List Root) (hold
   field_signatures = l.field_signatures m entry roots t.merge there
 
   homes : HaveHomes m
-  homes = l.homes m merge
+  homes = λ a rec s e t there lt h c. sig_there (before m) a rec there s e t h (contained (types_of_sig (world_sig (before m) a rec s)) t c)
 
   marks : HasMarks (before m) entry roots (flags_of m holds) × OnlyMarks (before m) entry roots (flags_of m holds)
-  marks = l.follow m entry roots holds t.merge t.facts core
+  marks = l.follow m entry roots holds t.merge t.facts (l.parts m entry roots t.merge core) (l.plain m entry roots t.merge)
 
   flagged : IsFlagged m entry roots holds
   flagged = record { merge = t.merge; facts = t.facts; marks = marks.0 }
