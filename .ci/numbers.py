@@ -36,10 +36,9 @@ EXCEPTIONS = {
     "crates/pe_image/src/image.rt": "tests the flags of the CLI header (II.25.3.3.1)",
     "crates/record_format/specs/Texts.antt": "makes the tokens of texts (III.4.16)",
     "crates/user_strings/": "makes the tokens of texts (III.4.16)",
-    "crates/run_rules/specs/Runs.antt": "names the methods of thin records, modulo 2^32",
 }
-# Thin records and their crates name tables and tokens by their numbers.
-THIN = re.compile(r"crates/(?:thin_\w+|trim_\w+|restriction|agreement|written_\w+)/|crates/world_model/specs/Thin\.antt")
+# The writer's oldest crates name tables and tokens by their numbers.
+OLD = re.compile(r"crates/written_\w+/|crates/world_model/specs/Thin\.antt")
 SKIPPED = re.compile(r"^crates/\w+_tests/|/tests(?:/|\.rt$)|/specs/(?:Sample|Examples)\.antt$")
 
 
@@ -64,7 +63,7 @@ def named_crates():
 def files():
     for path in sorted(glob.glob("crates/*/src/**/*.rt", recursive=True) + glob.glob("crates/*/specs/**/*.antt", recursive=True)):
         excepted = any(path == name or name.endswith("/") and path.startswith(name) for name in EXCEPTIONS)
-        if not excepted and not THIN.match(path) and not SKIPPED.search(path):
+        if not excepted and not OLD.match(path) and not SKIPPED.search(path):
             yield path
 
 
