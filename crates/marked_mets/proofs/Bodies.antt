@@ -5,7 +5,6 @@ use Rattle.std.specs.List.{Contains, flat_map, list_any}
 use Rattle.std.specs.Option.{option_and_then}
 use Rattle.std.proofs.lemmas.Bool.{and_from}
 use Rattle.std.proofs.lemmas.List.Elements.{Contains-append_left, Contains-append_right}
-use Rattle.il_base.specs.declared.ids.Item.TheVariants as item
 use Rattle.il_base.specs.declared.sig.Sig.{Sig}
 use Rattle.il_base.specs.declared.sig.MethodSig.{MethodSig}
 use Rattle.il_base.specs.declared.body.Form.{Form}
@@ -34,7 +33,7 @@ use Rattle.link_rules.specs.Signatures.{names_at, named_type, spec_type_at, toke
 use Rattle.link_rules.specs.Members.{methods_in}
 use Rattle.type_rules.specs.Rows.{rec_at}
 use Rattle.type_laws.proofs.Places.{place_within}
-use Rattle.known_laws.proofs.Lists.{first_in, from_map, to_flat, to_option, to_if}
+use Rattle.known_laws.proofs.Lists.{first_in, to_flat, to_option, to_if}
 use Rattle.mark_rules.specs.Places.{row_of, method_item}
 use Rattle.mark_rules.specs.Naming.{Part, bad_part, sigs_parts, method_sig_parts, type_token_part, method_token_part, field_token_part}
 use Rattle.mark_rules.specs.Types.{constraints_of}
@@ -44,14 +43,13 @@ use Rattle.mark_rules.specs.Shown.{parts_of_item}
 use Rattle.mark_rules.specs.Marking.{Marks}
 use Rattle.mark_rules.specs.BadItems.{IsFirstFlaw}
 use Rattle.merge_rules.specs.Numbers.{Kept}
-use Rattle.merge_rules.specs.Keys.{TypeKey, named, spec, good, number_of, class_number, numbered_key, spec_key, type_key, world_sig, world_sigs}
+use Rattle.merge_rules.specs.Keys.{TypeKey, named, spec, good, class_number, numbered_key, spec_key, type_key, world_sig, world_sigs}
 use Rattle.merge_rules.specs.Order.{Met, met_type, met_sig, met_locals, met_types, met_token, met_good_sig, met_method_sig, met_callee, met_field_token, met_by_form, met_operand, met_locals_row, met_locals_token, met_body, met_method_row}
-use Rattle.merge_rules.specs.Refs.{types_of_key, types_of_sig, types_of_sigs, types_of_method_sig}
+use Rattle.merge_rules.specs.Refs.{types_of_key, types_of_sig, types_of_sigs}
 use Rattle.merged_record.specs.Laws.{InputsAreRecords}
 use Rattle.merged_owners.specs.Laws.{AreMarked, AreKept}
-use Rattle.merged_owners.proofs.Every.{Every, all_none, all_one, all_join, all_listed, all_if, all_either, all_flat, all_option, all_map}
+use Rattle.merged_owners.proofs.Every.{Every, all_none, all_one, all_join, all_listed, all_if, all_flat, all_option, all_map}
 use Rattle.merged_owners.proofs.Homes.{own_home}
-use Rattle.merged_signatures.proofs.Reading.{good_then}
 use Rattle.marked_mets.proofs.Stays.{Stays, StayAll, Stay}
 use Rattle.marked_mets.proofs.Tokens.{NumberStays, class_stays, good_token}
 use Rattle.marked_mets.proofs.Signatures.{sig_stays}

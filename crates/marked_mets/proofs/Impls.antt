@@ -1,6 +1,6 @@
 -- What MethodImpl rows of kept types meet is kept: bodies and declarations.
-use Rattle.std.proofs.Common.{◌≡◌, ◌<◌, ℕ, suc, ◌+◌, List, [], ◌∷◌, ◌++◌, length, map, Bool, true, false, Option, Some, None, refl, sym, ap, subst, ◌∙◌, arith}
-use Rattle.std.specs.Prelude.{slice_get, ◌==◌, ◌&&◌, ◌||◌, if◌then◌else◌}
+use Rattle.std.proofs.Common.{◌≡◌, ◌<◌, ℕ, suc, ◌+◌, List, [], ◌++◌, length, map, Bool, true, false, Option, Some, None, refl, sym, ap, subst, ◌∙◌, arith}
+use Rattle.std.specs.Prelude.{slice_get, ◌==◌, ◌||◌, if◌then◌else◌}
 use Rattle.std.specs.List.{Contains, flat_map, filter, list_any}
 use Rattle.std.specs.Option.{option_map}
 use Rattle.std.proofs.lemmas.Bool.{and_parts}
@@ -23,19 +23,19 @@ use Rattle.type_rules.specs.Rows.{rec_at, each_row}
 use Rattle.type_rules.specs.Slots.{method_row_at, method_home}
 use Rattle.type_rules.specs.Dispatch.{good_use}
 use Rattle.type_laws.proofs.Places.{rows_decide}
-use Rattle.known_laws.proofs.Lists.{to_flat, to_option, to_if, to_each, map_some}
+use Rattle.known_laws.proofs.Lists.{to_flat, to_option, to_if, to_each}
 use Rattle.mark_rules.specs.Facts.{Fact, start}
 use Rattle.mark_rules.specs.Facts.Fact.{marked}
 use Rattle.mark_rules.specs.Places.{row_of, is_core}
-use Rattle.mark_rules.specs.Naming.{of_method_use, method_named}
+use Rattle.mark_rules.specs.Naming.{of_method_use}
 use Rattle.mark_rules.specs.Calls.{method_needs, makes, overridden, has_body, declared_by, declared_in, overrides_of, method_starts}
 use Rattle.mark_rules.specs.Properties.{accessed}
 use Rattle.mark_rules.specs.Roots.{start_facts}
-use Rattle.mark_rules.specs.Marking.{row_needs, same_fact, given, marking, Marks}
+use Rattle.mark_rules.specs.Marking.{same_fact, given, marking, Marks}
 use Rattle.mark_rules.specs.BadItems.{IsFirstFlaw}
 use Rattle.merge_rules.specs.Numbers.{Kept}
 use Rattle.merge_rules.specs.Keys.{MethodKey, own_method, found_method, good, is_plain_owner, method_key_of, method_key, instance_key}
-use Rattle.merge_rules.specs.Order.{Met, met_method, met_instance, met_callee, is_kept_method, is_impl_of, met_impls}
+use Rattle.merge_rules.specs.Order.{met_method, met_instance, met_callee, is_kept_method, is_impl_of, met_impls}
 use Rattle.merged_record.specs.Laws.{InputsAreRecords}
 use Rattle.merged_record.proofs.Lists.{from_filter}
 use Rattle.merged_record.proofs.Tokens.{of_coded}

@@ -1,14 +1,12 @@
 -- What all kept types meet is kept.
-use Rattle.std.proofs.Common.{◌≡◌, ◌<◌, ◌≤◌, ℕ, suc, ◌+◌, ◌-◌, List, [], ◌∷◌, ◌++◌, length, map, min, take, drop, Bool, true, false, Option, Some, None, refl, sym, ap, subst, ◌∙◌, arith, eqb-true}
-use Rattle.std.specs.Prelude.{slice_get, ◌==◌}
-use Rattle.std.specs.List.{Contains, flat_map, filter}
+use Rattle.std.proofs.Common.{◌≡◌, ◌<◌, ℕ, suc, ◌-◌, List, ◌++◌, length, map, min, drop, true, Option, Some, None, sym, ap, subst, ◌∙◌, arith}
+use Rattle.std.specs.Prelude.{slice_get}
+use Rattle.std.specs.List.{Contains, flat_map}
 use Rattle.std.proofs.lemmas.List.{length-take, length-drop}
 use Rattle.il_base.specs.declared.table.TheConstants as table
 use Rattle.descriptor_file.specs.declared.root.Root.{Root}
 use Rattle.world_model.specs.declared.types.TypeDefRow.{TypeDefRow}
 use Rattle.world_model.specs.declared.members.MethodDefRow.{MethodDefRow}
-use Rattle.world_model.specs.declared.members.PropertyMapRow.{PropertyMapRow}
-use Rattle.world_model.specs.declared.members.EventMapRow.{EventMapRow}
 use Rattle.world_model.specs.declared.record.AsmRec.{AsmRec}
 use Rattle.world_model.specs.Tokens.{token_of}
 use Rattle.world_model.specs.Worlds.{types_in}
@@ -29,7 +27,7 @@ use Rattle.merged_record.proofs.Lists.{from_filter}
 use Rattle.merged_record.proofs.Rows.{IsKept, from_kept}
 use Rattle.merged_record.proofs.Sorting.{from_range}
 use Rattle.merged_owners.specs.Laws.{AreMarked, AreKept}
-use Rattle.merged_owners.proofs.Every.{Every, all_join, all_filter, all_flat, all_option, all_map}
+use Rattle.merged_owners.proofs.Every.{Every, all_join, all_flat, all_option, all_map}
 use Rattle.marked_mets.proofs.Uses.{CoreIsBare, Fine}
 use Rattle.marked_mets.proofs.Bodies.{method_row_fine}
 use Rattle.marked_mets.proofs.Types.{extends_fine, interfaces_fine, own_constraints, field_row_fine, property_row_fine, event_row_fine, method_constraints}

@@ -9,4 +9,7 @@ pub mod Bodies
 pub mod Types
 pub mod Impls
 pub mod Joined
+pub mod CoreOnly
+pub mod Copied
+pub mod Attributes
 pub mod Merges

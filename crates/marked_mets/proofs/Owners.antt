@@ -1,7 +1,6 @@
 -- The types of what is written for the type in which a member is found: those that the type names, and of the core library.
-use Rattle.std.proofs.Common.{◌≡◌, ℕ, suc, Bool, List, [], ◌∷◌, ◌++◌, map, Option, Some, None, refl, sym, ap, subst, ◌∙◌}
-use Rattle.std.specs.List.{Contains, flat_map}
-use Rattle.std.specs.Option.{option_map}
+use Rattle.std.proofs.Common.{◌≡◌, suc, Bool, List, [], ◌∷◌, ◌++◌, map, Some, refl, sym, subst}
+use Rattle.std.specs.List.{flat_map}
 use Rattle.il_base.specs.declared.ids.TypeId.{TypeId}
 use Rattle.il_base.specs.declared.sig.Sig.{Sig}
 use Rattle.il_base.specs.declared.sig.Sig.TheOpen.{Sig-F}
@@ -18,7 +17,7 @@ use Rattle.merge_rules.specs.Numbers.{Kept}
 use Rattle.merge_rules.specs.Keys.{TypeKey, named, spec, is_value, made_layer, made_sig, expr_key_in, expr_key}
 use Rattle.merge_rules.specs.Refs.{numbers_in, types_of_key, types_of_owner}
 use Rattle.std.proofs.lemmas.List.Elements.{Contains-append_left, Contains-append_right}
-use Rattle.merged_owners.proofs.Every.{Every, all_none, all_one, all_more, all_join, all_option}
+use Rattle.merged_owners.proofs.Every.{all_none, all_one, all_more, all_join, all_option}
 use Rattle.marked_mets.proofs.Stays.{Stays, StayAll, Stay}
 use Rattle.marked_mets.proofs.Tokens.{NumberStays, types_are, suc_stays, prim_stays}
 use Rattle.marked_mets.proofs.Signatures.{NumbersStay, of_layer, sig_types}

@@ -1,5 +1,5 @@
 -- What a part of a kept item names: it names something, and all that it names is needed.
-use Rattle.std.proofs.Common.{◌≡◌, ◌<◌, ℕ, suc, List, [], ◌∷◌, ◌++◌, length, map, Bool, true, false, Option, Some, None, refl, sym, ap, subst, ◌∙◌, arith}
+use Rattle.std.proofs.Common.{◌≡◌, ◌<◌, ℕ, suc, List, [], ◌∷◌, ◌++◌, length, Bool, true, false, Option, Some, None, refl, sym, ap, subst, ◌∙◌, arith}
 use Rattle.std.specs.Prelude.{slice_get, ◌==◌, ◌||◌}
 use Rattle.std.specs.List.{Contains, flat_map, list_any}
 use Rattle.std.proofs.lemmas.Bool.{ne_eqb}
@@ -18,7 +18,6 @@ use Rattle.world_model.specs.declared.expr.FieldUse.{FieldUse}
 use Rattle.world_model.specs.declared.record.AsmRec.{AsmRec}
 use Rattle.world_model.specs.Worlds.{known_map, known_then, sig_expr}
 use Rattle.link_rules.specs.declared.row_at.RowAt.{RowAt}
-use Rattle.link_rules.specs.declared.member_type.MethodType.{MethodType}
 use Rattle.link_rules.specs.Cycles.{listed}
 use Rattle.link_rules.specs.Signatures.{names_at, token_type, method_type}
 use Rattle.link_rules.specs.Members.{arguments_of}
@@ -27,7 +26,7 @@ use Rattle.known_laws.proofs.Lists.{none_in, first_in, to_flat, to_map, to_optio
 use Rattle.mark_rules.specs.Facts.{Fact, by_one}
 use Rattle.mark_rules.specs.Facts.Fact.{marked}
 use Rattle.mark_rules.specs.Places.{row_of, is_core}
-use Rattle.mark_rules.specs.Naming.{Named, Part, bad_part, good_part, type_parts, of_expr, of_exprs, of_method_use, of_field_use, of_named, of_known, of_parts, parts_of, sig_parts, sigs_parts, method_type_parts, method_sig_parts, type_token_part, method_named, field_named, method_token_part, field_token_part}
+use Rattle.mark_rules.specs.Naming.{Named, Part, bad_part, good_part, type_parts, of_method_use, of_field_use, of_named, of_known, of_parts, parts_of, sig_parts, sigs_parts, method_type_parts, method_sig_parts, type_token_part, method_named, field_named, method_token_part, field_token_part}
 use Rattle.mark_rules.specs.Naming.Named.{type, method, field}
 use Rattle.mark_rules.specs.Types.{encloser_of, parts_of_type, type_needs, layout_needs, parts_of_field, field_needs, impl_needs}
 use Rattle.mark_rules.specs.Calls.{owner_facts, parts_of_method, method_needs, makes, overrides_of, method_starts, field_starts}
@@ -43,8 +42,8 @@ use Rattle.merge_rules.specs.Keys.{world_sig, world_sigs, world_method_sig}
 use Rattle.merge_rules.specs.Refs.{types_of_sig, types_of_sigs, types_of_method_sig}
 use Rattle.merged_owners.specs.Laws.{AreMarked, AreKept}
 use Rattle.merged_owners.proofs.Every.{Every}
-use Rattle.merged_signatures.proofs.Reading.{good_map, good_then}
-use Rattle.marked_mets.proofs.Stays.{Stays, StayAll, Stay, Needed, expr_stays, exprs_stay}
+use Rattle.merged_signatures.proofs.Reading.{good_map}
+use Rattle.marked_mets.proofs.Stays.{StayAll, Stay, Needed, expr_stays}
 use Rattle.marked_mets.proofs.Signatures.{sig_stays, sigs_stay, method_stays}
 
 module _ (recs : List AsmRec) (kept : Kept) (entry : Option RowAt) (roots : List Root) where

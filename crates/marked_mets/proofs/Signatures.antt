@@ -1,5 +1,5 @@
 -- The types of a signature that is written over the types of the world: they stay where those of its tokens do.
-use Rattle.std.proofs.Common.{◌≡◌, ℕ, zero, suc, Bool, true, false, List, [], ◌∷◌, ◌++◌, map, refl, sym, ap, subst, ◌∙◌}
+use Rattle.std.proofs.Common.{◌≡◌, ℕ, zero, suc, Bool, List, [], ◌∷◌, ◌++◌, map, refl, sym, ap, subst, ◌∙◌}
 use Rattle.std.specs.Prelude.{⊤}
 use Rattle.std.specs.List.{Contains, flat_map}
 use Rattle.std.proofs.lemmas.List.Elements.{Contains-append_left, Contains-append_right}
@@ -10,12 +10,12 @@ use Rattle.il_base.specs.declared.sig.Sig.TheOpen.{Sig-F}
 use Rattle.il_base.specs.declared.sig.Sig.TheVariants as sig
 use Rattle.il_base.specs.declared.sig.MethodSig.{MethodSig}
 use Rattle.world_model.specs.declared.known.Known.{Known}
-use Rattle.world_model.specs.declared.known.Known.TheVariants.{Good, Bad}
+use Rattle.world_model.specs.declared.known.Known.TheVariants.{Good}
 use Rattle.world_model.specs.declared.expr.TypeExpr.{TypeExpr}
 use Rattle.world_model.specs.declared.expr.TypeExpr.TheOpen.{TypeExpr-F}
 use Rattle.world_model.specs.declared.expr.TypeExpr.TheVariants as expr
 use Rattle.world_model.specs.declared.record.AsmRec.{AsmRec}
-use Rattle.world_model.specs.Worlds.{Names, known_map, known_then, all_known, named_in, definition_named, modifier_named, sig_layer, sig_expr}
+use Rattle.world_model.specs.Worlds.{Names, known_map, all_known, named_in, definition_named, modifier_named, sig_layer, sig_expr}
 use Rattle.link_rules.specs.declared.member_type.MethodType.{MethodType}
 use Rattle.link_rules.specs.Signatures.{names_at, method_type_of, method_type}
 use Rattle.link_rules.specs.Members.{arguments_of}
@@ -27,7 +27,7 @@ use Rattle.merge_rules.specs.Refs.{numbers_layer, numbers_in, type_of_number, ty
 use Rattle.merged_owners.proofs.Every.{Every, all_none, all_one, all_more, all_join, all_flat}
 use Rattle.merged_signatures.proofs.Reading.{good_map, good_then}
 use Rattle.marked_mets.proofs.Stays.{Stays, StayAll, Stay}
-use Rattle.marked_mets.proofs.Tokens.{NumberStays, TokenStays, types_are, zero_stays, class_stays, modifier_stays, modified_stays, definition_stays, good_token, named_good, core_token}
+use Rattle.marked_mets.proofs.Tokens.{NumberStays, TokenStays, types_are, class_stays, modifier_stays, modified_stays, definition_stays, good_token, named_good}
 
 numbers_are : (x : Sig-F Sig) (s : Sig) → roll-Sig x ≡ s → numbers_in s ≡ numbers_layer (map-Sig Sig (List ℕ) numbers_in x)
 unfolding numbers_in

@@ -1,7 +1,7 @@
 -- Types that stay: those of inputs are kept.
-use Rattle.std.proofs.Common.{◌≡◌, ◌<◌, ◌≤◌, ℕ, suc, ◌+◌, List, [], ◌∷◌, length, map, Bool, true, false, Option, Some, None, refl, sym, ap, subst, ◌∙◌, arith}
+use Rattle.std.proofs.Common.{◌≡◌, ◌<◌, ◌≤◌, ℕ, suc, List, length, Bool, true, false, Option, Some, sym, ap, ◌∙◌, arith}
 use Rattle.std.specs.Prelude.{◌==◌, ◌||◌}
-use Rattle.std.specs.List.{Contains, list_any, flat_map}
+use Rattle.std.specs.List.{Contains, list_any}
 use Rattle.std.specs.Option.{is_some}
 use Rattle.std.proofs.lemmas.Bool.{ne_eqb}
 use Rattle.il_base.specs.declared.ids.TypeId.{TypeId}
@@ -9,11 +9,11 @@ use Rattle.il_base.specs.declared.ids.Item.TheVariants as item
 use Rattle.descriptor_file.specs.declared.root.Root.{Root}
 use Rattle.world_model.specs.declared.expr.TypeExpr.{TypeExpr}
 use Rattle.world_model.specs.declared.record.AsmRec.{AsmRec}
-use Rattle.world_model.specs.Worlds.{rows_before, types_in, type_id}
+use Rattle.world_model.specs.Worlds.{types_in, type_id}
 use Rattle.link_rules.specs.declared.row_at.RowAt.{RowAt}
 use Rattle.link_rules.specs.Members.{type_home}
 use Rattle.link_rules.specs.Cycles.{listed}
-use Rattle.type_laws.proofs.Places.{home_is, place_within}
+use Rattle.type_laws.proofs.Places.{home_is}
 use Rattle.known_laws.proofs.Lists.{to_map, to_flat}
 use Rattle.mark_rules.specs.Facts.{Fact}
 use Rattle.mark_rules.specs.Facts.Fact.{marked}

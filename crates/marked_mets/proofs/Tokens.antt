@@ -1,6 +1,6 @@
 -- The number that a token of a type has in a signature: its type stays where the definition does that the token names.
-use Rattle.std.proofs.Common.{◌≡◌, ◌<◌, ◌≤◌, ℕ, zero, suc, ◌+◌, ◌-◌, List, [], ◌∷◌, length, Bool, true, false, Option, Some, None, refl, sym, ap, subst, ◌∙◌, arith}
-use Rattle.std.specs.Prelude.{slice_get, position, nat_le, ◌==◌, ◌&&◌, if◌then◌else◌}
+use Rattle.std.proofs.Common.{◌≡◌, ◌≤◌, ℕ, zero, suc, ◌+◌, ◌-◌, List, [], ◌∷◌, length, Bool, true, false, Option, Some, None, refl, sym, ap, subst, ◌∙◌, arith}
+use Rattle.std.specs.Prelude.{position, nat_le, ◌==◌, ◌&&◌, if◌then◌else◌}
 use Rattle.std.specs.List.{Contains}
 use Rattle.std.specs.Option.{option_map, option_and_then}
 use Rattle.std.proofs.lemmas.Bool.{eqb-true}
@@ -17,19 +17,17 @@ use Rattle.world_model.specs.declared.expr.TypeExpr.TheVariants as expr
 use Rattle.world_model.specs.declared.types.TypeRefRow.{TypeRefRow}
 use Rattle.world_model.specs.declared.record.AsmRec.{AsmRec}
 use Rattle.world_model.specs.Tokens.{table_of, index_in}
-use Rattle.world_model.specs.Worlds.{types_in, type_id, row_below, core_types, is_code_of, prim_type, known_then, known_type, named_in, definition_of, definition_named, found_or_named, modifier_named}
+use Rattle.world_model.specs.Worlds.{types_in, type_id, row_below, core_types, is_code_of, prim_type, known_then, named_in, definition_of, definition_named, found_or_named, modifier_named}
 use Rattle.core_table.specs.declared.types.TheConstants.{TYPE_COUNT}
 use Rattle.link_rules.specs.declared.row_at.RowAt.{RowAt}
-use Rattle.link_rules.specs.Types.{at_row, is_added, listed_at, added_at, ref_at, ref_type, ref_definition, added_type, definition_at, added_by}
+use Rattle.link_rules.specs.Types.{at_row, listed_at, added_at, ref_at, ref_type, ref_definition, added_type, definition_at, added_by}
 use Rattle.link_rules.specs.Signatures.{prim_at, definition_expr, known_expr, named_type, names_at}
-use Rattle.type_laws.proofs.Upwards.{out_is}
-use Rattle.known_laws.proofs.Lists.{first_in, one_is, and_then_some, map_some}
+use Rattle.known_laws.proofs.Lists.{first_in, and_then_some, map_some}
 use Rattle.mark_rules.specs.Naming as naming
 use Rattle.merge_rules.specs.Absent.{first_same, absent_type, type_count}
 use Rattle.merge_rules.specs.Numbers.{Kept}
 use Rattle.merge_rules.specs.Keys.{number_of, number_or, absent_number, found_or, class_number, modifier_number}
-use Rattle.merged_owners.proofs.Every.{Every}
-use Rattle.marked_mets.proofs.Stays.{Stays, StayAll, Stay, last_stays, past_stays}
+use Rattle.marked_mets.proofs.Stays.{Stays, Stay, last_stays, past_stays}
 
 -- ---- what types name, by their outermost construct
 

@@ -1,15 +1,12 @@
 -- What kept types meet is kept: by their bases, interfaces, fields, methods, constraints, properties and events.
-use Rattle.std.proofs.Common.{◌≡◌, ◌<◌, ℕ, suc, ◌+◌, List, [], ◌∷◌, ◌++◌, length, map, Bool, true, false, Option, Some, None, refl, sym, ap, subst, ◌∙◌, arith, eqb-true}
+use Rattle.std.proofs.Common.{◌≡◌, ◌<◌, ℕ, suc, ◌+◌, List, [], ◌∷◌, ◌++◌, length, Bool, true, false, Option, Some, None, sym, subst, arith}
 use Rattle.std.specs.Prelude.{slice_get, ◌==◌, ◌&&◌, if◌then◌else◌}
-use Rattle.std.specs.List.{Contains, flat_map, filter, range_with_len}
+use Rattle.std.specs.List.{Contains, flat_map}
 use Rattle.std.proofs.lemmas.Bool.{and_parts}
 use Rattle.std.proofs.lemmas.List.Elements.{Contains-append_left, Contains-append_right}
 use Rattle.il_base.specs.declared.ids.Item.{Item}
-use Rattle.il_base.specs.declared.ids.Item.TheVariants as item
-use Rattle.il_base.specs.declared.sig.MethodSig.{MethodSig}
 use Rattle.il_base.specs.declared.table.TheConstants as table
 use Rattle.descriptor_file.specs.declared.root.Root.{Root}
-use Rattle.world_model.specs.declared.known.Known.{Known}
 use Rattle.world_model.specs.declared.types.TypeDefRow.{TypeDefRow}
 use Rattle.world_model.specs.declared.types.InterfaceImplRow.{InterfaceImplRow}
 use Rattle.world_model.specs.declared.types.GenericParamRow.{GenericParamRow}
@@ -18,8 +15,6 @@ use Rattle.world_model.specs.declared.members.FieldRow.{FieldRow}
 use Rattle.world_model.specs.declared.members.MethodDefRow.{MethodDefRow}
 use Rattle.world_model.specs.declared.members.PropertyRow.{PropertyRow}
 use Rattle.world_model.specs.declared.members.EventRow.{EventRow}
-use Rattle.world_model.specs.declared.members.PropertyMapRow.{PropertyMapRow}
-use Rattle.world_model.specs.declared.members.EventMapRow.{EventMapRow}
 use Rattle.world_model.specs.declared.record.AsmRec.{AsmRec}
 use Rattle.world_model.specs.Tokens.{token_of}
 use Rattle.world_model.specs.Worlds.{types_in}
@@ -27,27 +22,25 @@ use Rattle.link_rules.specs.declared.row_at.RowAt.{RowAt}
 use Rattle.link_rules.specs.Types.{at_row}
 use Rattle.link_rules.specs.Cycles.{listed}
 use Rattle.link_rules.specs.Members.{methods_in, fields_in}
-use Rattle.type_rules.specs.Rows.{rec_at, each_row, run_places, methods_of_type, fields_of_type}
+use Rattle.type_rules.specs.Rows.{rec_at, each_row}
 use Rattle.type_laws.proofs.Places.{place_within}
-use Rattle.known_laws.proofs.Lists.{first_in, to_flat, to_option, to_if, to_each}
+use Rattle.known_laws.proofs.Lists.{first_in, to_option, to_if, to_each}
 use Rattle.mark_rules.specs.Places.{row_of, type_item, method_item, field_item, prop_item, event_item, impl_item, props_in, events_in, impls_in}
 use Rattle.mark_rules.specs.Naming.{Part, type_token_part, sig_parts, method_sig_parts}
-use Rattle.mark_rules.specs.Members.{property_places_by, event_places_by, properties_of_type, events_of_type}
 use Rattle.mark_rules.specs.Types.{constraint_of, constraints_of_param, constraints_of, extends_of, parts_of_type, parts_of_field, parts_of_impl}
 use Rattle.mark_rules.specs.Properties.{parts_of_property, parts_of_event}
 use Rattle.mark_rules.specs.Shown.{parts_of_item}
 use Rattle.mark_rules.specs.Marking.{Marks}
 use Rattle.mark_rules.specs.BadItems.{IsFirstFlaw}
-use Rattle.merge_rules.specs.Numbers.{Kept, inputs, rows_of_kind, kept_types}
-use Rattle.merge_rules.specs.Order.{Met, met_token, met_good_sig, met_method_sig, met_method_row, met_field_row, met_property_row, met_event_row, met_constraint, met_param, met_constraints, met_impls, met_extends, met_interface, met_interfaces, those, met_in_type, met_by_types}
+use Rattle.merge_rules.specs.Numbers.{Kept}
+use Rattle.merge_rules.specs.Order.{Met, met_token, met_good_sig, met_method_sig, met_field_row, met_property_row, met_event_row, met_constraint, met_param, met_constraints, met_extends, met_interface, met_interfaces}
 use Rattle.merged_record.specs.Laws.{InputsAreRecords}
-use Rattle.merged_record.proofs.Lists.{from_filter, from_inputs, place_in}
 use Rattle.merged_owners.specs.Laws.{AreMarked, AreKept}
-use Rattle.merged_owners.proofs.Every.{Every, all_none, all_join, all_if, all_filter, all_flat, all_option, all_map, all_each}
+use Rattle.merged_owners.proofs.Every.{Every, all_if, all_flat, all_option, all_each}
 use Rattle.merged_owners.proofs.Homes.{own_home, to_place}
 use Rattle.marked_mets.proofs.Parts.{type_named, sig_part, method_sig_part}
 use Rattle.marked_mets.proofs.Uses.{CoreIsBare, Fine}
-use Rattle.marked_mets.proofs.Bodies.{token_fine, good_sig_fine, method_sig_fine, method_row_fine, in_constraints}
+use Rattle.marked_mets.proofs.Bodies.{token_fine, good_sig_fine, method_sig_fine, in_constraints}
 
 module _ (recs : List AsmRec) (kept : Kept) (bare : CoreIsBare recs) (records : InputsAreRecords recs) (entry : Option RowAt) (roots : List Root) (stays : AreKept recs entry roots kept) (marks : AreMarked recs entry roots kept)
     (good_all : IsFirstFlaw recs entry (Marks recs entry roots) None) where

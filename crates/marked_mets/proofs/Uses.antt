@@ -1,5 +1,5 @@
 -- Members that are needed: they are kept, and so are the types of their own signatures and of the types in which they are found.
-use Rattle.std.proofs.Common.{◌≡◌, ◌<◌, ◌≤◌, ℕ, suc, List, [], ◌∷◌, ◌++◌, length, map, Bool, true, false, nat_lt, Option, Some, None, refl, sym, ap, subst, ◌∙◌, arith}
+use Rattle.std.proofs.Common.{◌≡◌, ◌<◌, ℕ, suc, List, [], ◌++◌, length, map, Bool, true, false, nat_lt, Option, Some, None, refl, sym, ap, subst, ◌∙◌, arith}
 use Rattle.std.specs.Prelude.{slice_get, ◌==◌, ◌||◌, if◌then◌else◌}
 use Rattle.std.specs.List.{Contains, flat_map}
 use Rattle.std.specs.Option.{is_some, option_and_then, option_map}
@@ -30,7 +30,7 @@ use Rattle.link_rules.specs.Signatures.{names_at}
 use Rattle.link_rules.specs.Members.{generic_method, instantiated, arguments_of, method_spec_use}
 use Rattle.type_rules.specs.Rows.{rec_at}
 use Rattle.type_laws.proofs.Places.{place_within}
-use Rattle.known_laws.proofs.Lists.{first_in, later_in, one_is, to_option, and_then_some, map_some}
+use Rattle.known_laws.proofs.Lists.{first_in, later_in, to_option, and_then_some, map_some}
 use Rattle.mark_rules.specs.Facts.Fact.{marked}
 use Rattle.mark_rules.specs.Places.{row_of, is_core}
 use Rattle.mark_rules.specs.Naming.{Part, of_expr, of_exprs, of_method_use, of_field_use, sig_parts, method_sig_parts, spec_use_at, method_named, field_named}
@@ -45,12 +45,12 @@ use Rattle.merge_rules.specs.Keys.{MethodKey, own_method, found_method, FieldKey
 use Rattle.merge_rules.specs.Order.{Met, met_method, met_field, met_instance, met_callee, met_field_token}
 use Rattle.merge_rules.specs.Refs.{known_list, own_method_sig, own_field_sig, method_at, field_at, types_of_sig, types_of_sigs, types_of_method_sig, types_of_owner, types_of_method, types_of_field, types_of_met}
 use Rattle.merged_owners.specs.Laws.{AreMarked, AreKept}
-use Rattle.merged_owners.proofs.Every.{Every, all_none, all_one, all_more, all_join, all_listed, all_flat, all_option, all_map}
+use Rattle.merged_owners.proofs.Every.{Every, all_none, all_one, all_join, all_listed, all_flat, all_option, all_map}
 use Rattle.merged_record.specs.Laws.{InputsAreRecords}
 use Rattle.merged_record.proofs.Tokens.{of_coded}
 use Rattle.cli_format.specs.declared.column.CodedIndex.TheVariants.{MethodDefOrRef}
 use Rattle.merged_signatures.proofs.Reading.{good_map, good_then}
-use Rattle.merged_tokens.proofs.OwnMethods.{home_named, key_use}
+use Rattle.merged_tokens.proofs.OwnMethods.{home_named}
 use Rattle.merged_tokens.proofs.Bodies.{no_spec}
 use Rattle.marked_merge_rules.specs.Reads.{method_of_key, field_of_key, members_met}
 use Rattle.marked_mets.proofs.Stays.{Stays, StayAll, Stay, Needed, expr_stays, exprs_stay}

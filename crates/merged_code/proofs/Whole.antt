@@ -66,10 +66,11 @@ module _ (m : Merge) (entry : Option RowAt) (roots : List Root) (k : Keep) (kept
   -- the row of an owner
   owner_row : (rec : AsmRec) → slice_get (before m) at.asm ≡ Some rec → (t : RowAt) → type_of_method (before m) at ≡ Some t → (d : TypeDefRow) × (type_row_at (before m) t ≡ Some d) × (at.asm ≡ t.asm)
   owner_row rec there t of =
-      let o = owner_is m at rec t there of in
-      (o.row,
-      subst (λ (x : RowAt). type_row_at (before m) x ≡ Some o.row) o.same (ap (option_and_then (λ (r : AsmRec). slice_get r.type_def o.place)) there ∙ o.is),
-      ap (λ (x : RowAt). x.asm) o.same)
+      let o = owner_is m at rec t there of in (
+        o.row,
+        subst (λ (x : RowAt). type_row_at (before m) x ≡ Some o.row) o.same (ap (option_and_then (λ (r : AsmRec). slice_get r.type_def o.place)) there ∙ o.is),
+        ap (λ (x : RowAt). x.asm) o.same,
+      )
 
   -- ---- a row of an input
 

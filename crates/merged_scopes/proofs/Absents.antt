@@ -1,7 +1,7 @@
 -- Types that name nothing: the row that each stands for, and its scopes.
-use Rattle.std.proofs.Common.{◌≡◌, ◌<◌, ℕ, zero, suc, ◌+◌, ◌-◌, List, [], ◌∷◌, length, map, Bool, true, false, Option, Some, None, refl, sym, ap, subst, ◌∙◌, arith}
-use Rattle.std.specs.Prelude.{slice_get, nat_le, position, if◌then◌else◌}
-use Rattle.std.specs.List.{Contains, flat_map, range_with_len}
+use Rattle.std.proofs.Common.{◌≡◌, ◌<◌, ℕ, zero, suc, ◌+◌, ◌-◌, List, [], ◌∷◌, length, map, Bool, true, Option, Some, None, refl, sym, ap, subst, ◌∙◌, arith}
+use Rattle.std.specs.Prelude.{slice_get, if◌then◌else◌}
+use Rattle.std.specs.List.{Contains, range_with_len}
 use Rattle.std.specs.Option.{is_some, option_map, option_and_then}
 use Rattle.std.proofs.lemmas.Bool.{le-leb}
 use Rattle.il_base.specs.declared.ids.TypeId.{TypeId}
@@ -21,13 +21,13 @@ use Rattle.known_laws.proofs.Lists.{from_flat, from_map, and_then_some, map_some
 use Rattle.mark_rules.specs.Places.{type_item}
 use Rattle.merge_rules.specs.Absent.{bare, reference_rows, reference_at, definition_of, assembly_scope, reference_scope, reads_same, type_count, first_same, absent_type, absent_row}
 use Rattle.merge_rules.specs.Numbers.{Kept, inputs, rows_of_kind}
-use Rattle.merge_rules.specs.Refs.{enclosing_type, outer_reference, scope_type_by, scope_type, scope_of, assemblies_of, first_or, own_scope}
+use Rattle.merge_rules.specs.Refs.{outer_reference, scope_type_by, scope_type, scope_of, assemblies_of, first_or, own_scope}
 use Rattle.merged_record.proofs.Lists.{an_input, place_in, from_filter}
 use Rattle.merged_record.proofs.Owned.{to_kept}
 use Rattle.merged_record.proofs.Tokens.{position_is}
 use Rattle.merged_references.proofs.Found.{definition_names}
 use Rattle.merged_owners.proofs.Homes.{position_some, own_home}
-use Rattle.merged_scopes.proofs.Chains.{one_of, not_both, Stays, AlwaysStays, same_rows, reads_itself, scope_reads, none_reads, stays_on}
+use Rattle.merged_scopes.proofs.Chains.{AlwaysStays, same_rows, reads_itself, scope_reads, none_reads, stays_on}
 
 module _ (recs : List AsmRec) (Q : ℕ → Type 0) where
   -- over so many scopes references are compared

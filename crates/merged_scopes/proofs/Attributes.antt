@@ -1,9 +1,9 @@
 -- What attributes meet: types of the world, and references that name nothing and may stay.
-use Rattle.std.proofs.Common.{◌≡◌, ◌<◌, ℕ, zero, suc, List, [], ◌∷◌, ◌++◌, length, map, Bool, true, false, Option, Some, None, inl, inr, ◌⊎◌, refl, sym, ap, subst, ◌∙◌, arith, eqb-true}
-use Rattle.std.specs.Prelude.{slice_get, ◌==◌, ◌&&◌, if◌then◌else◌}
+use Rattle.std.proofs.Common.{◌≡◌, ◌<◌, ℕ, zero, suc, List, [], ◌∷◌, ◌++◌, length, map, Bool, true, false, Option, Some, None, refl, sym, ap, subst, ◌∙◌, arith, eqb-true}
+use Rattle.std.specs.Prelude.{slice_get, ◌==◌, if◌then◌else◌}
 use Rattle.std.specs.List.{Contains, flat_map, list_any, list_all}
 use Rattle.std.specs.Option.{option_map, option_and_then}
-use Rattle.std.proofs.lemmas.Bool.{and_parts, eq-eqb}
+use Rattle.std.proofs.lemmas.Bool.{and_parts}
 use Rattle.std.proofs.lemmas.List.Elements.{Contains-append_left, Contains-append_right}
 use Rattle.il_base.specs.declared.ids.TypeId.{TypeId}
 use Rattle.il_base.specs.declared.sig.Sig.{Sig, fold-roll-Sig, ind-Sig, roll-Sig}
@@ -24,15 +24,15 @@ use Rattle.world_model.specs.Tokens.{table_of, row_index, index_in}
 use Rattle.world_model.specs.Worlds.{row_below, types_in}
 use Rattle.link_rules.specs.declared.row_at.RowAt.{RowAt}
 use Rattle.link_rules.specs.Types.{at_row, or_else, ref_definition, definition_at, added_by}
-use Rattle.link_rules.specs.Signatures.{definition_expr, known_expr, named_type, names_at}
+use Rattle.link_rules.specs.Signatures.{definition_expr, known_expr, named_type}
 use Rattle.link_rules.specs.Members.{array_type}
 use Rattle.link_rules.specs.Cycles.{listed}
-use Rattle.known_laws.proofs.Lists.{none_in, head_or, from_listed, and_then_some, map_some}
+use Rattle.known_laws.proofs.Lists.{from_listed, and_then_some, map_some}
 use Rattle.mark_rules.specs.Attributes.{ref_sig}
 use Rattle.merge_rules.specs.Absent.{absent_type}
 use Rattle.merge_rules.specs.Numbers.{Kept}
 use Rattle.merge_rules.specs.Keys.{TypeKey, named, spec, numbered_key, spec_key, type_key, MethodKey, absent_method, good, number_of, number_or, absent_number, found_or, class_number, modifier_number, world_layer, world_sig, world_sigs, world_method_sig, method_key}
-use Rattle.merge_rules.specs.Order.{Met, met_method}
+use Rattle.merge_rules.specs.Order.{met_method}
 use Rattle.merge_rules.specs.Refs.{numbers_layer, numbers_in, types_of_sig, types_of_sigs, types_of_key, types_of_method_sig, types_of_method, types_of_met}
 use Rattle.merge_rules.specs.Rows.{all_rows, kept_row_token}
 use Rattle.merge_rules.specs.Attributes.{may_refer, may_name, may_have, good_sigs, may_be_parent, may_take, is_copied, is_in_input, absent_constructor, copied_constructor, constructor_key, Attribute, attribute_with, attribute_in, kept_attributes, met_by_attributes}
@@ -40,7 +40,7 @@ use Rattle.merged_record.specs.Laws.{InputsAreRecords}
 use Rattle.merged_record.proofs.Lists.{from_all}
 use Rattle.merged_record.proofs.Sorting.{sorted_in}
 use Rattle.merged_record.proofs.Tokens.{of_coded}
-use Rattle.merged_owners.proofs.Every.{Every, all_none, all_one, all_more, all_join, all_listed, all_flat, all_option, all_map, some_of}
+use Rattle.merged_owners.proofs.Every.{Every, all_none, all_one, all_more, all_join, all_flat, all_map, some_of}
 use Rattle.merged_tokens.proofs.Bodies.{no_spec}
 use Rattle.merged_standing.proofs.Low.{bound, IsLow, added_low}
 use Rattle.merged_scopes.proofs.Numbers.{Number, sig_types, of_layer, numbers_are, named_number, name_again, low_so, of_number}
@@ -132,19 +132,6 @@ module _ (recs : List AsmRec) (P : TypeId → Type 0) (there_so : (t : TypeId) �
 
     -- ---- tokens
 
-    not_table : (t u token : ℕ) → (t == u) ≡ false → (table_of token == u) ≡ true → (table_of token == t) ≡ false
-    not_table t u token e h = let same : table_of token ≡ u = eqb-true (table_of token) u h in turned t u (table_of token) same e
-      where
-        turned : (t u n : ℕ) → n ≡ u → (t == u) ≡ false → (n == t) ≡ false
-        turned t u n same e = by_test (n == t) refl
-          where
-            by_test : (b : Bool) → (n == t) ≡ b → b ≡ false
-            by_test false f = refl
-            by_test true f = let g : n ≡ t = eqb-true n t f in absurd (let both : t ≡ u = sym g ∙ same in let z : (t == u) ≡ true = ap (λ (m : ℕ). t == m) (sym both) ∙ itself t in cc)
-              where
-                itself : (n : ℕ) → (n == n) ≡ true
-                itself n = eq-eqb n n refl
-
     ref_table : (token k : ℕ) → index_in table.TYPE_REF token ≡ Some k → (table_of token == table.TYPE_REF) ≡ true
     ref_table token k e = by_test (table_of token == table.TYPE_REF) e
       where
@@ -152,12 +139,15 @@ module _ (recs : List AsmRec) (P : TypeId → Type 0) (there_so : (t : TypeId) �
         by_test true f = refl
         by_test false f = absurd (cc)
 
+    ref_other : (token k t : ℕ) → index_in table.TYPE_REF token ≡ Some k → (table.TYPE_REF == t) ≡ false → (table_of token == t) ≡ false
+    ref_other token k t e other = ap (λ (n : ℕ). n == t) (eqb-true (table_of token) table.TYPE_REF (ref_table token k e)) ∙ other
+
     -- a TypeRef token names what its row does
     ref_names : (token k : ℕ) → index_in table.TYPE_REF token ≡ Some k → definition_at recs a rec token ≡ ref_definition recs a rec k
     unfolding definition_at
     ref_names token k e =
         ap (λ (b : Bool). if b then option_map (at_row a) (row_below (types_in rec) (index_in table.TYPE_DEF token)) else option_and_then (ref_definition recs a rec) (index_in table.TYPE_REF token))
-        (not_table table.TYPE_DEF table.TYPE_REF token refl (ref_table token k e))
+        (ref_other token k table.TYPE_DEF e refl)
         ∙ ap (option_and_then (ref_definition recs a rec)) e
 
     class_by : (token k : ℕ) (o : Option RowAt) → index_in table.TYPE_REF token ≡ Some k → may_refer recs a rec (length rec.type_ref) k ≡ true → ref_definition recs a rec k ≡ o → IsNumber (class_number recs a rec token)
@@ -168,7 +158,7 @@ module _ (recs : List AsmRec) (P : TypeId → Type 0) (there_so : (t : TypeId) �
       where
         named_class : (token k : ℕ) (e : TypeExpr) → index_in table.TYPE_REF token ≡ Some k → known_expr recs (definition_at recs a rec token) ≡ Good e → IsNumber (found_or (number_of recs (known_expr recs (definition_at recs a rec token))) (absent_number recs a token))
         named_class token k e f h =
-            let other = not_table table.TYPE_SPEC table.TYPE_REF token refl (ref_table token k f) in
+            let other = ref_other token k table.TYPE_SPEC f refl in
             named_number recs P there_so a rec there token e (name_again recs P there_so a rec there token e other h) h
     class_by token k None e h f =
         let none : known_expr recs (definition_at recs a rec token) ≡ known_expr recs None = ap (known_expr recs) (ref_names token k e ∙ f) in

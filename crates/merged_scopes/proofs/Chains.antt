@@ -1,5 +1,5 @@
 -- References that may stay where they name nothing: what is so of a row's scopes is so of those of a row that reads the same.
-use Rattle.std.proofs.Common.{◌≡◌, ℕ, zero, suc, List, length, Bool, true, false, Option, Some, None, refl, sym, ap, subst, ◌∙◌, arith, eqb-true, eq-eqb}
+use Rattle.std.proofs.Common.{◌≡◌, ℕ, zero, suc, List, length, Bool, true, false, Option, Some, None, refl, sym, ap, subst, ◌∙◌, eqb-true, eq-eqb}
 use Rattle.std.specs.Prelude.{slice_get, ⊤, ◌==◌, ◌&&◌, if◌then◌else◌}
 use Rattle.std.specs.List.{list_any}
 use Rattle.std.specs.Option.{option_map, option_and_then}
@@ -13,7 +13,6 @@ use Rattle.world_model.specs.Core.{same_name}
 use Rattle.link_rules.specs.declared.row_at.RowAt.{RowAt}
 use Rattle.link_rules.specs.Types.{at_row, ref_definition}
 use Rattle.link_rules.specs.Cycles.{listed, same_row}
-use Rattle.type_rules.specs.Rows.{rec_at}
 use Rattle.type_laws.proofs.Places.{rows_decide}
 use Rattle.merge_rules.specs.Absent.{same_assembly, reference_at, definition_of, assembly_scope, reference_scope, both, same_outer, same_scope, rows_same, reads_same}
 use Rattle.merge_rules.specs.Attributes.{has_row, may_scope, may_refer}

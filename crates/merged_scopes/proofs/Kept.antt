@@ -1,7 +1,7 @@
 -- What kept types and their members meet names types of the world.
 use Rattle.std.proofs.Common.{◌≡◌, ◌<◌, ℕ, suc, ◌+◌, List, [], ◌∷◌, ◌++◌, length, map, Bool, true, false, Option, Some, None, refl, sym, ap, subst, ◌∙◌, arith}
 use Rattle.std.specs.Prelude.{slice_get, ◌==◌, ◌&&◌, if◌then◌else◌}
-use Rattle.std.specs.List.{Contains, flat_map, filter, range_with_len}
+use Rattle.std.specs.List.{Contains, flat_map, filter}
 use Rattle.std.proofs.lemmas.Bool.{and_parts}
 use Rattle.std.proofs.lemmas.List.Elements.{Contains-append_left, Contains-append_right}
 use Rattle.il_base.specs.declared.ids.TypeId.{TypeId}
@@ -17,9 +17,7 @@ use Rattle.world_model.specs.declared.members.FieldRow.{FieldRow}
 use Rattle.world_model.specs.declared.members.MethodDefRow.{MethodDefRow}
 use Rattle.world_model.specs.declared.members.MethodImplRow.{MethodImplRow}
 use Rattle.world_model.specs.declared.members.PropertyRow.{PropertyRow}
-use Rattle.world_model.specs.declared.members.PropertyMapRow.{PropertyMapRow}
 use Rattle.world_model.specs.declared.members.EventRow.{EventRow}
-use Rattle.world_model.specs.declared.members.EventMapRow.{EventMapRow}
 use Rattle.world_model.specs.declared.record.AsmRec.{AsmRec}
 use Rattle.world_model.specs.Tokens.{token_of, table_of}
 use Rattle.world_model.specs.Worlds.{types_in}
@@ -49,7 +47,7 @@ use Rattle.merged_record.proofs.Rows.{IsKept, from_kept, in_run}
 use Rattle.merged_record.proofs.Tokens.{of_coded}
 use Rattle.merged_owners.specs.Laws.{AreMarked}
 use Rattle.merged_owners.proofs.Homes.{own_home, to_place}
-use Rattle.merged_owners.proofs.Every.{Every, all_none, all_join, all_if, all_either, all_filter, all_flat, all_option, all_map, all_each}
+use Rattle.merged_owners.proofs.Every.{Every, all_none, all_join, all_if, all_flat, all_option, all_map, all_each}
 use Rattle.merged_tokens.proofs.Bodies.{no_spec}
 use Rattle.merged_standing.proofs.Low.{bound, IsLow}
 use Rattle.merged_scopes.proofs.Readings.{Fine, plain_fine, types_fine, token_fine, sig_fine, method_sig_fine, body_fine}

@@ -1,8 +1,8 @@
 -- Signatures, tokens and owners that have a reading name types of the world.
-use Rattle.std.proofs.Common.{◌≡◌, ◌<◌, ◌≤◌, ℕ, zero, suc, ◌+◌, List, [], ◌∷◌, length, map, Bool, true, false, nat_lt, Option, Some, None, refl, sym, ap, subst, ◌∙◌, ◌&&◌, arith, eqb-true}
+use Rattle.std.proofs.Common.{◌≡◌, ◌<◌, ℕ, zero, suc, List, [], ◌∷◌, length, map, Bool, true, false, nat_lt, Option, Some, None, refl, sym, ap, subst, ◌∙◌, ◌&&◌, arith}
 use Rattle.std.specs.Prelude.{slice_get, IsTrue, ◌==◌, if◌then◌else◌}
 use Rattle.std.specs.List.{flat_map, list_all}
-use Rattle.std.specs.Option.{option_and_then, option_map}
+use Rattle.std.specs.Option.{option_and_then}
 use Rattle.std.specs.Cmp.{first_so, second_so}
 use Rattle.std.proofs.lemmas.Bool.{and_from, ltb-true}
 use Rattle.il_base.specs.declared.ids.TypeId.{TypeId}
@@ -12,7 +12,7 @@ use Rattle.il_base.specs.declared.sig.Sig.TheFolds.{map-Sig}
 use Rattle.il_base.specs.declared.sig.Sig.TheOpen.{Sig-F}
 use Rattle.il_base.specs.declared.sig.Sig.TheVariants as sig
 use Rattle.il_base.specs.declared.sig.MethodSig.{MethodSig}
-use Rattle.il_base.specs.declared.table.TheConstants.{TYPE_REF, TYPE_DEF, TYPE_SPEC}
+use Rattle.il_base.specs.declared.table.TheConstants.{TYPE_SPEC}
 use Rattle.world_model.specs.declared.known.Known.{Known}
 use Rattle.world_model.specs.declared.known.Known.TheVariants.{Good, Bad}
 use Rattle.world_model.specs.declared.known.BadKind.TheVariants.{Unresolved}
@@ -42,7 +42,7 @@ use Rattle.merged_references.proofs.Rows.{rows_up_to}
 use Rattle.merged_signatures.proofs.Agreeing.{good_token}
 use Rattle.merged_owners.proofs.Every.{Every, all_none, all_one, all_more, all_join, all_flat, all_option, some_of}
 use Rattle.merged_tokens.proofs.Keys.{Says, of_core, of_definition, of_signature, known_good, token_key}
-use Rattle.merged_standing.proofs.Low.{bound, below, Low, IsLow, prim_low, named_low, added_low, token_low}
+use Rattle.merged_standing.proofs.Low.{bound, below, Low, IsLow, prim_low, named_low, added_low}
 
 mapped_good : {A B : Type 0} (f : A → B) (x : Known A) (y : B) → known_map f x ≡ Good y → (a : A) × (x ≡ Good a) × (f a ≡ y)
 mapped_good f (Good a) y e = (a, refl, cc)

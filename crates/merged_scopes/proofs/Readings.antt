@@ -1,5 +1,5 @@
 -- What kept rows meet where no marked item has a flaw: each part has a reading, so each type in it is one of the world's.
-use Rattle.std.proofs.Common.{◌≡◌, ◌<◌, ℕ, suc, List, [], ◌∷◌, ◌++◌, length, map, Bool, true, false, Option, Some, None, refl, sym, ap, subst, ◌∙◌, arith, eqb-true}
+use Rattle.std.proofs.Common.{◌≡◌, ◌<◌, ℕ, suc, List, [], ◌∷◌, ◌++◌, length, map, Bool, true, false, Option, Some, None, refl, sym, ap, subst, ◌∙◌, eqb-true}
 use Rattle.std.specs.Prelude.{slice_get, ◌==◌, ◌&&◌, ◌||◌, if◌then◌else◌}
 use Rattle.std.specs.List.{Contains, flat_map, list_any}
 use Rattle.std.specs.Option.{option_and_then, option_map}
@@ -29,7 +29,7 @@ use Rattle.world_model.specs.declared.members.MethodDefRow.{MethodDefRow}
 use Rattle.world_model.specs.declared.members.MethodSpecRow.{MethodSpecRow}
 use Rattle.world_model.specs.declared.members.StandAloneSigRow.{StandAloneSigRow}
 use Rattle.world_model.specs.declared.record.AsmRec.{AsmRec}
-use Rattle.world_model.specs.Tokens.{token_of, table_of, index_in}
+use Rattle.world_model.specs.Tokens.{table_of, index_in}
 use Rattle.world_model.specs.Worlds.{known_map, known_then, sig_expr}
 use Rattle.link_rules.specs.declared.row_at.RowAt.{RowAt}
 use Rattle.link_rules.specs.declared.member_type.MethodType.{MethodType}
@@ -38,19 +38,19 @@ use Rattle.link_rules.specs.Members.{array_type, generic_method, instantiated, a
 use Rattle.link_rules.specs.Cycles.{listed}
 use Rattle.known_laws.proofs.Lists.{first_in, to_flat, from_listed, to_if, and_then_some, map_some}
 use Rattle.mark_rules.specs.Places.{row_of}
-use Rattle.mark_rules.specs.Naming.{Part, bad_part, parts_of, type_parts, sig_parts, sigs_parts, method_type_parts, method_sig_parts, spec_use_at, method_named, type_token_part, method_token_part, field_token_part}
+use Rattle.mark_rules.specs.Naming.{Part, bad_part, parts_of, type_parts, sig_parts, method_type_parts, method_sig_parts, spec_use_at, method_named, type_token_part, method_token_part, field_token_part}
 use Rattle.mark_rules.specs.Bodies.{any_token_part, token_parts, operand_parts, instruction_parts, locals_row_parts, locals_parts, handler_parts, is_read, are_locals_read, operands_of, code_parts, body_parts, is_field_token, is_method_token, is_catch}
 use Rattle.mark_rules.specs.Shown.{parts_of_item}
 use Rattle.mark_rules.specs.Marking.{Marks}
 use Rattle.mark_rules.specs.BadItems.{IsFirstFlaw}
 use Rattle.merge_rules.specs.Numbers.{Kept}
-use Rattle.merge_rules.specs.Keys.{TypeKey, MethodKey, FieldKey, InstanceKey, good, world_sig, world_sigs, world_method_sig, type_key, method_key, field_key, instance_by, instance_key}
-use Rattle.merge_rules.specs.Order.{Met, met_type, met_sig, met_method, met_field, met_instance, met_locals, met_types, met_token, met_good_sig, met_method_sig, met_callee, met_field_token, met_any, met_by_form, met_operand, met_locals_row, met_locals_token, met_body}
+use Rattle.merge_rules.specs.Keys.{InstanceKey, good, world_sig, world_sigs, type_key, method_key, field_key, instance_by, instance_key}
+use Rattle.merge_rules.specs.Order.{Met, met_type, met_sig, met_method, met_field, met_instance, met_locals, met_types, met_token, met_good_sig, met_method_sig, met_callee, met_field_token, met_by_form, met_operand, met_locals_row, met_locals_token, met_body}
 use Rattle.merge_rules.specs.Refs.{types_of_sig, types_of_sigs, types_of_method, types_of_met}
 use Rattle.merged_record.specs.Laws.{InputsAreRecords}
 use Rattle.merged_record.proofs.Tokens.{of_coded}
 use Rattle.merged_owners.specs.Laws.{AreMarked}
-use Rattle.merged_owners.proofs.Every.{Every, all_none, all_one, all_join, all_listed, all_if, all_either, all_flat, all_map}
+use Rattle.merged_owners.proofs.Every.{Every, all_none, all_one, all_join, all_either, all_flat, all_map}
 use Rattle.merged_tokens.proofs.Keys.{known_good}
 use Rattle.merged_tokens.proofs.Parts.{names_type, names_method, no_bad}
 use Rattle.merged_tokens.proofs.Bodies.{no_spec}

@@ -1,6 +1,6 @@
 -- What the output of a marked merge refers to stands in what is left.
-use Rattle.std.proofs.Common.{◌≡◌, ◌<◌, ◌≤◌, ℕ, zero, suc, ◌+◌, ◌-◌, List, [], ◌∷◌, ◌++◌, length, Bool, true, false, Option, Some, None, inl, inr, ◌⊎◌, refl, sym, ap, subst, ◌∙◌, arith, eqb-true}
-use Rattle.std.specs.Prelude.{slice_get, nat_le, get_or, ◌==◌, ◌&&◌, ◌||◌, if◌then◌else◌}
+use Rattle.std.proofs.Common.{◌≡◌, ◌<◌, ℕ, zero, suc, ◌-◌, List, [], ◌∷◌, ◌++◌, length, Bool, true, false, Option, Some, None, inl, inr, ◌⊎◌, refl, sym, ap, subst, ◌∙◌, arith, eqb-true}
+use Rattle.std.specs.Prelude.{slice_get, nat_le, ◌==◌, ◌&&◌, ◌||◌, if◌then◌else◌}
 use Rattle.std.specs.List.{Contains, flat_map, filter, list_any}
 use Rattle.std.specs.Option.{option_map, option_and_then}
 use Rattle.std.proofs.lemmas.Bool.{leb-true}
@@ -12,7 +12,6 @@ use Rattle.cli_format.specs.declared.column.Column.TheVariants.{CodedOrNone}
 use Rattle.cli_format.specs.declared.column.CodedIndex.TheVariants.{ResolutionScope}
 use Rattle.cli_format.specs.Coded.{targets_of}
 use Rattle.descriptor_file.specs.declared.root.Root.{Root}
-use Rattle.world_model.specs.declared.assemblies.AssemblyRefRow.{AssemblyRefRow}
 use Rattle.world_model.specs.declared.types.TypeRefRow.{TypeRefRow}
 use Rattle.world_model.specs.declared.record.AsmRec.{AsmRec}
 use Rattle.world_model.specs.Tokens.{table_of, row_of as row_number, index_in}
@@ -44,19 +43,18 @@ use Rattle.merge_rules.specs.Attributes.{met_by_attributes}
 use Rattle.merged_record.specs.Laws.{InputsAreRecords, ReferencesStand}
 use Rattle.merged_record.proofs.Lists.{from_filter}
 use Rattle.marked_laws.proofs.Places.{last_is_core}
-use Rattle.merged_loads.specs.Laws.{AreOfFiles, IsOfFile}
 use Rattle.merged_loads.proofs.FileRows.{file_fits}
-use Rattle.merged_world_rules.specs.Merge.{Merge, IsMerge, before, output}
+use Rattle.merged_world_rules.specs.Merge.{Merge, before}
 use Rattle.merged_references.proofs.Core.{top_level}
 use Rattle.merged_references.proofs.Rows.{is_core_type, there_is, own_assembly}
 use Rattle.merged_owners.specs.Laws.{AreMarked}
-use Rattle.merged_owners.proofs.Every.{Every, all_one, all_join, all_flat, all_option, all_passing, some_of}
+use Rattle.merged_owners.proofs.Every.{Every, all_one, all_join, all_flat, all_option, some_of}
 use Rattle.merged_tokens.proofs.Once.{from_once, below_home}
 use Rattle.marked_merge_rules.specs.Merges.{IsMarkedMerge}
 use Rattle.merged_standing.specs.Laws.{TypesStand, MembersStand}
 use Rattle.merged_standing.proofs.Low.{bound, IsLow, stands_low}
 use Rattle.merged_scopes.specs.Laws.{MetTypesThere, MarkedReferencesStand}
-use Rattle.merged_scopes.proofs.Chains.{one_of, AlwaysStays, refers_stays}
+use Rattle.merged_scopes.proofs.Chains.{refers_stays}
 use Rattle.merged_scopes.proofs.Absents.{StaysAbsent, OfCore, IsFine, of_core, of_absent, absent_stays, scope_fine, own_fine}
 use Rattle.merged_scopes.proofs.Kept.{types_met_fine}
 use Rattle.merged_scopes.proofs.Attributes.{attributes_met_fine}
