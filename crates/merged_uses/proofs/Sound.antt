@@ -1,5 +1,5 @@
 -- What the types that tokens and signatures of inputs name, and bases, are made of: definitions that stand in their tables.
-use Rattle.std.proofs.Common.{◌≡◌, ◌<◌, ◌≤◌, ℕ, suc, ◌+◌, ◌-◌, Bool, true, false, List, [], ◌∷◌, ◌++◌, length, map, Option, Some, None, ◌⊎◌, inl, inr, refl, sym, ap, subst, ◌∙◌, ◌&&◌, ◌||◌, arith}
+use Rattle.std.proofs.Common.{◌≡◌, ◌<◌, ℕ, suc, Bool, true, false, List, [], ◌∷◌, length, map, Option, Some, None, ◌⊎◌, inl, inr, refl, sym, ap, subst, ◌∙◌}
 use Rattle.std.specs.Prelude.{slice_get, ◌==◌, if◌then◌else◌}
 use Rattle.std.specs.List.{list_all}
 use Rattle.std.specs.Option.{option_map, option_and_then}
@@ -21,7 +21,7 @@ use Rattle.world_model.specs.Worlds.{known_map, known_then, known_or, all_known,
 use Rattle.link_rules.specs.declared.row_at.RowAt.{RowAt}
 use Rattle.link_rules.specs.Types.{at_row, definition_at, added_by}
 use Rattle.link_rules.specs.Signatures.{prim_at, definition_expr, named_type, names_at, spec_type_at, token_type}
-use Rattle.merged_references.proofs.Found.{Names, Added, added_names}
+use Rattle.merged_references.proofs.Found.{Names, Added, added_names, token_names}
 use Rattle.merged_signatures.proofs.Reading.{good_map, good_then}
 use Rattle.merged_signatures.proofs.Agreeing.{defines}
 use Rattle.merged_uses.proofs.Leaves.{Leaf, alone, generic, modifier, All, AllOf, none_of, one_more, all_prim, all_var, all_mvar, all_def, all_array, all_by_ref, all_mod, all_inst}
@@ -39,10 +39,20 @@ module _ (recs : List AsmRec) where
     pub names : Names recs at
     pub defined : definition_of (prim_type recs) (definition_expr recs at) ≡ Good t
 
+  -- by the token of an input
+  pub record IsModifier (t : TypeId) : Type 0 where
+    pub a : ℕ
+    pub rec : AsmRec
+    pub there : slice_get recs a ≡ Some rec
+    pub input : suc a < length recs
+    pub token : ℕ
+    pub names : modifier_named (names_at recs a rec) token ≡ Good t
+    pub found : Added recs t ⊎ IsGeneric t
+
   abbrev pub Ok : Leaf → Type 0
   Ok (alone t) = IsAlone t
   Ok (generic t) = IsGeneric t
-  Ok (modifier t) = Added recs t ⊎ IsGeneric t
+  Ok (modifier t) = IsModifier t
 
   pub def_is : (at : RowAt) → prim_at recs at ≡ None → definition_expr recs at ≡ expr.Def (type_id recs at.asm at.row)
   unfolding definition_expr
@@ -59,9 +69,12 @@ module _ (recs : List AsmRec) where
   pub expr_ok : (at : RowAt) → Names recs at → All Ok (definition_expr recs at)
   expr_ok at n = expr_by at (prim_at recs at) refl n
 
-  -- ---- tokens and signatures of an assembly whose tokens name such rows
+  -- ---- tokens and signatures of an input
 
-  module _ (a : ℕ) (rec : AsmRec) (stand : (token : ℕ) (at : RowAt) → definition_at recs a rec token ≡ Some at → Names recs at) where
+  module _ (a : ℕ) (rec : AsmRec) (there : slice_get recs a ≡ Some rec) (input : suc a < length recs) where
+    stand : (token : ℕ) (at : RowAt) → definition_at recs a rec token ≡ Some at → Names recs at
+    stand token at e = token_names recs a rec token at there input e
+
     pub named_ok : (token : ℕ) (e : TypeExpr) → named_type recs a rec token ≡ Good e → All Ok e
     named_ok token e h = let d = defines recs a rec token e h in subst (All Ok) d.gives (expr_ok d.at (stand token d.at d.is))
 
@@ -72,7 +85,7 @@ module _ (recs : List AsmRec) where
     named_good_by k e true f = cc
     named_good_by k e false f = f
 
-    named_good : (token : ℕ) (e : TypeExpr) → named_in n.types token ≡ Good e → named_type recs a rec token ≡ Good e
+    pub named_good : (token : ℕ) (e : TypeExpr) → named_in n.types token ≡ Good e → named_type recs a rec token ≡ Good e
     unfolding named_in
     named_good token e f = named_good_by (named_type recs a rec token) e (table_of token == 0x1b) f
 
@@ -87,9 +100,9 @@ module _ (recs : List AsmRec) where
     modifier_by token t None f h = inr (definition_ok token t h)
     modifier_by token t (Some u) f h = let same : u ≡ t = cc in inl (subst (Added recs) same (added_names recs a rec token u f))
 
-    modifier_ok : (token : ℕ) (t : TypeId) → modifier_named n token ≡ Good t → Added recs t ⊎ IsGeneric t
+    modifier_ok : (token : ℕ) (t : TypeId) → modifier_named n token ≡ Good t → IsModifier t
     unfolding modifier_named
-    modifier_ok token t h = modifier_by token t (added_by recs a rec token) refl h
+    modifier_ok token t h = record { a = a; rec = rec; there = there; input = input; token = token; names = h; found = modifier_by token t (added_by recs a rec token) refl h }
 
     abbrev Reads : Sig → Type 0
     Reads s = (e : TypeExpr) → sig_expr n s ≡ Good e → All Ok e
