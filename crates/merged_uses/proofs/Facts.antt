@@ -59,6 +59,9 @@ prim_defined : (f : ℕ → Option TypeId) (n : ℕ) (o : Option TypeId) → f n
 unfolding definition_of
 prim_defined f n o e = ap (definition_in f) (prim_out n) ∙ ap known_type e
 
+pub prim_defined_is : (f : ℕ → Option TypeId) (n : ℕ) (t : TypeId) → f n ≡ Some t → definition_of f (expr.Prim n) ≡ Good t
+prim_defined_is f n t e = prim_defined f n (Some t) e
+
 one_type : (x y : TypeId) (k : Known TypeId) → k ≡ Good x → k ≡ Good y → x ≡ y
 one_type x y k e f = let g : Good x ≡ Good y = sym e ∙ f in cc
 
