@@ -1,6 +1,6 @@
 -- A merge that keeps exactly what is marked, of files that link, where nothing that is marked has a flaw, and the file of what is left
 -- passes no limit.
-use Rattle.std.specs.Prelude.{◌≡◌, ◌↔◌, List, Option, Some, None, Bool, true, not, ◌||◌, IsTrue, slice_get, if◌then◌else◌}
+use Rattle.std.specs.Prelude.{◌≡◌, ◌↔◌, List, Option, Some, None, Bool, true, false, not, ◌||◌, IsTrue, slice_get, if◌then◌else◌}
 use Rattle.std.specs.List.{list_any}
 use Rattle.std.specs.Option.{is_some}
 use Rattle.il_base.specs.declared.ids.Item.TheVariants as item
