@@ -13,7 +13,6 @@ use Rattle.world_model.specs.declared.expr.TypeExpr.{TypeExpr}
 use Rattle.world_model.specs.declared.expr.TypeExpr.TheVariants as expr
 use Rattle.world_model.specs.declared.types.TypeDefRow.{TypeDefRow}
 use Rattle.world_model.specs.declared.record.AsmRec.{AsmRec}
-use Rattle.world_model.specs.Core.{same_name}
 use Rattle.world_model.specs.Tokens.{index_in}
 use Rattle.world_model.specs.Worlds.{types_in, type_id, core_types, prim_of, prims}
 use Rattle.core_table.specs.declared.tokens.TheConstants.{ARRAY}
@@ -64,7 +63,7 @@ row_right names k t e =
 
 -- System.Array is no primitive
 array_row : option_and_then prim_of (slice_get core_record.type_def 21) ≡ None
-unfolding core_record record_with type_rows type_row text_of prim_of prims same_name
+unfolding core_record record_with type_rows type_row text_of prim_of prims
 array_row = refl
 
 array_there : index_in TYPE_DEF ARRAY ≡ Some 21

@@ -51,7 +51,7 @@ use Rattle.merged_uses.proofs.Sound.{named_good, IsAlone, IsGeneric, IsModifier,
 
 -- ---- definitions
 
-def_defined : (f : ℕ → Option TypeId) (t : TypeId) → definition_of f (expr.Def t) ≡ Good t
+pub def_defined : (f : ℕ → Option TypeId) (t : TypeId) → definition_of f (expr.Def t) ≡ Good t
 unfolding definition_of
 def_defined f t = ap (definition_in f) (def_out t)
 
@@ -110,7 +110,7 @@ module _ (m : Merge) (is : IsMerge m) where
     pub at : RowAt
     pub names : Names (before m) at
     pub home : type_home (before m) t ≡ Some at
-    pub is : definition_expr (before m) at ≡ expr.Prim n
+    pub says : definition_expr (before m) at ≡ expr.Prim n
 
   prim_by : (n : ℕ) (t : TypeId) (o : Option ℕ) → position (is_code_of n) (core_types (before m)) ≡ o → option_map (λ k. type_id (before m) (length (before m) - 1) k) o ≡ Some t → PrimAt n t
   prim_by n t None f e = absurd (cc)
@@ -134,7 +134,7 @@ module _ (m : Merge) (is : IsMerge m) where
           ∙ ap (λ (ts : List TypeDefRow). option_and_then prim_of (slice_get ts k)) (types_before m is)
           ∙ ap (option_and_then prim_of) (get_front core_record.type_def (map (added_row core_record) (names_before m)) k lt ∙ row.1)
           ∙ code_is n (prim_of row.0) passes in
-          record { at = at; names = names; home = ap (type_home (before m)) (sym same) ∙ home_of_row (before m) at names.stands; is = prim_is (before m) at n prim }
+          record { at = at; names = names; home = ap (type_home (before m)) (sym same) ∙ home_of_row (before m) at names.stands; says = prim_is (before m) at n prim }
         where
           some_row : TypeDefRow
           some_row = added_row core_record (record { namespace = []; name = [] })
@@ -193,9 +193,8 @@ module _ (m : Merge) (is : IsMerge m) where
 
     alone_fact : (t : TypeId) → IsAlone (before m) t → Has m is rows t → IsFact (alone t)
     alone_fact t a w =
-        let g = alone_generic t a in
-        let e = (named_by g.at t g.names g.defined w).0 in
-        ap (named_in (names_at here 0 m.left).types) (token_of_number t) ∙ good_named here 0 m.left (type_token (output m) t) (move_expr (rho_of m) (definition_expr (before m) g.at)) e
+        let e = (named_by a.at t a.names (ap (definition_of (prim_type (before m))) a.is ∙ def_defined (prim_type (before m)) t) w).0 in
+        ap (named_in (names_at here 0 m.left).types) (token_of_number t) ∙ good_named here 0 m.left (type_token (output m) t) (move_expr (rho_of m) (definition_expr (before m) a.at)) e
         ∙ ap (λ (x : TypeExpr). Good (move_expr (rho_of m) x)) a.is
 
     generic_fact : (t : TypeId) → IsGeneric (before m) t → Has m is rows t → IsFact (generic t)

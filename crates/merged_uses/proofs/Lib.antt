@@ -6,3 +6,11 @@ pub mod Based
 pub mod Facts
 pub mod Parents
 pub mod Signed
+pub mod Matches
+pub mod Searches
+pub mod Own
+pub mod Uses
+pub mod CoreSigs
+pub mod Callees
+pub mod References
+pub mod Named

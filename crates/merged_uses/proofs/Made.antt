@@ -153,19 +153,15 @@ module _ (recs : List AsmRec) where
   abbrev InNumbers : Leaf → List ℕ → Type 0
   InNumbers l ns = In (suc (leaf_type l).0) ns
 
+  in_part : (l : Leaf) (ls ms : List Leaf) (front back : List ℕ) → (In l ls → InNumbers l front) → (In l ms → InNumbers l back) → In l ls ⊎ In l ms → InNumbers l (front ++ back)
+  in_part l ls ms front back f g (inl h) = in_front (suc (leaf_type l).0) front back (f h)
+  in_part l ls ms front back f g (inr h) = in_behind (suc (leaf_type l).0) front back (g h)
+
   in_each : (xs : List (With HasNumbers)) (l : Leaf) → In l (flat_map (λ ls. ls) (map leaves (map (λ e. e.0) xs))) → InNumbers l (flat_map (λ ns. ns) (map numbers_in (map (made_sig recs) (map (λ e. e.0) xs))))
   in_each [] l h = absurd h
-  in_each (x ∷ xs) l h = by_part (in_parts l (leaves x.0) (flat_map (λ ls. ls) (map leaves (map (λ e. e.0) xs))) h)
-    where
-      front : List ℕ
-      front = numbers_in (made_sig recs x.0)
-
-      back : List ℕ
-      back = flat_map (λ ns. ns) (map numbers_in (map (made_sig recs) (map (λ e. e.0) xs)))
-
-      by_part : In l (leaves x.0) ⊎ In l (flat_map (λ ls. ls) (map leaves (map (λ e. e.0) xs))) → InNumbers l (front ++ back)
-      by_part (inl g) = in_front (suc (leaf_type l).0) front back (x.1 l g)
-      by_part (inr g) = in_behind (suc (leaf_type l).0) front back (in_each xs l g)
+  in_each (x ∷ xs) l h =
+      let more : List Leaf = flat_map (λ ls. ls) (map leaves (map (λ e. e.0) xs)) in
+      in_part l (leaves x.0) more (numbers_in (made_sig recs x.0)) (flat_map (λ ns. ns) (map numbers_in (map (made_sig recs) (map (λ e. e.0) xs)))) (x.1 l) (in_each xs l) (in_parts l (leaves x.0) more h)
 
   by_numbers : (x : TypeExpr-F TypeExpr) (e : TypeExpr) → roll-TypeExpr x ≡ e → (ns : List ℕ) → numbers_in (made_sig recs e) ≡ ns → ((l : Leaf) → In l (leaves_layer (map-TypeExpr TypeExpr (List Leaf) leaves x)) → InNumbers l ns) → HasNumbers e
   by_numbers x e is ns same h l i = subst (InNumbers l) (sym same) (h l (subst (In l) (leaves_is x e is) i))
@@ -217,3 +213,9 @@ module _ (recs : List AsmRec) where
 
   pub leaf_met : (e : TypeExpr) (l : Leaf) → In l (leaves e) → In (leaf_type l) (types_of_sig (made_sig recs e))
   leaf_met e l i = flat_in type_of_number (leaf_type l) (suc (leaf_type l).0) (numbers_in (made_sig recs e)) (has_numbers e l i) (inl refl)
+
+  pub inst_met : (t : TypeId) (args : List TypeExpr) → In t (types_of_sig (made_sig recs (expr.Inst t args)))
+  inst_met t args = leaf_met (expr.Inst t args) (generic t) (inst_leaf t args)
+    where
+      inst_leaf : (t : TypeId) (args : List TypeExpr) → In (generic t) (leaves (expr.Inst t args))
+      inst_leaf t args = subst (In (generic t)) (sym (leaves_is (TypeExpr-F.Inst t args) (expr.Inst t args) (expr.rolls-Inst t args))) (inl refl)

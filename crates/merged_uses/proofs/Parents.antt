@@ -37,10 +37,10 @@ use Rattle.merged_signatures.proofs.Agreeing.{good_token}
 use Rattle.merged_signatures.proofs.Merges.{world, Has, has}
 use Rattle.marked_merge_rules.specs.Reads.{AllThere}
 use Rattle.merged_uses.proofs.Leaves.{Leaf, alone, generic, leaves, All, inst_head, def_leaf}
-use Rattle.merged_uses.proofs.Owners.{Shape, a_prim, a_definition, an_instance, prim_out, def_out, inst_out, prim_owner}
-use Rattle.merged_uses.proofs.Made.{Fact, made_reads, leaf_type, leaf_met}
+use Rattle.merged_uses.proofs.Owners.{Shape, a_prim, a_definition, an_instance, prim_out, def_out, inst_out, prim_owner, def_owner, inst_owner}
+use Rattle.merged_uses.proofs.Made.{Fact, made_reads, leaf_type, leaf_met, inst_met}
 use Rattle.merged_uses.proofs.Sound.{Ok}
-use Rattle.merged_uses.proofs.Facts.{prim_there, alone_generic, leaf_home, named_token, leaf_fact, prim_defined_is}
+use Rattle.merged_uses.proofs.Facts.{def_defined, prim_there, leaf_home, named_token, leaf_fact, prim_defined_is}
 
 map_at : {A B : Type 0} (f : A → B) (xs : List A) (k : ℕ) (x : A) → slice_get xs k ≡ Some x → slice_get (map f xs) k ≡ Some (f x)
 map_at f [] k x e = absurd (cc)
@@ -124,6 +124,21 @@ module _ (m : Merge) (is : IsMerge m) (rows : HasReferenceRows m) where
     key_specs : (e : TypeExpr) (k : TypeKey) → expr_key (before m) e ≡ Some k → (s : Sig) → In s (spec_of_key k) → In s (flat_map spec_of_key (listed (expr_key (before m) e)))
     key_specs e k f s i = subst (λ (o : Option TypeKey). In s (flat_map spec_of_key (listed o))) (sym f) (in_front s (spec_of_key k) [] i)
 
+    -- its own type is one of them
+    pub owner_type : (e : TypeExpr) (t : TypeId) → Shape e → owner_of (before m) e ≡ Some t → In t (types_of_owner (before m) e)
+    owner_type e t (a_prim n same) owner =
+        let key = prim_key (before m) n t (sym (prim_owner (before m) n) ∙ ap (owner_of (before m)) (sym same) ∙ owner) in
+        key_types e (named t) (ap (expr_key (before m)) same ∙ key) t (inl refl)
+    owner_type e t (a_definition u same) owner =
+        let one : Some u ≡ Some t = sym (def_owner (before m) u) ∙ ap (owner_of (before m)) (sym same) ∙ owner in
+        let eq : u ≡ t = cc in
+        key_types e (named u) (ap (expr_key (before m)) same ∙ def_key (before m) u) t (inl (sym eq))
+    owner_type e t (an_instance u args same) owner =
+        let one : Some u ≡ Some t = sym (inst_owner (before m) u args) ∙ ap (owner_of (before m)) (sym same) ∙ owner in
+        let eq : u ≡ t = cc in
+        key_types e (spec (made_sig (before m) (expr.Inst u args))) (ap (expr_key (before m)) same ∙ inst_key (before m) u args) t
+        (subst (λ (x : TypeId). In x (types_of_key (spec (made_sig (before m) (expr.Inst u args))))) eq (inst_met (before m) u args))
+
     token_is : (e : TypeExpr) (k : TypeKey) → expr_key (before m) e ≡ Some k → parent_token (output m) e ≡ key_token (output m) k
     unfolding output_of
     token_is e k f = ap (λ (o : Option TypeKey). first_or (map (key_token (output m)) (listed o)) 0) f
@@ -140,20 +155,19 @@ module _ (m : Merge) (is : IsMerge m) (rows : HasReferenceRows m) where
         let p = prim_there m is n t e in
         let key = prim_key (before m) n t e in
         let w = has_type t p.at (met_owner.types t (key_types (expr.Prim n) (named t) key t (inl refl))) p.home in
-        let f = named_token m is rows p.at t p.names (ap (definition_of (prim_type (before m))) p.is ∙ prim_defined_is (prim_type (before m)) n t e) w in
+        let f = named_token m is rows p.at t p.names (ap (definition_of (prim_type (before m))) p.says ∙ prim_defined_is (prim_type (before m)) n t e) w in
         ap (token_type here 0 m.left) (token_is (expr.Prim n) (named t) key ∙ named_token_is t)
-        ∙ good_token here 0 m.left (type_token (output m) t) (move_expr (rho_of m) (definition_expr (before m) p.at)) f ∙ ap (λ (y : TypeExpr). Good (move_expr (rho_of m) y)) p.is
+        ∙ good_token here 0 m.left (type_token (output m) t) (move_expr (rho_of m) (definition_expr (before m) p.at)) f ∙ ap (λ (y : TypeExpr). Good (move_expr (rho_of m) y)) p.says
 
     def_names : (t : TypeId) → All (Ok (before m)) (expr.Def t) → OwnerMet (expr.Def t) → Names (expr.Def t)
     def_names t ok met_owner =
         let a = def_leaf (Ok (before m)) t ok in
         let home = leaf_home m is (alone t) a in
-        let g = alone_generic m is t a in
         let key = def_key (before m) t in
         let w = has_type t home.0 (met_owner.types t (key_types (expr.Def t) (named t) key t (inl refl))) home.1 in
-        let f = named_token m is rows g.at t g.names g.defined w in
+        let f = named_token m is rows a.at t a.names (ap (definition_of (prim_type (before m))) a.is ∙ def_defined (prim_type (before m)) t) w in
         ap (token_type here 0 m.left) (token_is (expr.Def t) (named t) key ∙ named_token_is t)
-        ∙ good_token here 0 m.left (type_token (output m) t) (move_expr (rho_of m) (definition_expr (before m) g.at)) f ∙ ap (λ (y : TypeExpr). Good (move_expr (rho_of m) y)) a.is
+        ∙ good_token here 0 m.left (type_token (output m) t) (move_expr (rho_of m) (definition_expr (before m) a.at)) f ∙ ap (λ (y : TypeExpr). Good (move_expr (rho_of m) y)) a.is
 
     inst_names : (t : TypeId) (args : List TypeExpr) → All (Ok (before m)) (expr.Inst t args) → OwnerMet (expr.Inst t args) → Names (expr.Inst t args)
     unfolding assemblies output_of
