@@ -71,7 +71,7 @@ use Rattle.merged_uses.proofs.Searches.{used_again}
 use Rattle.merged_uses.proofs.Own.{map_from, own_reads}
 use Rattle.merged_uses.proofs.Uses.{Used, ByReference, ByRow, ByToken, own_row, reference}
 
-then_from : {A B : Type 0} (f : A → Option B) (o : Option A) (y : B) → option_and_then f o ≡ Some y → (x : A) × (o ≡ Some x) × (f x ≡ Some y)
+pub then_from : {A B : Type 0} (f : A → Option B) (o : Option A) (y : B) → option_and_then f o ≡ Some y → (x : A) × (o ≡ Some x) × (f x ≡ Some y)
 then_from f None y e = absurd (cc)
 then_from f (Some x) y e = (x, refl, e)
 

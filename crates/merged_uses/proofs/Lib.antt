@@ -14,3 +14,11 @@ pub mod CoreSigs
 pub mod Callees
 pub mod References
 pub mod Named
+pub mod Tokens
+pub mod Impls
+pub mod FieldMatches
+pub mod FieldSigs
+pub mod FieldSearches
+pub mod FieldOwners
+pub mod FieldUses
+pub mod FieldOwn

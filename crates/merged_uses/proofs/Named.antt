@@ -92,54 +92,54 @@ module _ (m : Merge) (k : Keep) (kept : RowAt → Bool) (r : Reads m k kept) whe
     -- ---- where a method is
 
     pub record Stands (at : RowAt) (row : MethodDefRow) : Type 0 where
-      pub rec : AsmRec
-      pub there : slice_get (before m) at.asm ≡ Some rec
-      pub row_there : slice_get rec.method_def at.row ≡ Some row
-      pub below : at.row < methods_in rec
+      pub asm_rec : AsmRec
+      pub is_there : slice_get (before m) at.asm ≡ Some asm_rec
+      pub row_there : slice_get asm_rec.method_def at.row ≡ Some row
+      pub below : at.row < methods_in asm_rec
 
-    stands : (at : RowAt) (row : MethodDefRow) → method_row_at (before m) at ≡ Some row → Stands at row
+    pub stands : (at : RowAt) (row : MethodDefRow) → method_row_at (before m) at ≡ Some row → Stands at row
     stands at row e =
         let s = then_from (λ (x : AsmRec). slice_get x.method_def at.row) (slice_get (before m) at.asm) row e in
-        record { rec = s.0; there = s.1; row_there = s.2; below = place_within s.0.method_def at.row row s.2 }
+        record { asm_rec = s.0; is_there = s.1; row_there = s.2; below = place_within s.0.method_def at.row row s.2 }
 
     -- ---- its own signature
 
     module _ (e : TypeExpr) (at : RowAt) (s : Searched m k kept r a rec there input e at) (w : Stands at s.row) where
-      signed : known_then (method_type (names_at (before m) at.asm w.rec)) s.row.signature ≡ Good s.type
+      signed : known_then (method_type (names_at (before m) at.asm w.asm_rec)) s.row.signature ≡ Good s.type
       signed =
-          let f : type_of_row (before m) at ≡ Some (known_then (method_type (names_at (before m) at.asm w.rec)) s.row.signature) =
-          ap (option_and_then (λ (x : AsmRec). option_map (λ (y : MethodDefRow). known_then (method_type (names_at (before m) at.asm x)) y.signature) (slice_get x.method_def at.row))) w.there
-          ∙ ap (option_map (λ (y : MethodDefRow). known_then (method_type (names_at (before m) at.asm w.rec)) y.signature)) w.row_there in
-          let g : Some (known_then (method_type (names_at (before m) at.asm w.rec)) s.row.signature) ≡ Some (Good s.type) = sym f ∙ s.type_reads in
+          let f : type_of_row (before m) at ≡ Some (known_then (method_type (names_at (before m) at.asm w.asm_rec)) s.row.signature) =
+          ap (option_and_then (λ (x : AsmRec). option_map (λ (y : MethodDefRow). known_then (method_type (names_at (before m) at.asm x)) y.signature) (slice_get x.method_def at.row))) w.is_there
+          ∙ ap (option_map (λ (y : MethodDefRow). known_then (method_type (names_at (before m) at.asm w.asm_rec)) y.signature)) w.row_there in
+          let g : Some (known_then (method_type (names_at (before m) at.asm w.asm_rec)) s.row.signature) ≡ Some (Good s.type) = sym f ∙ s.type_reads in
           cc
 
-      sig : MethodSig
-      sig = (good_then (method_type (names_at (before m) at.asm w.rec)) s.row.signature s.type signed).from
+      abbrev sig : MethodSig
+      sig = (good_then (method_type (names_at (before m) at.asm w.asm_rec)) s.row.signature s.type signed).from
 
       sig_is : s.row.signature ≡ Good sig
-      sig_is = (good_then (method_type (names_at (before m) at.asm w.rec)) s.row.signature s.type signed).is
+      sig_is = (good_then (method_type (names_at (before m) at.asm w.asm_rec)) s.row.signature s.type signed).is
 
-      sig_reads : method_type (names_at (before m) at.asm w.rec) sig ≡ Good s.type
-      sig_reads = (good_then (method_type (names_at (before m) at.asm w.rec)) s.row.signature s.type signed).gives
+      sig_reads : method_type (names_at (before m) at.asm w.asm_rec) sig ≡ Good s.type
+      sig_reads = (good_then (method_type (names_at (before m) at.asm w.asm_rec)) s.row.signature s.type signed).gives
 
       abbrev world : MethodSig
-      world = world_method_sig (before m) at.asm w.rec sig
+      world = world_method_sig (before m) at.asm w.asm_rec sig
 
-      own_sig : own_method_sig (before m) at ≡ world_method_sig (before m) at.asm w.rec sig ∷ []
+      own_sig : own_method_sig (before m) at ≡ world_method_sig (before m) at.asm w.asm_rec sig ∷ []
       own_sig =
-          one_of (λ (x : AsmRec). flat_map (λ (y : MethodDefRow). map (world_method_sig (before m) at.asm x) (known_list y.signature)) (listed (slice_get x.method_def at.row))) (rec_at (before m) at) w.rec w.there
-          ∙ one_of (λ (y : MethodDefRow). map (world_method_sig (before m) at.asm w.rec) (known_list y.signature)) (slice_get w.rec.method_def at.row) s.row w.row_there
-          ∙ ap (λ (x : Known MethodSig). map (world_method_sig (before m) at.asm w.rec) (known_list x)) sig_is
+          one_of (λ (x : AsmRec). flat_map (λ (y : MethodDefRow). map (world_method_sig (before m) at.asm x) (known_list y.signature)) (listed (slice_get x.method_def at.row))) (rec_at (before m) at) w.asm_rec w.is_there
+          ∙ one_of (λ (y : MethodDefRow). map (world_method_sig (before m) at.asm w.asm_rec) (known_list y.signature)) (slice_get w.asm_rec.method_def at.row) s.row w.row_there
+          ∙ ap (λ (x : Known MethodSig). map (world_method_sig (before m) at.asm w.asm_rec) (known_list x)) sig_is
 
       own_name : method_name (before m) at ≡ s.row.name
       own_name =
-          one_of (λ (x : AsmRec). flat_map (λ (y : MethodDefRow). y.name) (listed (slice_get x.method_def at.row))) (rec_at (before m) at) w.rec w.there
-          ∙ one_of (λ (y : MethodDefRow). y.name) (slice_get w.rec.method_def at.row) s.row w.row_there
+          one_of (λ (x : AsmRec). flat_map (λ (y : MethodDefRow). y.name) (listed (slice_get x.method_def at.row))) (rec_at (before m) at) w.asm_rec w.is_there
+          ∙ one_of (λ (y : MethodDefRow). y.name) (slice_get w.asm_rec.method_def at.row) s.row w.row_there
 
       home : method_at (before m) (mid at) ≡ Some at
-      home = there_home methods_in (before m) at (record { rec = w.rec; here = w.there; below = w.below })
+      home = there_home methods_in (before m) at (record { rec = w.asm_rec; here = w.is_there; below = w.below })
 
-      row_is : member_ref_row (output m) (a_method (mid at) e) ≡ record { class = parent_token (output m) e; name = s.row.name; signature = Good (member.Method (new_method_sig (output m) (world_method_sig (before m) at.asm w.rec sig))) } ∷ []
+      row_is : member_ref_row (output m) (a_method (mid at) e) ≡ record { class = parent_token (output m) e; name = s.row.name; signature = Good (member.Method (new_method_sig (output m) (world_method_sig (before m) at.asm w.asm_rec sig))) } ∷ []
       unfolding output_of
       row_is =
           one_of (λ x. map (λ z. record { class = parent_token (output m) e; name = method_name (before m) x; signature = Good (member.Method (new_method_sig (output m) z)) }) (own_method_sig (before m) x)) (method_at (before m) (mid at)) at home
@@ -161,10 +161,10 @@ module _ (m : Merge) (k : Keep) (kept : RowAt → Bool) (r : Reads m k kept) whe
 
         keeps_at : IsTrue (keeps_method_row k (before m) at)
         keeps_at =
-            keeps_method m k kept r at w.rec w.there w.below
+            keeps_method m k kept r at w.asm_rec w.is_there w.below
             (r.members met.x (item.Method (mid at)) (contains (output m).mets met.x met.met) (contains (members_met met.x) (item.Method (mid at)) (subst (In (item.Method (mid at))) (sym met.items) (inl refl))))
 
-        sig_types : (t : TypeId) → In t (flat_map types_of_sig (map (world_sig (before m) at.asm w.rec) (sig.ret ∷ sig.params))) → In t (types_of_met (before m) met.x)
+        sig_types : (t : TypeId) → In t (flat_map types_of_sig (map (world_sig (before m) at.asm w.asm_rec) (sig.ret ∷ sig.params))) → In t (types_of_met (before m) met.x)
         sig_types t i =
             met.types t (in_behind t (types_of_owner (before m) e) (flat_map types_of_method_sig (flat_map (own_method_sig (before m)) (listed (method_at (before m) (mid at)))))
             (subst (λ (o : Option RowAt). In t (flat_map types_of_method_sig (flat_map (own_method_sig (before m)) (listed o)))) (sym home)
@@ -172,12 +172,12 @@ module _ (m : Merge) (k : Keep) (kept : RowAt → Bool) (r : Reads m k kept) whe
             (in_front t (types_of_method_sig world) [] i))))
 
         -- its signature in the output
-        input_sig : suc at.asm < length (before m) → method_type (names_at (after m) 0 m.left) (new_method_sig (output m) (world_method_sig (before m) at.asm w.rec sig)) ≡ Good (move_method_type (rho_of m) s.type)
+        input_sig : suc at.asm < length (before m) → method_type (names_at (after m) 0 m.left) (new_method_sig (output m) (world_method_sig (before m) at.asm w.asm_rec sig)) ≡ Good (move_method_type (rho_of m) s.type)
         unfolding output_of
         input_sig lt =
             let e : m.kept (item.Method (mid at)) ≡ true = sym (r.flags.methods at s.row s.row_there) ∙ keeps_at in
-            let f = r.methods at w.rec s.row w.there w.row_there lt e in
-            ap (λ (x : Known MethodSig). known_then (method_type (names_at (after m) 0 m.left)) (moved_method_sig (output m) at.asm w.rec x)) (sym sig_is)
+            let f = r.methods at w.asm_rec s.row w.is_there w.row_there lt e in
+            ap (λ (x : Known MethodSig). known_then (method_type (names_at (after m) 0 m.left)) (moved_method_sig (output m) at.asm w.asm_rec x)) (sym sig_is)
             ∙ f ∙ ap (known_map (move_method_type (rho_of m))) signed
 
         abbrev AreHere : AsmRec → MethodSig → Type 0
@@ -187,36 +187,36 @@ module _ (m : Merge) (k : Keep) (kept : RowAt → Bool) (r : Reads m k kept) whe
         Again c x = method_type (names_at (before m) at.asm c) x ≡ Good s.type → AreHere c x
             → method_type (names_at (signatures.world m is r.rows) 0 m.left) (new_method_sig (output m) (world_method_sig (before m) at.asm c x)) ≡ Good (move_method_type (rho_of m) s.type)
 
-        here_types : AreHere w.rec sig
+        here_types : AreHere w.asm_rec sig
         here_types t at' i home_is = has m is r.rows t (r.there met.x t at' (contains (output m).mets met.x met.met) (contains (types_of_met (before m) met.x) t (sig_types t i)) home_is)
 
-        core_sig : suc at.asm ≡ length (before m) → method_type (names_at (after m) 0 m.left) (new_method_sig (output m) (world_method_sig (before m) at.asm w.rec sig)) ≡ Good (move_method_type (rho_of m) s.type)
+        core_sig : suc at.asm ≡ length (before m) → method_type (names_at (after m) 0 m.left) (new_method_sig (output m) (world_method_sig (before m) at.asm w.asm_rec sig)) ≡ Good (move_method_type (rho_of m) s.type)
         core_sig last =
-            let same : w.rec ≡ core_of m = core_rec m at w.rec w.there last in
+            let same : w.asm_rec ≡ core_of m = core_rec m at w.asm_rec w.is_there last in
             let row : slice_get (core_of m).method_def at.row ≡ Some s.row = ap (λ (x : AsmRec). slice_get x.method_def at.row) (sym same) ∙ w.row_there in
             let p = core_plain at.row s.row (ap (λ (ms : List MethodDefRow). slice_get ms at.row) (sym (before_methods m)) ∙ row) in
             let one : sig ≡ signature_of p.of = let g : Good sig ≡ Good (signature_of p.of) = sym sig_is ∙ p.signature in cc in
             let first : Again (core_of m) (signature_of p.of) = core_moves m is r.rows at.asm last p.of s.type p.plain in
             let second : Again (core_of m) sig = subst (Again (core_of m)) (sym one) first in
-            let third : Again w.rec sig = subst (λ (c : AsmRec). Again c sig) (sym same) second in
-            subst (λ (ws : List AsmRec). method_type (names_at ws 0 m.left) (new_method_sig (output m) (world_method_sig (before m) at.asm w.rec sig)) ≡ Good (move_method_type (rho_of m) s.type)) (sym (after_is m is r.rows))
+            let third : Again w.asm_rec sig = subst (λ (c : AsmRec). Again c sig) (sym same) second in
+            subst (λ (ws : List AsmRec). method_type (names_at ws 0 m.left) (new_method_sig (output m) (world_method_sig (before m) at.asm w.asm_rec sig)) ≡ Good (move_method_type (rho_of m) s.type)) (sym (after_is m is r.rows))
             (third sig_reads here_types)
 
-        new_sig_reads : method_type (names_at (after m) 0 m.left) (new_method_sig (output m) (world_method_sig (before m) at.asm w.rec sig)) ≡ Good (move_method_type (rho_of m) s.type)
+        new_sig_reads : method_type (names_at (after m) 0 m.left) (new_method_sig (output m) (world_method_sig (before m) at.asm w.asm_rec sig)) ≡ Good (move_method_type (rho_of m) s.type)
         new_sig_reads = elim (cases_lt (suc at.asm) (length (before m))) [
           | inl lt ↦ input_sig lt
-          | inr ge ↦ (let within = place_within (before m) at.asm w.rec w.there in core_sig (omega (arith, ge, within)))
+          | inr ge ↦ (let within = place_within (before m) at.asm w.asm_rec w.is_there in core_sig (omega (arith, ge, within)))
         ]
 
         found_reads : nat_lt most_levels (levels e) ≡ false
             → generic_method (after m) 0 m.left (method_token (output m) (found_method (mid at) e)) ≡ Good (record { method = record { 0 = (rho_of m).method (method_number (before m) at) }; owner = mv e; args = [] })
         unfolding method_token
         found_reads low =
-            let row : MemberRefRow = record { class = parent_token (output m) e; name = s.row.name; signature = Good (member.Method (new_method_sig (output m) (world_method_sig (before m) at.asm w.rec sig))) } in
+            let row : MemberRefRow = record { class = parent_token (output m) e; name = s.row.name; signature = Good (member.Method (new_method_sig (output m) (world_method_sig (before m) at.asm w.asm_rec sig))) } in
             let member_met = flat_in members_of_met (a_method (mid at) e) met.x (output m).mets met.met (subst (In (a_method (mid at) e)) (sym met.members) (inl refl)) in
             let h = method_row m is r.rows (mid at) e member_met row row_is in
             let parent = parent_names m is r.rows r.there met.x met.met e s.shape s.t s.owner s.all met_owner in
-            method_reads m is r.rows (a_method (mid at) e) (parent_token (output m) e) s.row.name (new_method_sig (output m) (world_method_sig (before m) at.asm w.rec sig)) (mv e) (move_method_type (rho_of m) s.type) h parent new_sig_reads
+            method_reads m is r.rows (a_method (mid at) e) (parent_token (output m) e) s.row.name (new_method_sig (output m) (world_method_sig (before m) at.asm w.asm_rec sig)) (mv e) (move_method_type (rho_of m) s.type) h parent new_sig_reads
             ∙ used_again m k kept r e s.t s.home at s.row.name s.type s.shape s.owner s.is_home (keeps_number m k kept r s.t s.home s.is_home keeps_home) keeps_home keeps_at s.first s.row s.row_there low
 
       -- ---- a reference to a method of a plain type of an input
@@ -252,13 +252,13 @@ module _ (m : Merge) (k : Keep) (kept : RowAt → Bool) (r : Reads m k kept) whe
             by_some None e = absurd (cc)
             by_some (Some i) e = let same : at_row at.asm i ≡ s.home = cc in ap (λ (x : RowAt). x.asm) (sym same)
 
-        no_params : param_count w.rec s.home.row ≡ 0
+        no_params : param_count w.asm_rec s.home.row ≡ 0
         no_params =
-            let e : rec_at (before m) s.home ≡ Some w.rec = ap (slice_get (before m)) same_asm ∙ w.there in
-            let f : list_any (λ (x : AsmRec). param_count x s.home.row == 0) (w.rec ∷ []) ≡ true = ap (λ (o : Option AsmRec). list_any (λ (x : AsmRec). param_count x s.home.row == 0) (listed o)) (sym e) ∙ test_parts.1 in
-            eqb-true (param_count w.rec s.home.row) 0 (or_last (param_count w.rec s.home.row == 0) f)
+            let e : rec_at (before m) s.home ≡ Some w.asm_rec = ap (slice_get (before m)) same_asm ∙ w.is_there in
+            let f : list_any (λ (x : AsmRec). param_count x s.home.row == 0) (w.asm_rec ∷ []) ≡ true = ap (λ (o : Option AsmRec). list_any (λ (x : AsmRec). param_count x s.home.row == 0) (listed o)) (sym e) ∙ test_parts.1 in
+            eqb-true (param_count w.asm_rec s.home.row) 0 (or_last (param_count w.asm_rec s.home.row == 0) f)
 
-        own_is : own_type (before m) w.rec s.home ≡ definition_expr (before m) s.home
+        own_is : own_type (before m) w.asm_rec s.home ≡ definition_expr (before m) s.home
         unfolding own_type
         own_is = ap (with_own_args (before m) s.home) no_params
 
@@ -282,11 +282,11 @@ module _ (m : Merge) (k : Keep) (kept : RowAt → Bool) (r : Reads m k kept) whe
         own_found : nat_lt most_levels (levels e) ≡ false
             → generic_method (after m) 0 m.left (method_token (output m) (own_method (mid at))) ≡ Good (record { method = record { 0 = (rho_of m).method (method_number (before m) at) }; owner = mv e; args = [] })
         own_found low =
-            let owner : own_type (before m) w.rec s.home ≡ e = own_is ∙ by_shape s.shape in
+            let owner : own_type (before m) w.asm_rec s.home ≡ e = own_is ∙ by_shape s.shape in
             let keeps_it =
-            keeps_method m k kept r at w.rec w.there w.below
+            keeps_method m k kept r at w.asm_rec w.is_there w.below
             (r.members met.x (item.Method (mid at)) (contains (output m).mets met.x met.met) (contains (members_met met.x) (item.Method (mid at)) (subst (In (item.Method (mid at))) (sym met.items) (inl refl)))) in
-            own_reads m k kept r at w.rec w.there (subst (λ (n : ℕ). suc n < length (before m)) same_asm home_input) w.below keeps_it s.home s.has (ap (λ (x : TypeExpr). nat_lt most_levels (levels x)) owner ∙ low)
+            own_reads m k kept r at w.asm_rec w.is_there (subst (λ (n : ℕ). suc n < length (before m)) same_asm home_input) w.below keeps_it s.home s.has (ap (λ (x : TypeExpr). nat_lt most_levels (levels x)) owner ∙ low)
             ∙ ap (λ (x : TypeExpr). Good (record { method = record { 0 = (rho_of m).method (method_number (before m) at) }; owner = mv x; args = [] })) owner
 
     -- ---- of a token

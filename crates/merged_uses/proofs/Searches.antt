@@ -58,7 +58,7 @@ module _ (recs : List AsmRec) where
   unfolding search
   search_first look x es at e = ap (λ (o : Option RowAt). or_next (option_map (found_in x) o) (search look es)) e
 
-  some_bases : (look : TypeExpr → Option RowAt) (n : ℕ) (x : TypeExpr) (at : RowAt) → 0 < n → look x ≡ Some at → search look (bases_from recs n x) ≡ Some (found_in x at)
+  pub some_bases : (look : TypeExpr → Option RowAt) (n : ℕ) (x : TypeExpr) (at : RowAt) → 0 < n → look x ≡ Some at → search look (bases_from recs n x) ≡ Some (found_in x at)
   unfolding bases_from
   some_bases look zero x at lt e = absurd (omega (arith, lt))
   some_bases look (suc n) x at lt e = search_first look x (elim (base_of recs x) [ None ↦ [] | Some b ↦ bases_from recs n b ]) at e
@@ -190,7 +190,7 @@ module _ (m : Merge) (k : Keep) (kept : RowAt → Bool) (r : Reads m k kept) whe
   shape_moved e (a_definition t same) = a_definition (move_type (rho_of m) t) (ap mv same ∙ move_def (rho_of m) t)
   shape_moved e (an_instance t args same) = an_instance (move_type (rho_of m) t) (map mv args) (ap mv same ∙ move_inst (rho_of m) t args)
 
-  owner_moved : (e : TypeExpr) (t : TypeId) → Shape e → owner_of (before m) e ≡ Some t → owner_of (after m) (move_expr (rho_of m) e) ≡ Some (move_type (rho_of m) t)
+  pub owner_moved : (e : TypeExpr) (t : TypeId) → Shape e → owner_of (before m) e ≡ Some t → owner_of (after m) (move_expr (rho_of m) e) ≡ Some (move_type (rho_of m) t)
   owner_moved e t (a_prim n same) h =
       ap (owner_of (after m)) (ap mv same ∙ move_prim (rho_of m) n) ∙ prim_owner (after m) n ∙ (core_moves m is k kept r.flags (undone_of m)).prims n
       ∙ ap (option_map (move_type (rho_of m))) (sym (prim_owner (before m) n) ∙ ap (owner_of (before m)) (sym same) ∙ h)
@@ -207,7 +207,7 @@ module _ (m : Merge) (k : Keep) (kept : RowAt → Bool) (r : Reads m k kept) whe
       ap (option_and_then (type_home (after m))) (owner_moved e t shape owner)
       ∙ (places_move m (undone_of m) k kept is r.flags).type_homes t.0 keeps_it ∙ ap (option_map (places_of m).typ) at
 
-  some_types : (e : TypeExpr) (t : TypeId) (home : RowAt) → owner_of (after m) e ≡ Some t → home_of (after m) e ≡ Some home → 0 < type_count (after m)
+  pub some_types : (e : TypeExpr) (t : TypeId) (home : RowAt) → owner_of (after m) e ≡ Some t → home_of (after m) e ≡ Some home → 0 < type_count (after m)
   unfolding type_count
   some_types e t home owner h =
       let at : type_home (after m) t ≡ Some home = sym (ap (option_and_then (type_home (after m))) owner) ∙ h in

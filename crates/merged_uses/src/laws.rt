@@ -1,6 +1,11 @@
-ghost use Rattle.merged_uses.specs.Laws.{CalleesRead};
+ghost use Rattle.merged_uses.specs.Laws.{CalleesRead, ImplsRead};
 
 /// A law: a token of a method that is written names the moved method. It does nothing.
 pub fn callees_read()
     ensures { CalleesRead }
+{}
+
+/// A law: a MethodImpl row of a kept class names in the output what it named, moved, where its body is kept. It does nothing.
+pub fn impls_read()
+    ensures { ImplsRead }
 {}
