@@ -75,7 +75,7 @@ pub then_from : {A B : Type 0} (f : A → Option B) (o : Option A) (y : B) → o
 then_from f None y e = absurd (cc)
 then_from f (Some x) y e = (x, refl, e)
 
-either : (a b : Bool) → (a || b) ≡ true → (a ≡ true) ⊎ (b ≡ true)
+pub either : (a b : Bool) → (a || b) ≡ true → (a ≡ true) ⊎ (b ≡ true)
 either true b h = inl refl
 either false b h = inr h
 
@@ -85,7 +85,7 @@ module _ (m : Merge) (k : Keep) (kept : RowAt → Bool) (r : Reads m k kept) whe
 
   -- ---- what is met is kept
 
-  any_listed : {A : Type 0} (p : A → Bool) (o : Option A) → list_any p (listed o) ≡ true → (x : A) × (o ≡ Some x) × (p x ≡ true)
+  pub any_listed : {A : Type 0} (p : A → Bool) (o : Option A) → list_any p (listed o) ≡ true → (x : A) × (o ≡ Some x) × (p x ≡ true)
   any_listed p None h = absurd (cc)
   any_listed p (Some x) h = (x, refl, or_last (p x) h)
     where

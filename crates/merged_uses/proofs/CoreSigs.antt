@@ -143,7 +143,12 @@ module _ (m : Merge) (is : IsMerge m) (rows : HasReferenceRows m) (a : ℕ) (las
     pub reads : sig_expr (names_at (before m) a (core_of m)) s ≡ Good old
     pub again : AreHere (types_of_sig (world_sig (before m) a (core_of m) s)) → sig_expr (names_at (world m is rows) 0 m.left) (new_sig (output m) (world_sig (before m) a (core_of m) s)) ≡ Good (move_expr (rho_of m) old)
 
-  prim_moves : (n : ℕ) → Moves (sig.Prim n)
+  -- a primitive has no types
+  pub prim_types : (n : ℕ) → types_of_sig (world_sig (before m) a (core_of m) (sig.Prim n)) ≡ []
+  prim_types n =
+      ap types_of_sig (world_is (Sig-F.Prim n) (sig.Prim n) (sig.rolls-Prim n)) ∙ ap (flat_map type_of_number) (numbers (Sig-F.Prim n) (sig.Prim n) (sig.rolls-Prim n))
+
+  pub prim_moves : (n : ℕ) → Moves (sig.Prim n)
   prim_moves n = record {
     old = expr.Prim n;
     reads = layer past (Sig-F.Prim n) (sig.Prim n) (sig.rolls-Prim n);

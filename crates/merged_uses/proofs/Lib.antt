@@ -22,3 +22,5 @@ pub mod FieldSearches
 pub mod FieldOwners
 pub mod FieldUses
 pub mod FieldOwn
+pub mod FieldCallees
+pub mod FieldNamed

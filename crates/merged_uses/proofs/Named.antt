@@ -75,7 +75,7 @@ pub record KeyMet (m : Merge) (key : MethodKey) : Type 0 where
   pub members : members_of_met x ≡ member_of_method key
   pub items : members_met x ≡ method_of_key key
 
-one_of : {A B : Type 0} (f : A → List B) (o : Option A) (x : A) → o ≡ Some x → flat_map f (listed o) ≡ f x
+pub one_of : {A B : Type 0} (f : A → List B) (o : Option A) (x : A) → o ≡ Some x → flat_map f (listed o) ≡ f x
 one_of f o x e = ap (λ p. flat_map f (listed p)) e ∙ append-nil (f x)
 
 module _ (m : Merge) (k : Keep) (kept : RowAt → Bool) (r : Reads m k kept) where

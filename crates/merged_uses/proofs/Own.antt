@@ -53,7 +53,7 @@ pub map_from : {A B : Type 0} (f : A → B) (o : Option A) (y : B) → option_ma
 map_from f None y e = absurd (cc)
 map_from f (Some x) y e = (x, refl, cc)
 
-own_moved : (m : Merge) (i n : ℕ) → map (move_expr (rho_of m)) (map (λ k. expr.Var k) (range_with_len i n)) ≡ map (λ k. expr.Var k) (range_with_len i n)
+pub own_moved : (m : Merge) (i n : ℕ) → map (move_expr (rho_of m)) (map (λ k. expr.Var k) (range_with_len i n)) ≡ map (λ k. expr.Var k) (range_with_len i n)
 own_moved m i zero = refl
 own_moved m i (suc n) = λ j. move_var (rho_of m) i j ∷ own_moved m (i + 1) n j
 

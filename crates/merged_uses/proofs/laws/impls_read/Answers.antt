@@ -1,6 +1,4 @@
 use Rattle.merged_uses.proofs.Impls.{impl_reads}
-use Rattle.merged_uses.proofs.FieldOwn.{own_reads}
-use Rattle.merged_uses.proofs.FieldUses.{by_token}
 use Rattle.merged_uses.proofs.laws.impls_read.Goals as goal
 
 pub returns : goal.returns
