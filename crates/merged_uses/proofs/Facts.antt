@@ -176,10 +176,11 @@ module _ (m : Merge) (is : IsMerge m) where
     named_by at t n h w =
         let k = keys.key_of m.internal m.inputs (merges.names m is rows) (merges.those m is rows) m.kept (output m).mets m.left (premises m is rows) (rho_of m) (number_is m is rows) at n in
         let same : k.t ≡ t = one_type k.t t (definition_of (prim_type (before m)) (definition_expr (before m) at)) k.defined h in
-        let w' : Has m is rows k.t = subst (Has m is rows) (sym same) w in
-        (ap (λ (u : TypeId). named_type here 0 m.left (type_token (output m) u)) (sym same) ∙ k.token_names w',
-         k.moved ∙ ap (λ (u : TypeId). Good (move_type (rho_of m) u)) same,
-         ap (λ (u : TypeId). added_by here 0 m.left (type_token (output m) u)) (sym same) ∙ k.none w')
+        let w' : Has m is rows k.t = subst (Has m is rows) (sym same) w in (
+          ap (λ (u : TypeId). named_type here 0 m.left (type_token (output m) u)) (sym same) ∙ k.token_names w',
+          k.moved ∙ ap (λ (u : TypeId). Good (move_type (rho_of m) u)) same,
+          ap (λ (u : TypeId). added_by here 0 m.left (type_token (output m) u)) (sym same) ∙ k.none w',
+        )
 
     pub named_token : (at : RowAt) (t : TypeId) → Names (before m) at → definition_of (prim_type (before m)) (definition_expr (before m) at) ≡ Good t → Has m is rows t
         → named_type here 0 m.left (type_token (output m) t) ≡ Good (move_expr (rho_of m) (definition_expr (before m) at))
