@@ -1,7 +1,6 @@
 pub mod Core
 pub mod Values
 pub mod Joined
-pub mod Exact
 pub mod Readings
 pub mod Runs
 pub mod Trims

@@ -38,12 +38,6 @@ MarkedClosed =
 abbrev pub OnlyMarks : List AsmRec → Option RowAt → List Root → (Fact → Bool) → Type 0
 OnlyMarks recs entry roots has = (f : Fact) → IsTrue (is_there recs f) → IsTrue (has f) → Marks recs entry roots f
 
--- Flags that are exact for the facts whose item or type is there give one for each fact, if the others are set.
-abbrev pub ExactMarks : Type 0
-ExactMarks =
-    (recs : List AsmRec) (entry : Option RowAt) (roots : List Root) (holds : Fact → Bool) → ((f : Fact) → IsTrue (is_there recs f) → IsTrue (holds f) ↔ Marks recs entry roots f)
-    → HasMarks recs entry roots (λ f. not (is_there recs f) || holds f) × OnlyMarks recs entry roots (λ f. not (is_there recs f) || holds f)
-
 -- Where only marked facts have flags and no marked item is bad, signatures and locals of methods with a flag and a body have a reading.
 abbrev pub MarkedReads : Type 0
 MarkedReads =

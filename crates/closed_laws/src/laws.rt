@@ -1,13 +1,8 @@
-ghost use Rattle.closed_laws.specs.Laws.{MarkedClosed, ExactMarks, MarkedReads, RecordsSound, MarkedTrimsRun};
+ghost use Rattle.closed_laws.specs.Laws.{MarkedClosed, MarkedReads, RecordsSound, MarkedTrimsRun};
 
 /// A law: where the marked set is kept, all that a step of a kept method can reach is kept. It does nothing.
 pub fn marked_closed()
     ensures { MarkedClosed }
-{}
-
-/// A law: flags that are exact where facts are there follow the rules of marking. It does nothing.
-pub fn exact_marks()
-    ensures { ExactMarks }
 {}
 
 /// A law: signatures and locals of marked methods with bodies have a reading where no marked item is bad. It does nothing.

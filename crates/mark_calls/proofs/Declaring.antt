@@ -95,5 +95,5 @@ module _ (recs : List AsmRec) (at : RowAt) where
         ap (flat_map (λ k. option_map_or (declared_by recs at a rec) (slice_get rec.method_impl k) [])) (e ∙ ap (rows_with groups) number)
         ∙ flat_grouped (λ (r : MethodImplRow). number_of (use_in recs a r.body)) (method_id recs at).0 rec.method_impl groups are (declared_by recs at a rec) (declared_by recs at a rec)
         (λ r. let used : use_in recs a r.body ≡ good_use (generic_method recs a rec r.body) = ap (option_and_then (λ (x : AsmRec). good_use (generic_method recs a x r.body))) here in
-            by_use (body_facts recs a rec r) (good_use (generic_method recs a rec r.body)) (number_of (use_in recs a r.body) == (method_id recs at).0)
-            (ap (λ (u : Option MethodUse). number_of u == (method_id recs at).0) (sym used)))
+        by_use (body_facts recs a rec r) (good_use (generic_method recs a rec r.body)) (number_of (use_in recs a r.body) == (method_id recs at).0)
+        (ap (λ (u : Option MethodUse). number_of u == (method_id recs at).0) (sym used)))

@@ -43,12 +43,7 @@ fn body_numbers(
 }
 
 /// An assembly's rows by the numbers of their bodies.
-fn groups_in(
-    alloc: Global,
-    tables: &Tables<'_>,
-    asm: u32,
-    rec: &AsmRec,
-) -> Result<Groups, NoMemory>
+fn groups_in(alloc: Global, tables: &Tables<'_>, asm: u32, rec: &AsmRec) -> Result<Groups, NoMemory>
     requires { IsTables tables.now }
     ensures { IfOk result (AreGroups (body_numbers tables.now.world.now.recs asm rec.now)) }
 {

@@ -150,7 +150,7 @@ module _ (inputs : List AsmRec) (entry : Option RowAt) (roots : List Root) (has 
   class_by e s f g class h (inr m) =
       method_kept f
       (class_gives recs entry roots has marks m.made.id (method_id recs s) m.of s (marks_method recs f) m.made.is (method_marked s g.stays) m.made.home (slot_row s g)
-      (in_class_runs recs m.of s f g.own class (sym (dispatch_alike inputs sound s e (open_type recs m.of) (open_home e m.of m.is)) ∙ h)))
+      (in_class_runs recs m.of s f g.own class (sym (dispatch_alike inputs sound s e (open_type recs m.of) (open_home e m.of m.is)) ∙ h)) refl)
 
   -- ---- an interface slot
 
@@ -255,7 +255,7 @@ module _ (inputs : List AsmRec) (entry : Option RowAt) (roots : List Root) (has 
       → In (marks_method recs g) (interface_runs recs x s r) → KeepsMethod g
   gives x s g t r made home slot marks_row is i =
       method_kept g
-      (interface_gives recs entry roots has marks t (method_id recs s) (record { 0 = rows_before impls_in recs r.asm + r.row }) x s r (marks_method recs g) made (method_marked s slot.stays) marks_row home (slot_row s slot) is i)
+      (interface_gives recs entry roots has marks t (method_id recs s) (record { 0 = rows_before impls_in recs r.asm + r.row }) x s r (marks_method recs g) made (method_marked s slot.stays) marks_row home (slot_row s slot) is i refl)
 
   found_by : (e owner : TypeExpr) (s f : RowAt) → IsTrue (keeps_expr k e) → Slot s → in_interface recs s ≡ true → CalledOn owner s → interface_method recs e owner s ≡ Some f
       → IsCoreType inputs sound e ⊎ MadeType inputs sound has e → KeepsMethod f

@@ -58,7 +58,7 @@ use Rattle.view_rules.specs.Methods.{signature_by, body_by, is_core_row, method_
 use Rattle.view_rules.specs.Answers.{queries_of}
 use Rattle.change_rules.specs.Change.{Keep}
 use Rattle.change_rules.specs.Keeps.{keeps_expr, keeps_defined, if_good, keeps_instruction, keeps_clause, keeps_code, keeps_signature, keeps_body, keeps_method}
-use Rattle.marked_laws.specs.Flags.{HasMarks, keep_of}
+use Rattle.marked_laws.specs.Flags.{is_added, HasMarks, keep_of}
 use Rattle.marked_laws.proofs.Closing.{mapped_in, row_gives, item_gives_shown}
 use Rattle.marked_laws.proofs.Flags.{typ_has, method_is, method_has}
 use Rattle.marked_laws.proofs.Named.{defined_by_types}
@@ -219,12 +219,12 @@ module _ (recs : List AsmRec) (entry : Option RowAt) (roots : List Root) (has : 
             (flat_in (made_in recs at.asm rec) f d (listed (slice_get rec.method_def at.row)) (listed_in d (slice_get rec.method_def at.row) row)
             (flat_in (λ (i : Instr). makes_by recs at.asm rec i.form i.operand) f x (calls.code_of rec d) in_code i))
 
-        op_makes : (f : Fact) → In f (makes_by recs at.asm rec x.form x.operand) → IsTrue (has f)
-        op_makes f i =
+        op_makes : (f : Fact) → In f (makes_by recs at.asm rec x.form x.operand) → is_added recs f ≡ false → IsTrue (has f)
+        op_makes f i known =
             row_gives recs entry roots has m self at f h is_row
             (in_front f (method_needs recs at ++ makes recs at ++ overrides_of recs at ++ method_starts recs at) (accessed recs at)
             (in_front f (method_needs recs at ++ makes recs at ++ overrides_of recs at) (method_starts recs at)
-            (in_front f (method_needs recs at ++ makes recs at) (overrides_of recs at) (in_behind f (method_needs recs at) (makes recs at) (in_makes f i)))))
+            (in_front f (method_needs recs at ++ makes recs at) (overrides_of recs at) (in_behind f (method_needs recs at) (makes recs at) (in_makes f i))))) known
 
         instruction_kept : IsTrue (keeps_instruction k q (instruction_of recs at.asm rec x))
         unfolding instruction_of

@@ -40,7 +40,7 @@ use Rattle.view_rules.specs.Answers.{queries_of}
 use Rattle.view_rules.specs.Code.{use_by}
 use Rattle.change_rules.specs.Change.{Keep}
 use Rattle.change_rules.specs.Keeps.{keeps_expr, shows_expr, news_expr, begins_expr, keeps_use, is_of_owner, if_good, keeps_called, is_static, keeps_accessed, keeps_operand, keeps_of_form}
-use Rattle.marked_laws.specs.Flags.{HasMarks, keep_of}
+use Rattle.marked_laws.specs.Flags.{is_added, HasMarks, keep_of}
 use Rattle.marked_laws.proofs.Closing.{mapped_in, in_arguments_of, item_gives_shown}
 use Rattle.marked_laws.proofs.Named.{kept_by_parts, arguments_are_types, shown_by_parts, all_are_types}
 use Rattle.marked_laws.proofs.Flags.{typ_is, shown_is, method_is, field_is, made_is}
@@ -127,11 +127,11 @@ module _ (recs : List AsmRec) (entry : Option RowAt) (roots : List Root) (has : 
           (ap (λ (n : MethodId). is_of_owner (method_query recs n.0) u.owner) o.method ∙ called_owned recs o.owner o.at o.row u.owner o.owned)
 
       -- what `newobj` makes
-      made_owner : MethodIn recs methods u → ((t : TypeId) → In t (definitions_in u.owner) → IsTrue (has (shown t))) → ((x : Fact) → In x (makes_type recs u) → IsTrue (has x)) → IsTrue (shows_expr k u.owner && news_expr k u.owner)
+      made_owner : MethodIn recs methods u → ((t : TypeId) → In t (definitions_in u.owner) → IsTrue (has (shown t))) → ((x : Fact) → In x (makes_type recs u) → is_added recs x ≡ false → IsTrue (has x)) → IsTrue (shows_expr k u.owner && news_expr k u.owner)
       unfolding news_expr
       made_owner o d made =
           and_from (shows_expr k u.owner) (news_expr k u.owner) (shows_by recs has u.owner owner_marked d owner_argument)
-          (owner_passes recs k.made o.owner u.owner o.owned (λ t home of g. made_is recs has t (made (instantiated t) (mapped_in instantiated t (listed (owner_of recs u.owner)) (listed_in t (owner_of recs u.owner) of)))))
+          (owner_passes recs k.made o.owner u.owner o.owned (λ t home of g. made_is recs has t (made (instantiated t) (mapped_in instantiated t (listed (owner_of recs u.owner)) (listed_in t (owner_of recs u.owner) of)) refl)))
 
     -- ---- a field with its owner
 
@@ -166,7 +166,7 @@ module _ (recs : List AsmRec) (entry : Option RowAt) (roots : List Root) (has : 
     pub record Told (f : Form) (o : Operand) : Type 0 where
       pub parts : (p : Part) → In p (operand_parts recs a rec place offset f o) → In p (parts_of_item recs i at) × In p (showing_parts recs i at)
       pub shows : (t : TypeId) → In t (shown_op recs a rec opcode f o) → IsTrue (has (shown t))
-      pub makes : (x : Fact) → In x (makes_by recs a rec f o) → IsTrue (has x)
+      pub makes : (x : Fact) → In x (makes_by recs a rec f o) → is_added recs x ≡ false → IsTrue (has x)
 
     abbrev Kept : Form → Use → Type 0
     Kept f u = IsTrue (keeps_operand k (queries_of recs) u && keeps_of_form k opcode f u)
@@ -189,7 +189,7 @@ module _ (recs : List AsmRec) (entry : Option RowAt) (roots : List Root) (has : 
     method_kept token (Good u) e q = called i at whole (method_token_part recs a rec place offset token) q.0 q.1 u (ap (known_map method) e) (method_in_owner recs methods a rec token u there e)
 
     method_made : (token : ℕ) (t : Known MethodUse) → method_named recs a rec token ≡ t → InParts (method_token_part recs a rec place offset token)
-        → ((x : TypeId) → In x (made_types t) → IsTrue (has (shown x))) → ((x : Fact) → In x (of_known (makes_type recs) t) → IsTrue (has x)) → IsTrue (if_good (λ u. shows_expr k u.owner && news_expr k u.owner) t)
+        → ((x : TypeId) → In x (made_types t) → IsTrue (has (shown x))) → ((x : Fact) → In x (of_known (makes_type recs) t) → is_added recs x ≡ false → IsTrue (has x)) → IsTrue (if_good (λ u. shows_expr k u.owner && news_expr k u.owner) t)
     method_made token (Bad why) e q d made = refl
     method_made token (Good u) e q d made =
         made_owner i at whole (method_token_part recs a rec place offset token) q.0 q.1 u (ap (known_map method) e) (method_in_owner recs methods a rec token u there e) d made

@@ -1,5 +1,5 @@
 -- What the rules give of facts that are marked is marked.
-use Rattle.std.proofs.Common.{◌≡◌, Bool, true, false, List, [], ◌∷◌, ◌++◌, map, Option, Some, inl, inr, sym, ap, subst}
+use Rattle.std.proofs.Common.{◌≡◌, Bool, true, false, List, [], ◌∷◌, ◌++◌, map, Option, Some, inl, inr, refl, sym, ap, subst}
 use Rattle.std.specs.Prelude.{IsTrue}
 use Rattle.std.specs.List.{flat_map}
 use Rattle.std.proofs.lemmas.Bool.{or_left}
@@ -24,7 +24,7 @@ use Rattle.mark_rules.specs.Naming.{Named, Part, of_known, of_named, of_parts}
 use Rattle.mark_rules.specs.Attributes.{attribute_needs}
 use Rattle.mark_rules.specs.Dependencies.{dependency_needs}
 use Rattle.mark_rules.specs.Roots.{waiting_facts}
-use Rattle.mark_rules.specs.Shown.{arguments_of_part, arguments_of_parts, showing_parts, shown_by_item, item_shows, shows}
+use Rattle.mark_rules.specs.Shown.{parts_of_item, arguments_of_part, arguments_of_parts, showing_parts, shown_by_item, item_shows, shows}
 use Rattle.mark_rules.specs.Marking.{row_needs, item_needs, one, of_rows, two, of_three, three, is_core_fact, given}
 use Rattle.mark_rules.specs.Types.{rows_for}
 use Rattle.mark_rules.specs.Calls.{class_runs, interface_runs}
@@ -52,14 +52,18 @@ module _ (recs : List AsmRec) (entry : Option RowAt) (roots : List Root) (has : 
   pub by_core : (i : Item) → is_core recs i ≡ true → is_added recs (marked i) ≡ false → IsTrue (has (marked i))
   by_core i h known = m.start (marked i) (given_core (marked i) h) known
 
-  pub by_one : (a f : Fact) → IsTrue (has a) → In f (one recs roots a) → IsTrue (has f)
-  by_one a f h i = m.by_one a f h (contains (one recs roots a) f i)
+  pub by_one : (a f : Fact) → IsTrue (has a) → In f (one recs roots a) → is_added recs f ≡ false → IsTrue (has f)
+  by_one a f h i known = m.by_one a f h (contains (one recs roots a) f i) known
 
-  pub by_two : (a b f : Fact) → IsTrue (has a) → IsTrue (has b) → In f (two recs a b) → IsTrue (has f)
-  by_two a b f h g i = m.by_two a b f h g (contains (two recs a b) f i)
+  pub by_two : (a b f : Fact) → IsTrue (has a) → IsTrue (has b) → In f (two recs a b) → is_added recs f ≡ false → IsTrue (has f)
+  by_two a b f h g i known = m.by_two a b f h g (contains (two recs a b) f i) known
 
-  pub by_three : (a b c f : Fact) → IsTrue (has a) → IsTrue (has b) → IsTrue (has c) → In f (three recs a b c) → IsTrue (has f)
-  by_three a b c f h g u i = m.by_three a b c f h g u (contains (three recs a b c) f i)
+  pub by_three : (a b c f : Fact) → IsTrue (has a) → IsTrue (has b) → IsTrue (has c) → In f (three recs a b c) → is_added recs f ≡ false → IsTrue (has f)
+  by_three a b c f h g u i known = m.by_three a b c f h g u (contains (three recs a b c) f i) known
+
+  -- what a good part of a marked item names
+  pub part_gives : (i : Item) (at : RowAt) (f : Fact) → IsTrue (has (marked i)) → row_of recs i ≡ Some at → In f (of_parts (parts_of_item recs i at)) → IsTrue (has f)
+  part_gives i at f h is g = m.by_part i at f h is (contains (of_parts (parts_of_item recs i at)) f g)
 
   -- ---- what a marked item needs by its row
 
@@ -77,8 +81,8 @@ module _ (recs : List AsmRec) (entry : Option RowAt) (roots : List Root) (has : 
   unfolding one
   in_one i f h = h
 
-  pub row_gives : (i : Item) (at : RowAt) (f : Fact) → IsTrue (has (marked i)) → row_of recs i ≡ Some at → In f (row_needs recs i at) → IsTrue (has f)
-  row_gives i at f h is g = by_one (marked i) f h (in_one i f (in_item i at f is g))
+  pub row_gives : (i : Item) (at : RowAt) (f : Fact) → IsTrue (has (marked i)) → row_of recs i ≡ Some at → In f (row_needs recs i at) → is_added recs f ≡ false → IsTrue (has f)
+  row_gives i at f h is g known = by_one (marked i) f h (in_one i f (in_item i at f is g)) known
 
   -- ---- what it shows
 
@@ -90,7 +94,7 @@ module _ (recs : List AsmRec) (entry : Option RowAt) (roots : List Root) (has : 
   in_others i f h = in_behind f (rows i ++ attribute_needs recs i ++ dependency_needs recs i ++ waiting_facts recs roots i) (item_shows recs i) h
 
   pub item_gives_shown : (i : Item) (at : RowAt) (t : TypeId) → IsTrue (has (marked i)) → row_of recs i ≡ Some at → In t (arguments_of_parts (showing_parts recs i at) ++ shown_by_item recs i at) → IsTrue (has (shown t))
-  item_gives_shown i at t h is g = by_one (marked i) (shown t) h (in_one i (shown t) (in_others i (shown t) (in_shows i at t is g)))
+  item_gives_shown i at t h is g = by_one (marked i) (shown t) h (in_one i (shown t) (in_others i (shown t) (in_shows i at t is g))) refl
 
   -- ---- what a slot runs
 
@@ -106,16 +110,16 @@ module _ (recs : List AsmRec) (entry : Option RowAt) (roots : List Root) (has : 
   unfolding two
   in_rows_two t j x y f ex ey i = in_of_rows (rows_for recs) x y (type_home recs t) (type_home recs j) f ex ey i
 
-  pub rows_give : (t j : TypeId) (x y : RowAt) (f : Fact) → IsTrue (has (marked (item.Typ t))) → IsTrue (has (marked (item.Typ j))) → type_home recs t ≡ Some x → type_home recs j ≡ Some y → In f (rows_for recs x y) → IsTrue (has f)
-  rows_give t j x y f h g ex ey i = by_two (marked (item.Typ t)) (marked (item.Typ j)) f h g (in_rows_two t j x y f ex ey i)
+  pub rows_give : (t j : TypeId) (x y : RowAt) (f : Fact) → IsTrue (has (marked (item.Typ t))) → IsTrue (has (marked (item.Typ j))) → type_home recs t ≡ Some x → type_home recs j ≡ Some y → In f (rows_for recs x y) → is_added recs f ≡ false → IsTrue (has f)
+  rows_give t j x y f h g ex ey i known = by_two (marked (item.Typ t)) (marked (item.Typ j)) f h g (in_rows_two t j x y f ex ey i) known
 
   in_class_two : (t : TypeId) (b : MethodId) (x y : RowAt) (f : Fact) → type_home recs t ≡ Some x → row_of recs (item.Method b) ≡ Some y → In f (class_runs recs x y) → In f (two recs (instantiated t) (marked (item.Method b)))
   unfolding two
   in_class_two t b x y f ex ey i = in_of_rows (class_runs recs) x y (type_home recs t) (row_of recs (item.Method b)) f ex ey i
 
   -- for an instantiated type and a marked slot
-  pub class_gives : (t : TypeId) (b : MethodId) (x y : RowAt) (f : Fact) → IsTrue (has (instantiated t)) → IsTrue (has (marked (item.Method b))) → type_home recs t ≡ Some x → row_of recs (item.Method b) ≡ Some y → In f (class_runs recs x y) → IsTrue (has f)
-  class_gives t b x y f h g ex ey i = by_two (instantiated t) (marked (item.Method b)) f h g (in_class_two t b x y f ex ey i)
+  pub class_gives : (t : TypeId) (b : MethodId) (x y : RowAt) (f : Fact) → IsTrue (has (instantiated t)) → IsTrue (has (marked (item.Method b))) → type_home recs t ≡ Some x → row_of recs (item.Method b) ≡ Some y → In f (class_runs recs x y) → is_added recs f ≡ false → IsTrue (has f)
+  class_gives t b x y f h g ex ey i known = by_two (instantiated t) (marked (item.Method b)) f h g (in_class_two t b x y f ex ey i) known
 
   in_interface_three : (t : TypeId) (b : MethodId) (i : ImplId) (x y z : RowAt) (f : Fact) → type_home recs t ≡ Some x → row_of recs (item.Method b) ≡ Some y → row_of recs (item.Impl i) ≡ Some z → In f (interface_runs recs x y z)
       → In f (three recs (instantiated t) (marked (item.Method b)) (marked (item.Impl i)))
@@ -124,6 +128,6 @@ module _ (recs : List AsmRec) (entry : Option RowAt) (roots : List Root) (has : 
 
   -- and a marked interface row
   pub interface_gives : (t : TypeId) (b : MethodId) (i : ImplId) (x y z : RowAt) (f : Fact) → IsTrue (has (instantiated t)) → IsTrue (has (marked (item.Method b))) → IsTrue (has (marked (item.Impl i)))
-      → type_home recs t ≡ Some x → row_of recs (item.Method b) ≡ Some y → row_of recs (item.Impl i) ≡ Some z → In f (interface_runs recs x y z) → IsTrue (has f)
-  interface_gives t b i x y z f h g u ex ey ez v =
-      by_three (instantiated t) (marked (item.Method b)) (marked (item.Impl i)) f h g u (in_interface_three t b i x y z f ex ey ez v)
+      → type_home recs t ≡ Some x → row_of recs (item.Method b) ≡ Some y → row_of recs (item.Impl i) ≡ Some z → In f (interface_runs recs x y z) → is_added recs f ≡ false → IsTrue (has f)
+  interface_gives t b i x y z f h g u ex ey ez v known =
+      by_three (instantiated t) (marked (item.Method b)) (marked (item.Impl i)) f h g u (in_interface_three t b i x y z f ex ey ez v) known

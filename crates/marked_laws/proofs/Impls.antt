@@ -94,7 +94,7 @@ module _ (recs : List AsmRec) (entry : Option RowAt) (roots : List Root) (has : 
       let f : Fact = marked (item.Method i.declaration.method) in
       method_is recs has i.declaration.method
       (row_gives recs entry roots has m (item.Method i.body.method) there.at f (method_has recs has i.body.method h) (row_of_home i.body.method there.at there.home)
-      (overrides_in recs entry roots has m there.at f (in_overrides a rec row there.at f s within (in_declared a rec row i there.at f names there.home (declared_use i.declaration)))))
+      (overrides_in recs entry roots has m there.at f (in_overrides a rec row there.at f s within (in_declared a rec row i there.at f names there.home (declared_use i.declaration)))) refl)
 
   in_rec : (at : RowAt) (rec : AsmRec) (i : Impl) → slice_get recs at.asm ≡ Some rec → In i (impls_in recs at rec) → IsTrue (keeps_impl k i) → IsTrue (k.method i.declaration.method.0)
   in_rec at rec i s within h =

@@ -140,7 +140,7 @@ module _ (inputs : List AsmRec) (sound : link_fault_of inputs ≡ None) where
         let other = place_has there.rec.type_def y.row there.below in
         rows_give recs entry roots has m (type_id recs at.asm at.row) (type_id recs y.asm y.row) at y (marked (impl_item recs (at_row at.asm n))) (typ_has recs has (type_id recs at.asm at.row) h) (typ_has recs has (type_id recs y.asm y.row) kept)
         (type_home_of recs at rec s t r) (type_home_of recs y there.rec there.there other.0 other.1)
-        (in_rows_for at y rec n row s g (row_gives_item at y rec n row e names (one_implied e home y names.interface is p.within)))
+        (in_rows_for at y rec n row s g (row_gives_item at y rec n row e names (one_implied e home y names.interface is p.within))) refl
 
     gone_by : (at home y : RowAt) (rec : AsmRec) (t : TypeDefRow) (n steps : ℕ) (row : InterfaceImplRow) (e : TypeExpr) (b : Bool) → IsTrue (keeps_type_row k recs at) → slice_get recs at.asm ≡ Some rec → slice_get rec.type_def at.row ≡ Some t
         → slice_get rec.interface_impl n ≡ Some row → kept_of recs has (at_row at.asm n) ≡ false → In e (interface_of recs at.asm rec (token_of TYPE_DEF (suc at.row)) row) → home_of recs e ≡ Some home

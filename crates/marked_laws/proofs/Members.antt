@@ -135,14 +135,14 @@ module _ (recs : List AsmRec) (entry : Option RowAt) (roots : List Root) (has : 
   unfolding layout_needs
   in_layout at f h i = subst (λ (b : Bool). In f (if b then instantiated (type_id recs at.asm at.row) ∷ map (marks_field recs) (laid_fields recs at) else [])) (sym h) i
 
-  layout_gives : (at : RowAt) (f : Fact) → IsTrue (keeps_type_row k recs at) → is_value_type recs at ≡ true → In f (instantiated (type_id recs at.asm at.row) ∷ map (marks_field recs) (laid_fields recs at)) → IsTrue (has f)
-  layout_gives at f h v i =
+  layout_gives : (at : RowAt) (f : Fact) → IsTrue (keeps_type_row k recs at) → is_value_type recs at ≡ true → In f (instantiated (type_id recs at.asm at.row) ∷ map (marks_field recs) (laid_fields recs at)) → is_added recs f ≡ false → IsTrue (has f)
+  layout_gives at f h v i known =
       let t = value_there at v in
       row_gives recs entry roots has m (type_item recs at) at f (typ_has recs has (type_id recs at.asm at.row) h) (type_row_of recs at t.rec t.there t.row t.has_row)
-      (in_behind f (type_needs recs at) (layout_needs recs at) (in_layout at f v i))
+      (in_behind f (type_needs recs at) (layout_needs recs at) (in_layout at f v i)) known
 
   pub value_made : (at : RowAt) → IsTrue (keeps_type_row k recs at) → is_value_type recs at ≡ true → IsTrue (k.made (type_number recs at))
-  value_made at h v = made_is recs has (type_id recs at.asm at.row) (layout_gives at (instantiated (type_id recs at.asm at.row)) h v (inl refl))
+  value_made at h v = made_is recs has (type_id recs at.asm at.row) (layout_gives at (instantiated (type_id recs at.asm at.row)) h v (inl refl) refl)
 
   laid_by : (at f : RowAt) (b : Bool) → In f (fields_of_type recs at) → is_instance_field recs f ≡ true → In f (if b then fields_of_type recs at else filter (is_instance_field recs) (fields_of_type recs at))
   laid_by at f true i h = i
@@ -150,7 +150,7 @@ module _ (recs : List AsmRec) (entry : Option RowAt) (roots : List Root) (has : 
 
   one_laid : (at f : RowAt) (b : Bool) → IsTrue (keeps_type_row k recs at) → is_value_type recs at ≡ true → In f (fields_of_type recs at) → is_instance_field recs f ≡ b → IsTrue (not b || keeps_field_row k recs f)
   one_laid at f false h v i e = refl
-  one_laid at f true h v i e = field_is recs has _ (layout_gives at (marks_field recs f) h v (inr (mapped_in (marks_field recs) f (laid_fields recs at) (laid_by at f (is_enum recs at) i e))))
+  one_laid at f true h v i e = field_is recs has _ (layout_gives at (marks_field recs f) h v (inr (mapped_in (marks_field recs) f (laid_fields recs at) (laid_by at f (is_enum recs at) i e))) refl)
 
   pub laid_kept : (at : RowAt) → IsTrue (keeps_type_row k recs at) → is_value_type recs at ≡ true → IsTrue (list_all (λ f. not (is_instance_field recs f) || keeps_field_row k recs f) (fields_of_type recs at))
   laid_kept at h v = all_of (λ f. not (is_instance_field recs f) || keeps_field_row k recs f) (fields_of_type recs at) (λ f i. one_laid at f (is_instance_field recs f) h v i refl)
@@ -219,7 +219,7 @@ module _ (recs : List AsmRec) (entry : Option RowAt) (roots : List Root) (has : 
       let x : RowAt = at_row at.asm n in
       let marks = first_so (has (marks_method recs x)) (is_of_type at (type_of_method recs x)) h in
       let owner = of_type_by at (type_of_method recs x) (second_so (has (marks_method recs x)) (is_of_type at (type_of_method recs x)) h) in
-      method_gives recs entry roots has m x (marks_method recs i) (method_is recs has _ marks) (method_row_below recs x rec s lt) (starts_in recs entry roots has m x (marks_method recs i) (in_starts x at i owner e))
+      method_gives recs entry roots has m x (marks_method recs i) (method_is recs has _ marks) (method_row_below recs x rec s lt) (starts_in recs entry roots has m x (marks_method recs i) (in_starts x at i owner e)) refl
 
   in_field_starts : (x at i : RowAt) (rec : AsmRec) → slice_get recs x.asm ≡ Some rec → list_any is_static_field (listed (field_row_at recs x)) ≡ true → option_map (at_row x.asm) (owner_of_field rec x.row) ≡ Some at → initializer recs at ≡ Some i
       → In (marks_method recs i) (field_starts recs x)
@@ -244,7 +244,7 @@ module _ (recs : List AsmRec) (entry : Option RowAt) (roots : List Root) (has : 
       let f = field_there x (field_row_at recs x) refl static in
       let row : slice_get rec.field n ≡ Some f.0 = sym (ap (option_and_then (λ (r : AsmRec). slice_get r.field n)) s) ∙ f.1 in
       row_gives recs entry roots has m (field_item recs x) x (marks_method recs i) marks (field_row_of recs x rec s f.0 row)
-      (in_behind (marks_method recs i) (field_needs recs x) (field_starts recs x) (in_field_starts x at i rec s static owner e))
+      (in_behind (marks_method recs i) (field_needs recs x) (field_starts recs x) (in_field_starts x at i rec s static owner e)) refl
 
   begun_in_by : (at i : RowAt) (rec : AsmRec) → slice_get recs at.asm ≡ Some rec → initializer recs at ≡ Some i
       → (list_any (begun_by_method recs has at) (range_with_len 0 (length rec.method_def)) ≡ true) ⊎ (list_any (begun_by_field recs has at rec) (range_with_len 0 (length rec.field)) ≡ true) → IsTrue (has (marks_method recs i))

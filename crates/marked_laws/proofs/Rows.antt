@@ -33,7 +33,7 @@ use Rattle.change_rules.specs.Change.{Keep}
 use Rattle.change_rules.specs.Keeps.{keeps_expr}
 use Rattle.world_change_rules.specs.Places.{keeps_type_row, keeps_method_row}
 use Rattle.world_change_rules.specs.Rows.{kept_interface_of, kept_interfaces_in, kept_interfaces_at}
-use Rattle.marked_laws.specs.Flags.{HasMarks, keep_of, kept_of}
+use Rattle.marked_laws.specs.Flags.{is_added, HasMarks, keep_of, kept_of}
 use Rattle.marked_laws.proofs.Closing.{mapped_in, row_gives}
 use Rattle.marked_laws.proofs.Flags.{typ_has, typ_is, method_has, method_is}
 use Rattle.marked_laws.proofs.Places.{type_row_of, method_row_of, impl_row_of}
@@ -191,8 +191,8 @@ module _ (recs : List AsmRec) (entry : Option RowAt) (roots : List Root) (has : 
   abbrev own_needs : RowAt → List Fact
   own_needs at = method_needs recs at ++ makes recs at ++ overrides_of recs at ++ method_starts recs at ++ accessed recs at
 
-  pub method_gives : (at : RowAt) (f : Fact) → IsTrue (keeps_method_row k recs at) → row_of recs (method_item recs at) ≡ Some at → In f (own_needs at) → IsTrue (has f)
-  method_gives at f h is i = row_gives recs entry roots has m (method_item recs at) at f (method_has recs has _ h) is i
+  pub method_gives : (at : RowAt) (f : Fact) → IsTrue (keeps_method_row k recs at) → row_of recs (method_item recs at) ≡ Some at → In f (own_needs at) → is_added recs f ≡ false → IsTrue (has f)
+  method_gives at f h is i known = row_gives recs entry roots has m (method_item recs at) at f (method_has recs has _ h) is i known
 
   pub needs_in : (at : RowAt) (f : Fact) → In f (method_needs recs at) → In f (own_needs at)
   needs_in at f h =
@@ -211,12 +211,8 @@ module _ (recs : List AsmRec) (entry : Option RowAt) (roots : List Root) (has : 
       (in_behind f (method_needs recs at ++ makes recs at ++ overrides_of recs at) (method_starts recs at) h)
 
   -- its type
-  in_owner : (at owner : RowAt) → type_of_method recs at ≡ Some owner → In (marks_type recs owner) (method_needs recs at)
-  unfolding method_needs
-  in_owner at owner is = in_front (marks_type recs owner) (owner_facts recs at) _ (mapped_in (marks_type recs) owner (listed (type_of_method recs at)) (listed_in owner (type_of_method recs at) is))
-
   pub owner_kept : (at owner : RowAt) → IsTrue (keeps_method_row k recs at) → row_of recs (method_item recs at) ≡ Some at → type_of_method recs at ≡ Some owner → IsTrue (keeps_type_row k recs owner)
-  owner_kept at owner h is e = typ_is recs has (type_id recs owner.asm owner.row) (method_gives at (marks_type recs owner) h is (needs_in at (marks_type recs owner) (in_owner at owner e)))
+  owner_kept at owner h is e = typ_is recs has (type_id recs owner.asm owner.row) (m.by_owner at owner (method_has recs has _ h) is e)
 
   -- what it overrides
   in_overridden : (at b : RowAt) (d : MethodDefRow) → method_row_at recs at ≡ Some d → is_virtual d ≡ true → is_new_slot d ≡ false → inherited recs at d ≡ Some b → In (marks_method recs b) (overrides_of recs at)
@@ -236,4 +232,4 @@ module _ (recs : List AsmRec) (entry : Option RowAt) (roots : List Root) (has : 
 
   pub overridden_kept : (at b : RowAt) (d : MethodDefRow) → IsTrue (keeps_method_row k recs at) → method_row_at recs at ≡ Some d → is_virtual d ≡ true → is_new_slot d ≡ false → inherited recs at d ≡ Some b → IsTrue (keeps_method_row k recs b)
   overridden_kept at b d h r v n e =
-      method_is recs has _ (method_gives at (marks_method recs b) h (method_there at d r) (overrides_in at (marks_method recs b) (in_overridden at b d r v n e)))
+      method_is recs has _ (method_gives at (marks_method recs b) h (method_there at d r) (overrides_in at (marks_method recs b) (in_overridden at b d r v n e)) refl)

@@ -5,6 +5,7 @@ use Rattle.std.specs.Option.{is_some, option_map}
 use Rattle.il_base.specs.declared.ids.TypeId.{TypeId}
 use Rattle.il_base.specs.declared.ids.MethodId.{MethodId}
 use Rattle.il_base.specs.declared.ids.FieldId.{FieldId}
+use Rattle.il_base.specs.declared.ids.Item.{Item}
 use Rattle.il_base.specs.declared.ids.Item.TheVariants as item
 use Rattle.world_model.specs.declared.types.TypeDefRow.{TypeDefRow}
 use Rattle.world_model.specs.declared.record.AsmRec.{AsmRec}
@@ -18,7 +19,9 @@ use Rattle.type_rules.specs.Rows.{rec_at, field_row_at, owner_of_field}
 use Rattle.descriptor_file.specs.declared.root.Root.{Root}
 use Rattle.mark_rules.specs.Facts.{Fact}
 use Rattle.mark_rules.specs.Facts.Fact.{marked, instantiated, shown}
-use Rattle.mark_rules.specs.Places.{is_core, marks_method, marks_field, impl_item}
+use Rattle.mark_rules.specs.Places.{row_of, is_core, method_item, marks_type, marks_method, marks_field, impl_item}
+use Rattle.mark_rules.specs.Naming.{of_parts}
+use Rattle.mark_rules.specs.Shown.{parts_of_item}
 use Rattle.mark_rules.specs.Marking.{given, one, two, three}
 use Rattle.change_rules.specs.Change.{Keep}
 
@@ -31,12 +34,16 @@ abbrev pub is_added : List AsmRec → Fact → Bool
 is_added recs (marked (item.Typ t)) = list_any (is_added_row recs) (listed (type_home recs t))
 is_added recs _ = false
 
--- a flag for each fact, set for those that are given, but for such types, and for what the rules bring of facts whose flags are set
+-- A flag for each fact, set for those that are given and for what the rules bring of facts whose flags are set. Such a type has its
+-- flag where a part of an item with a flag names it: one that only a MethodImpl row of another class names isn't written.
 pub record HasMarks (recs : List AsmRec) (entry : Option RowAt) (roots : List Root) (has : Fact → Bool) : Type 0 where
   pub start : (f : Fact) → IsTrue (given recs entry roots f) → is_added recs f ≡ false → IsTrue (has f)
-  pub by_one : (a f : Fact) → IsTrue (has a) → Contains (one recs roots a) f → IsTrue (has f)
-  pub by_two : (a b f : Fact) → IsTrue (has a) → IsTrue (has b) → Contains (two recs a b) f → IsTrue (has f)
-  pub by_three : (a b c f : Fact) → IsTrue (has a) → IsTrue (has b) → IsTrue (has c) → Contains (three recs a b c) f → IsTrue (has f)
+  pub by_one : (a f : Fact) → IsTrue (has a) → Contains (one recs roots a) f → is_added recs f ≡ false → IsTrue (has f)
+  pub by_two : (a b f : Fact) → IsTrue (has a) → IsTrue (has b) → Contains (two recs a b) f → is_added recs f ≡ false → IsTrue (has f)
+  pub by_three : (a b c f : Fact) → IsTrue (has a) → IsTrue (has b) → IsTrue (has c) → Contains (three recs a b c) f → is_added recs f ≡ false → IsTrue (has f)
+  pub by_part : (i : Item) (at : RowAt) (f : Fact) → IsTrue (has (marked i)) → row_of recs i ≡ Some at → Contains (of_parts (parts_of_item recs i at)) f → IsTrue (has f)
+  -- a method's type
+  pub by_owner : (at owner : RowAt) → IsTrue (has (marks_method recs at)) → row_of recs (method_item recs at) ≡ Some at → type_of_method recs at ≡ Some owner → IsTrue (has (marks_type recs owner))
 
 abbrev pub type_numbered : ℕ → TypeId
 type_numbered n = record { 0 = n }

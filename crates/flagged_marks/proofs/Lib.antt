@@ -1,0 +1,4 @@
+pub mod Homes
+pub mod Needed
+pub mod Owners
+pub mod Follow

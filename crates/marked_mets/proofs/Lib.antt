@@ -1,0 +1,15 @@
+pub mod Stays
+pub mod Tokens
+pub mod Signatures
+pub mod Owners
+pub mod Parts
+pub mod Fields
+pub mod Uses
+pub mod Bodies
+pub mod Types
+pub mod Impls
+pub mod Joined
+pub mod CoreOnly
+pub mod Copied
+pub mod Attributes
+pub mod Merges

@@ -1,0 +1,4 @@
+pub mod Keyed
+pub mod Parents
+pub mod Stand
+pub mod Whole

@@ -1,0 +1,12 @@
+pub mod Homes
+pub mod Rows
+pub mod Graphs
+pub mod Values
+pub mod Members
+pub mod MemberKinds
+pub mod FieldValues
+pub mod Fresh
+pub mod Renamed
+pub mod TypeKeys
+pub mod Enclosers
+pub mod Whole

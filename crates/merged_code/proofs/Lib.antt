@@ -1,0 +1,15 @@
+pub mod Lists
+pub mod Tokens
+pub mod Bytes
+pub mod Operands
+pub mod Locals
+pub mod Kept
+pub mod Flaws
+pub mod Mets
+pub mod Places
+pub mod Texts
+pub mod Bodies
+pub mod Flags
+pub mod Modules
+pub mod Methods
+pub mod Whole

@@ -1,0 +1,16 @@
+ghost use Rattle.merged_scopes.specs.Laws.{MarkedReferencesStand, MetTypesThere};
+
+use merged_standing::laws::{members_stand, types_stand};
+
+/// A law: what kept types meet names types of the world. It does nothing.
+pub fn met_types_there()
+    ensures { MetTypesThere }
+{}
+
+/// A law: all that the output of a merge refers to stands in what is left, with its scopes. It does nothing.
+pub fn references_stand()
+    ensures { MarkedReferencesStand }
+{
+    members_stand();
+    types_stand();
+}

@@ -1,0 +1,4 @@
+//! Laws: what the output of a merge refers to stands in what is left. Nothing goes in or comes out.
+#![tactic(auto)]
+
+pub mod laws;

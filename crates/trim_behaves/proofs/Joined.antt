@@ -1,0 +1,241 @@
+-- The laws on a merge that keeps exactly what is marked, joined: what is left of files loads, links and runs as they do.
+use Rattle.std.proofs.Common.{◌≡◌, ◌<◌, ◌≤◌, ℕ, zero, suc, Bool, List, [], ◌∷◌, ◌++◌, length, Option, Some, None, inl, inr, sym, subst, arith}
+use Rattle.std.specs.Prelude.{IsTrue, slice_get}
+use Rattle.std.specs.List.{Contains}
+use Rattle.std.specs.Option.{option_map}
+use Rattle.type_laws.proofs.Within.{In}
+use Rattle.merge_rules.specs.Keys.{world_sig}
+use Rattle.merge_rules.specs.Refs.{types_of_sig}
+use Rattle.descriptor_file.specs.declared.root.Root.{Root}
+use Rattle.world_model.specs.declared.record.AsmRec.{AsmRec}
+use Rattle.world_model.specs.Records.{IsRecord}
+use Rattle.record_format.specs.Record.{HasRecord}
+use Rattle.link_rules.specs.declared.row_at.RowAt.{RowAt}
+use Rattle.link_rules.specs.Types.{at_row}
+use Rattle.link_rules.specs.Linked.{assemblies, link_fault_of}
+use Rattle.view_rules.specs.Methods as view
+use Rattle.mark_rules.specs.Facts.{Fact}
+use Rattle.mark_rules.specs.Marking.{Marks}
+use Rattle.mark_rules.specs.BadItems.{IsFirstFlaw}
+use Rattle.record_layout.specs.Laid.{laid}
+use Rattle.change_rules.specs.Change.{Keep, Undone}
+use Rattle.change_rules.specs.Answers.{move_method, move_field}
+use Rattle.world_change_rules.specs.Places.{keeps_method_row, keeps_field_row}
+use Rattle.marked_laws.specs.Flags.{HasMarks}
+use Rattle.closed_laws.specs.Laws.{OnlyMarks}
+use Rattle.merged_record.specs.Laws.{InputsAreRecords, ReferencesStand, NamesAll}
+use Rattle.merged_owners.specs.Laws.{AreMarked, AreKept}
+use Rattle.merged_world_rules.specs.Merge.{Merge, IsMerge, before, after, output}
+use Rattle.merged_world_rules.specs.NewNumbers.{rho_of, back_of, places_of}
+use Rattle.merged_world_rules.specs.Kept.{HasFlags}
+use Rattle.merged_loads.proofs.Whole.{an_input}
+use Rattle.merged_places.specs.Laws.{LeadBack}
+use Rattle.merged_rows_move.specs.Premises.{ReadsTokens, ReadsSignatures, HasGoodBases, HasGoodInterfaces}
+use Rattle.merged_references.specs.Written.{HasReferenceRows}
+use Rattle.merged_standing.specs.Laws.{ReferenceRowsStand}
+use Rattle.marked_loads.specs.Laws.{IsTrim, TrimLoads, EntryTypeIsLeft}
+use Rattle.marked_merge_rules.specs.Merges.{IsMarkedMerge, AreFacts, flags_of}
+use Rattle.marked_merge_rules.specs.Reads.{KeepsAllMet, CoreStays, AllThere, KeepsMembers, ReadsCallees, ReadsFieldTokens}
+use Rattle.marked_mets.specs.Laws.{MetsAreKept, MembersAreKept}
+use Rattle.merged_scopes.specs.Laws.{MarkedReferencesStand}
+use Rattle.member_parents.specs.Laws.{AllNamed}
+use Rattle.added_names.specs.Laws.{NamesStay, MetThere, TokensRead, SignaturesRead}
+use Rattle.added_names.proofs.Homes.{sig_there}
+use Rattle.merged_back.specs.Premises.{ReadsFieldSignatures}
+use Rattle.merged_back.specs.Laws.{MarkedLinks, FieldSignaturesRead}
+use Rattle.merged_uses.specs.Laws as uses
+use Rattle.merged_uses.specs.Laws.{CalleesRead, FieldTokensRead, ImplsRead}
+use Rattle.merged_code.specs.Laws.{HaveHomes, MovesMethods}
+use Rattle.merged_fields.specs.Laws.{MovesFields}
+use Rattle.flagged_marks.specs.Laws.{FlagsFollow}
+use Rattle.trim_moves.specs.Laws.{keep_by, kept_by, IsFlagged, FlagsSay, BasesAreGood, InterfacesAreGood, LeftIsRecord}
+use Rattle.trim_runs.specs.Laws.{OutputStands, OutputReads}
+use Rattle.trim_runs.specs.Entry.{EntryMoves, ProgramsRun}
+use Rattle.trim_behaves.specs.Behaves.{IsTrimmed, Behaves, TrimsBehave}
+
+-- ---- inputs are the first assemblies of their world
+
+in_front : (xs ys : List AsmRec) (a : ℕ) (rec : AsmRec) → slice_get xs a ≡ Some rec → slice_get (xs ++ ys) a ≡ Some rec
+in_front [] ys a rec e = absurd (cc)
+in_front (x ∷ xs) ys zero rec e = e
+in_front (x ∷ xs) ys (suc a) rec e = in_front xs ys a rec e
+
+below_end : (xs : List AsmRec) (y : AsmRec) (a : ℕ) (rec : AsmRec) → slice_get xs a ≡ Some rec → suc a < length (xs ++ y ∷ [])
+below_end [] y a rec e = absurd (cc)
+below_end (x ∷ []) y zero rec e = omega arith
+below_end (x ∷ []) y (suc a) rec e = absurd (cc)
+below_end (x ∷ z ∷ xs) y zero rec e = omega arith
+below_end (x ∷ z ∷ xs) y (suc a) rec e = let h = below_end (z ∷ xs) y a rec e in omega (arith, h)
+
+input_there : (inputs : List AsmRec) (a : ℕ) (rec : AsmRec) → slice_get inputs a ≡ Some rec → slice_get (assemblies inputs) a ≡ Some rec
+unfolding assemblies
+input_there inputs a rec e = in_front inputs _ a rec e
+
+input_below : (inputs : List AsmRec) (a : ℕ) (rec : AsmRec) → slice_get inputs a ≡ Some rec → suc a < length (assemblies inputs)
+unfolding assemblies
+input_below inputs a rec e = below_end inputs _ a rec e
+
+contained : {A : Type 0} (xs : List A) (x : A) → Contains xs x → In x xs
+contained [] x c = absurd (let lt = c.1 in omega arith)
+contained (y ∷ xs) x (zero, lt, is) = inl (sym is)
+contained (y ∷ xs) x (suc n, lt, is) = inr (contained xs x (n, omega arith, is))
+
+-- ---- the laws
+
+pub record Laws : Type 1 where
+  -- what is met
+  pub mets : MetsAreKept
+  pub members : MembersAreKept
+  pub core : NamesStay
+  pub there : MetThere
+  -- what is left refers to rows, and links
+  pub rows : ReferenceRowsStand
+  pub references : MarkedReferencesStand
+  pub names : AllNamed
+  pub links : MarkedLinks
+  pub record_left : LeftIsRecord
+  -- what tokens and signatures name
+  pub tokens : TokensRead
+  pub signatures : SignaturesRead
+  pub field_signatures : FieldSignaturesRead
+  pub callees : CalleesRead
+  pub field_tokens : FieldTokensRead
+  pub impls : ImplsRead
+  -- flags
+  pub parts : PartsStayAll
+  pub plain : CoreIsPlainAll
+  pub follow : FlagsFollow
+  pub flags : FlagsSay
+  pub bases : BasesAreGood
+  pub interfaces : InterfacesAreGood
+  -- rows move
+  pub back : LeadBack
+  pub methods : MovesMethods
+  pub fields : MovesFields
+  -- runs and files
+  pub entry : EntryMoves
+  pub runs : ProgramsRun
+  pub entry_type : EntryTypeIsLeft
+  pub loads : TrimLoads
+
+module _ (l : Laws) (m : Merge) (entry : Option RowAt) (roots : List Root) (holds : Fact → Bool) (k : ℕ) (t : IsTrimmed m entry roots holds k) where
+  merge : IsMerge m
+  merge = t.merge.merge
+
+  mets : KeepsAllMet m
+  mets = l.mets m entry roots t.merge
+
+  members : KeepsMembers m
+  members = l.members m entry roots t.merge
+
+  core : CoreStays m
+  core = l.core m merge
+
+  there : AllThere m
+  there = l.there m merge mets
+
+  rows : HasReferenceRows m
+  rows = l.rows m merge
+
+  tokens : ReadsTokens m
+  tokens = l.tokens m merge there
+
+  signatures : ReadsSignatures m
+  signatures = l.signatures m entry roots t.merge there
+
+  field_signatures : ReadsFieldSignatures m
+  field_signatures = l.field_signatures m entry roots t.merge there
+
+  homes : HaveHomes m
+  homes = λ a rec s e t there lt h c. sig_there (before m) a rec there s e t h (contained (types_of_sig (world_sig (before m) a rec s)) t c)
+
+  marks : HasMarks (before m) entry roots (flags_of m holds) × OnlyMarks (before m) entry roots (flags_of m holds)
+  marks = l.follow m entry roots holds t.merge t.facts (l.parts m entry roots t.merge core) (l.plain m entry roots t.merge)
+
+  flagged : IsFlagged m entry roots holds
+  flagged = record { merge = t.merge; facts = t.facts; marks = marks.0 }
+
+  flags : HasFlags m (keep_by m holds) (kept_by m holds)
+  flags = l.flags m entry roots holds flagged
+
+  bases : HasGoodBases m
+  bases = l.bases m entry roots t.merge
+
+  interfaces : HasGoodInterfaces m (keep_by m holds)
+  interfaces = l.interfaces m entry roots holds flagged
+
+  references : ReferencesStand (output m) m.left
+  references = l.references m entry roots t.merge
+
+  names : NamesAll m.left
+  names = l.names m entry roots t.merge mets references
+
+  left_record : IsRecord m.left
+  left_record = l.record_left m entry roots t.merge references names
+
+  links : link_fault_of (m.left ∷ []) ≡ None
+  links = l.links m entry roots (keep_by m holds) (kept_by m holds) t.merge flags (record { tokens = tokens; bases = bases; interfaces = interfaces; methods = signatures; fields = field_signatures })
+
+  reads : uses.Reads m (keep_by m holds) (kept_by m holds)
+  reads = record { merge = merge; flags = flags; rows = rows; there = there; members = members; methods = signatures; fields = field_signatures }
+
+  callees : ReadsCallees m
+  callees = l.callees m (keep_by m holds) (kept_by m holds) reads
+
+  field_tokens : ReadsFieldTokens m
+  field_tokens = l.field_tokens m (keep_by m holds) (kept_by m holds) reads
+
+  methods : (at : RowAt) → IsTrue (keeps_method_row (keep_by m holds) (before m) at) → view.method_at (after m) ((places_of m).method at) ≡ option_map (move_method (rho_of m)) (view.method_at (before m) at)
+  methods at h =
+      (l.methods m entry roots (keep_by m holds) (kept_by m holds) t.merge flags (record { tokens = tokens; callees = callees; fields = field_tokens; signatures = signatures; there = there; homes = homes }) (l.back m) at h).method
+
+  fields : (at : RowAt) → IsTrue (keeps_field_row (keep_by m holds) (before m) at) → view.field_at (after m) ((places_of m).field at) ≡ option_map (move_field (rho_of m)) (view.field_at (before m) at)
+  fields at h = l.fields m entry roots (keep_by m holds) (kept_by m holds) t.merge flags left_record field_signatures at h
+
+  stands : OutputStands m
+  stands = record { references = references; names = names; links = links }
+
+  output_reads : OutputReads m (keep_by m holds)
+  output_reads = record { tokens = tokens; impls = l.impls m (keep_by m holds) (kept_by m holds) reads; signatures = signatures; methods = methods; fields = fields }
+
+  -- ---- the file
+
+  abbrev Marked : Option RowAt → Type 0
+  Marked e = AreMarked (before m) e roots m.kept × AreKept (before m) e roots m.kept × IsFirstFlaw (before m) e (Marks (before m) e roots) None
+
+  inputs_are : InputsAreRecords (before m)
+  inputs_are a rec lt e = merge.records a rec (an_input m.inputs t.merge.files a rec lt e)
+
+  some_type : 1 ≤ length m.left.type_def
+  some_type =
+      let i = t.begins in
+      let known : Marked (Some (at_row 0 k)) = subst Marked i.is (t.merge.marked, t.merge.all, t.merge.good) in
+      l.entry_type m.internal (before m) (at_row 0 k) roots m.kept m.left i.first merge.restricts inputs_are known.0 known.1 known.2 (input_below m.inputs 0 i.first i.there) (input_there m.inputs 0 i.first i.there) i.below
+
+  is_trim : IsTrim m.internal m.inputs entry roots m.kept m.left
+  is_trim = record {
+    some_input = merge.some;
+    files = t.merge.files;
+    marked = t.merge.marked;
+    all = t.merge.all;
+    good = t.merge.good;
+    is = merge.restricts;
+    some_type = some_type;
+    can = t.can;
+    within = t.merge.within;
+  }
+
+  pub behaves : Behaves m k
+  behaves =
+      let e = l.entry m entry roots k t.merge t.begins in
+      record {
+        loads = l.loads m.internal m.inputs entry roots m.kept m.left is_trim references names;
+        links = links;
+        entry = (rho_of m).method k;
+        names = e.0;
+        below = e.1;
+        runs = l.runs m entry roots holds k flagged marks.1 t.apart stands output_reads t.begins;
+      }
+
+pub all_behave : Laws → TrimsBehave
+all_behave l = λ m entry roots holds k t. behaves l m entry roots holds k t

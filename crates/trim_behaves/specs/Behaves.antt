@@ -1,0 +1,41 @@
+-- What a trim of files writes loads, links and runs as they do.
+use Rattle.std.specs.Prelude.{◌≡◌, ◌<◌, ℕ, List, [], ◌∷◌, length, Option, Some, None, Bool}
+use Rattle.il_base.specs.declared.table.TheConstants.{METHOD_DEF}
+use Rattle.descriptor_file.specs.declared.root.Root.{Root}
+use Rattle.world_model.specs.Tokens.{index_in}
+use Rattle.record_format.specs.Record.{HasRecord}
+use Rattle.link_rules.specs.declared.row_at.RowAt.{RowAt}
+use Rattle.link_rules.specs.Linked.{link_fault_of}
+use Rattle.step_rules.specs.Run.{run_from}
+use Rattle.view_rules.specs.Answers.{queries_of}
+use Rattle.mark_rules.specs.Facts.{Fact}
+use Rattle.record_layout.specs.Laid.{laid}
+use Rattle.record_writer.specs.CanWrite.{CanWrite}
+use Rattle.lock_steps.specs.Laws.{move_outcome}
+use Rattle.merged_world_rules.specs.Merge.{Merge, before, after}
+use Rattle.merged_world_rules.specs.NewNumbers.{rho_of}
+use Rattle.marked_merge_rules.specs.Merges.{IsMarkedMerge, AreFacts}
+use Rattle.trim_moves.specs.Laws.{NamesApart}
+use Rattle.trim_runs.specs.Entry.{IsEntry, entry_number}
+
+-- Exactly what is marked from this entry method, by its row in the first input, is kept; no two types want one name that can be seen; each
+-- signature and body has a spelling.
+pub record IsTrimmed (m : Merge) (entry : Option RowAt) (roots : List Root) (holds : Fact → Bool) (k : ℕ) : Type 0 where
+  pub merge : IsMarkedMerge m entry roots
+  pub facts : AreFacts m entry roots holds
+  pub apart : NamesApart m entry roots
+  pub begins : IsEntry m entry k
+  pub can : CanWrite m.left
+
+pub record Behaves (m : Merge) (k : ℕ) : Type 0 where
+  pub loads : HasRecord (laid m.left) m.left
+  pub links : link_fault_of (m.left ∷ []) ≡ None
+  -- its entry point is a method of it
+  pub entry : ℕ
+  pub names : index_in METHOD_DEF m.left.entry ≡ Some entry
+  pub below : entry < length m.left.method_def
+  -- for any input and any number of steps, with new numbers
+  pub runs : (bytes : List ℕ) (n : ℕ) → run_from (queries_of (after m)) (entry_number m.left) bytes n ≡ move_outcome (rho_of m) (run_from (queries_of (before m)) k bytes n)
+
+abbrev pub TrimsBehave : Type 0
+TrimsBehave = (m : Merge) (entry : Option RowAt) (roots : List Root) (holds : Fact → Bool) (k : ℕ) → IsTrimmed m entry roots holds k → Behaves m k

@@ -1,0 +1,4 @@
+pub mod Flags
+pub mod Parts
+pub mod Enclosers
+pub mod Names

@@ -1,0 +1,82 @@
+-- The base of a kept type and the interface of a kept row have a reading, since nothing that is marked has a flaw.
+use Rattle.std.proofs.Common.{◌≡◌, ◌<◌, ℕ, suc, Bool, true, false, List, [], ◌∷◌, ◌++◌, length, Option, Some, None, inl, refl, sym, subst, ◌∙◌}
+use Rattle.std.specs.Prelude.{IsTrue, slice_get, ◌==◌, if◌then◌else◌}
+use Rattle.std.specs.List.{flat_map}
+use Rattle.il_base.specs.declared.table.TheConstants.{TYPE_DEF, INTERFACE_IMPL}
+use Rattle.descriptor_file.specs.declared.root.Root.{Root}
+use Rattle.world_model.specs.declared.known.Known.TheVariants.{Good}
+use Rattle.world_model.specs.declared.expr.TypeExpr.{TypeExpr}
+use Rattle.world_model.specs.declared.types.TypeDefRow.{TypeDefRow}
+use Rattle.world_model.specs.declared.types.InterfaceImplRow.{InterfaceImplRow}
+use Rattle.world_model.specs.declared.record.AsmRec.{AsmRec}
+use Rattle.world_model.specs.Tokens.{token_of}
+use Rattle.link_rules.specs.declared.row_at.RowAt.{RowAt}
+use Rattle.link_rules.specs.Types.{at_row}
+use Rattle.link_rules.specs.Signatures.{token_type}
+use Rattle.link_rules.specs.Cycles.{listed}
+use Rattle.type_rules.specs.Rows.{rec_at}
+use Rattle.type_laws.proofs.Within.{In, in_front, listed_in, flat_in}
+use Rattle.walk_laws.proofs.Finds.{contains}
+use Rattle.mark_rules.specs.Facts.{Fact}
+use Rattle.mark_rules.specs.Places.{type_item, impl_item}
+use Rattle.mark_rules.specs.Naming.{Part, type_token_part}
+use Rattle.mark_rules.specs.Types.{extends_of, constraints_of, parts_of_type, parts_of_impl}
+use Rattle.marked_laws.proofs.Places.{type_row_of, impl_row_of}
+use Rattle.marked_laws.proofs.Parts.{token_named, part_kept}
+use Rattle.marked_laws.proofs.Rows.{of_impl}
+use Rattle.merged_tokens.proofs.Parts.{names_type}
+use Rattle.merged_world_rules.specs.Merge.{Merge, before}
+use Rattle.merged_rows_move.specs.Premises.{GoodInterface, HasGoodInterfaces, HasGoodBases}
+use Rattle.merged_places.proofs.Rows.{place_within}
+use Rattle.marked_merge_rules.specs.Merges.{IsMarkedMerge, flags_of}
+use Rattle.trim_moves.specs.Laws.{keep_by, IsFlagged}
+use Rattle.trim_moves.proofs.Flags.{flag_is, impl_row}
+
+module _ (recs : List AsmRec) (at : RowAt) (rec : AsmRec) (here : slice_get recs at.asm ≡ Some rec) where
+  abbrev base_part : TypeDefRow → Part
+  base_part t = type_token_part recs at.asm rec (token_of TYPE_DEF (suc at.row)) 0 t.extends
+
+  base_in : (t : TypeDefRow) → slice_get rec.type_def at.row ≡ Some t → (t.extends == 0) ≡ false → In (base_part t) (parts_of_type recs at)
+  unfolding parts_of_type
+  base_in t e some =
+      flat_in (λ (rec : AsmRec). extends_of recs at rec ++ constraints_of recs at.asm rec (token_of TYPE_DEF (suc at.row))) (base_part t) rec (listed (rec_at recs at)) (listed_in rec (rec_at recs at) here)
+      (in_front (base_part t) (extends_of recs at rec) (constraints_of recs at.asm rec (token_of TYPE_DEF (suc at.row)))
+      (flat_in (λ (t : TypeDefRow). if t.extends == 0 then [] else base_part t ∷ []) (base_part t) t (listed (slice_get rec.type_def at.row)) (listed_in t (slice_get rec.type_def at.row) e)
+      (subst (λ (b : Bool). In (base_part t) (if b then [] else base_part t ∷ [])) (sym some) (inl refl))))
+
+  abbrev interface_part : InterfaceImplRow → Part
+  interface_part row = type_token_part recs at.asm rec (token_of INTERFACE_IMPL (suc at.row)) 0 row.interface
+
+  interface_in : (row : InterfaceImplRow) → slice_get rec.interface_impl at.row ≡ Some row → In (interface_part row) (parts_of_impl recs at)
+  unfolding parts_of_impl
+  interface_in row e =
+      flat_in (λ (rec : AsmRec). flat_map (λ (row : InterfaceImplRow). type_token_part recs at.asm rec (token_of INTERFACE_IMPL (suc at.row)) 0 row.interface ∷ []) (listed (slice_get rec.interface_impl at.row))) (interface_part row) rec
+      (listed (rec_at recs at)) (listed_in rec (rec_at recs at) here)
+      (flat_in (λ (row : InterfaceImplRow). interface_part row ∷ []) (interface_part row) row (listed (slice_get rec.interface_impl at.row)) (listed_in row (slice_get rec.interface_impl at.row) e) (inl refl))
+
+pub bases_good : (m : Merge) (entry : Option RowAt) (roots : List Root) → IsMarkedMerge m entry roots → HasGoodBases m
+bases_good m entry roots merge at rec t here is lt kept some =
+    let recs = before m in
+    names_type recs entry roots m.kept merge.marked merge.good (type_item recs at) at rec (type_row_of recs at rec here t is) kept here lt (token_of TYPE_DEF (suc at.row)) 0 t.extends
+    (contains (parts_of_type recs at) (base_part recs at rec here t) (base_in recs at rec here t is some))
+
+module _ (m : Merge) (entry : Option RowAt) (roots : List Root) (holds : Fact → Bool) (flagged : IsFlagged m entry roots holds) where
+  interface_good : (at : RowAt) (rec : AsmRec) (row : InterfaceImplRow) → slice_get (before m) at.asm ≡ Some rec → slice_get rec.interface_impl at.row ≡ Some row → suc at.asm < length (before m)
+      → m.kept (impl_item (before m) at) ≡ true → GoodInterface m (keep_by m holds) at.asm rec row
+  interface_good at rec row here is lt kept =
+      let recs : List AsmRec = before m in
+      let p : Part = interface_part recs at rec here row in
+      let within : In p (parts_of_impl recs at) = interface_in recs at rec here row is in
+      let n = names_type recs entry roots m.kept flagged.merge.marked flagged.merge.good (impl_item recs at) at rec (impl_row_of recs at rec here row is) kept here lt (token_of INTERFACE_IMPL (suc at.row)) 0 row.interface
+      (contains (parts_of_impl recs at) p within) in
+      let marks = flag_is m entry roots holds flagged (impl_item recs at) at (impl_row_of recs at rec here row is) refl ∙ kept in
+      record {
+        typ = n.0;
+        reads = n.1;
+        stays =
+            part_kept recs entry roots (flags_of m holds) flagged.marks (impl_item recs at) at (of_impl recs entry roots (flags_of m holds) flagged.marks at rec row marks here is) p n.0 within within
+            (token_named recs at.asm rec (token_of INTERFACE_IMPL (suc at.row)) 0 row.interface n.0 n.1);
+      }
+
+  pub interfaces_good : HasGoodInterfaces m (keep_by m holds)
+  interfaces_good a i rec row here is lt kept = interface_good (at_row a i) rec row here is lt kept
