@@ -1,0 +1,17 @@
+pub mod Modifiers
+pub mod Listed
+pub mod Plain
+pub mod Tokens
+pub mod Core
+pub mod Owners
+pub mod Sources
+pub mod Same
+pub mod Used
+pub mod Members
+pub mod Writing
+pub mod Rows
+pub mod Reference
+pub mod Missing
+pub mod Together
+pub mod Homes
+pub mod Readings
