@@ -38,7 +38,8 @@ use Rattle.merged_world_rules.specs.Merge.{Merge, before, output}
 use Rattle.merged_world_rules.specs.NewNumbers.{type_core}
 use Rattle.marked_merge_rules.specs.Merges.{IsMarkedMerge}
 use Rattle.marked_merge_rules.specs.Reads.{CoreStays}
-use Rattle.kept_parts.specs.Laws.{HasKeptClass, PartsStayed}
+use Rattle.flagged_marks.specs.Laws.{HasKeptClass}
+use Rattle.kept_parts.specs.Laws.{PartsStayed}
 use Rattle.kept_parts.proofs.Uses.{IsCore}
 use Rattle.kept_parts.proofs.Parts.{Fine, All}
 use Rattle.kept_parts.proofs.Items.{type_parts, method_parts, field_parts, property_parts, event_parts, impl_parts}
