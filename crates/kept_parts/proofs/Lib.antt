@@ -5,3 +5,4 @@ pub mod Parts
 pub mod Items
 pub mod Mets
 pub mod Whole
+pub mod Core

@@ -1,4 +1,4 @@
-ghost use Rattle.kept_parts.specs.Laws.{PartsStayed};
+ghost use Rattle.kept_parts.specs.Laws.{CoreStaysPlain, PartsStayed};
 
 use merged_owners::laws::owners_stay;
 
@@ -8,3 +8,8 @@ pub fn parts_stay()
 {
     owners_stay();
 }
+
+/// A law: no part of an item of the core library names a type that only modifiers use. It does nothing.
+pub fn core_is_plain()
+    ensures { CoreStaysPlain }
+{}
