@@ -1,5 +1,5 @@
 -- What the MethodImpl rows whose body has a number give is what all rows give.
-use Rattle.std.proofs.Common.{◌≡◌, ◌≤◌, ℕ, zero, suc, ◌+◌, ◌-◌, ◌<◌, List, [], ◌∷◌, ◌++◌, length, Bool, true, false, Option, Some, None, nat_eq, nat_lt, refl, sym, ap, ◌∙◌, subst, arith}
+use Rattle.std.proofs.Common.{◌≡◌, ◌≤◌, ℕ, zero, suc, ◌+◌, ◌-◌, ◌<◌, List, [], ◌∷◌, ◌++◌, length, Bool, true, false, Option, Some, None, nat_eq, nat_lt, refl, sym, ap, ◌∙◌, subst, arith, eq-eqb}
 use Rattle.std.specs.Prelude.{slice_get, ◌==◌, ◌&&◌, if◌then◌else◌}
 use Rattle.std.specs.List.{list_any, flat_map}
 use Rattle.std.specs.Option.{option_map_or, option_and_then}
@@ -71,6 +71,7 @@ module _ (recs : List AsmRec) (at : RowAt) where
   other_row n other x home true same =
       let e : at ≡ x = (rows_decide at x).0 same in
       let is : (method_id recs at).0 ≡ n = subst (λ (y : RowAt). rows_before methods_in recs y.asm + y.row ≡ n) (sym e) (has_number recs n x home) in
+      let met : (n == (method_id recs at).0) ≡ true = eq-eqb n (method_id recs at).0 (sym is) in
       absurd (cc)
   other_row n other x home false same = refl
 

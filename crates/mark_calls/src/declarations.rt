@@ -150,7 +150,8 @@ fn add_rows(
     ensures { OnOk result (facts.new ≡ facts.old ++ declared_in (all_of marker.now) at asm rec.now) }
 {
     let ks = rows.rows_with(id.0);
-    add_among(marker, at, asm, rec, ks, facts)
+    add_among(marker, at, asm, rec, ks, facts)?;
+    Ok(())
 }
 
 /// Puts what the rows of all assemblies name whose body is a method at the end.

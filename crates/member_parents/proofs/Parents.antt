@@ -1,6 +1,6 @@
 -- The key of a member's parent, and that what it names is met.
-use Rattle.std.proofs.Common.{◌≡◌, ℕ, suc, List, [], ◌∷◌, ◌++◌, map, Bool, Option, Some, None, refl, sym, ap, subst, ◌∙◌}
-use Rattle.std.specs.Prelude.{slice_get, ⊤}
+use Rattle.std.proofs.Common.{◌≡◌, List, map, Option, Some, refl, sym, ap, subst, ◌∙◌}
+use Rattle.std.specs.Prelude.{⊤}
 use Rattle.std.specs.List.{Contains, flat_map}
 use Rattle.std.proofs.lemmas.List.Elements.{Contains-append_left}
 use Rattle.il_base.specs.declared.ids.TypeId.{TypeId}
@@ -11,7 +11,6 @@ use Rattle.world_model.specs.declared.expr.TypeExpr.{TypeExpr}
 use Rattle.world_model.specs.declared.expr.MemberSig.TheVariants as member
 use Rattle.world_model.specs.declared.members.MemberRefRow.{MemberRefRow}
 use Rattle.world_model.specs.declared.record.AsmRec.{AsmRec}
-use Rattle.link_rules.specs.declared.row_at.RowAt.{RowAt}
 use Rattle.link_rules.specs.Cycles.{listed}
 use Rattle.known_laws.proofs.Lists.{none_in, one_is, from_flat, from_map, from_option, to_option}
 use Rattle.merge_rules.specs.Keys.{TypeKey, MethodKey, own_method, found_method, absent_method, FieldKey, own_field, found_field, expr_key}
@@ -19,7 +18,7 @@ use Rattle.merge_rules.specs.Order.{Met, met_type, met_sig, met_method, met_fiel
 use Rattle.merge_rules.specs.Refs.{Output, types_of_key, types_of_sigs, types_of_method_sig, own_method_sig, own_field_sig, method_at, field_at, types_of_owner, types_of_method, types_of_field, types_of_met, spec_of_key, spec_of_method, spec_of_field, specs_of_met, MemberKey, a_method, a_field, an_absent, same_member, member_of_method, member_of_field, members_of_met, member_refs, key_token, new_sig, new_method_sig, first_or, parent_token, method_name, field_name, member_ref_row, member_ref_rows}
 use Rattle.merged_tokens.proofs.Once.{from_once}
 use Rattle.merged_standing.proofs.Mets.{Holds}
-use Rattle.member_parents.proofs.Keyed.{HasKey, MethodKeyed, FieldKeyed, method_keyed, field_keyed}
+use Rattle.member_parents.proofs.Keyed.{MethodKeyed, FieldKeyed, method_keyed, field_keyed}
 
 module _ (recs : List AsmRec) where
   -- ---- keys of parents

@@ -1,5 +1,5 @@
 -- The token of a key isn't 0, where what it names is met, and types of inputs among that have new rows.
-use Rattle.std.proofs.Common.{◌≡◌, ◌<◌, ◌≤◌, ℕ, zero, suc, List, [], ◌∷◌, length, Bool, true, false, nat_le, Option, Some, None, refl, sym, ap, subst, ◌∙◌, arith}
+use Rattle.std.proofs.Common.{◌≡◌, ◌<◌, ◌≤◌, ℕ, zero, suc, List, [], ◌∷◌, Bool, true, false, nat_le, Option, Some, refl, sym, ap, subst, arith}
 use Rattle.std.specs.Prelude.{position, ◌||◌, if◌then◌else◌}
 use Rattle.std.specs.List.{Contains, flat_map, filter}
 use Rattle.std.specs.Option.{is_some}

@@ -1,11 +1,9 @@
 -- The parents of MemberRef rows, and so all columns that have to name a row.
-use Rattle.std.proofs.Common.{◌≡◌, ◌<◌, ◌≤◌, ℕ, zero, suc, List, [], ◌∷◌, ◌++◌, length, Bool, true, false, Option, Some, None, refl, sym, ap, subst, ◌∙◌, arith}
+use Rattle.std.proofs.Common.{◌≡◌, ◌<◌, ◌≤◌, ℕ, zero, suc, List, [], ◌∷◌, ◌++◌, length, Bool, true, false, Some, sym, subst, arith}
 use Rattle.std.specs.Prelude.{slice_get}
-use Rattle.std.specs.List.{Contains, flat_map}
+use Rattle.std.specs.List.{Contains}
 use Rattle.il_base.specs.declared.ids.TypeId.{TypeId}
 use Rattle.il_base.specs.declared.ids.Item.TheVariants as item
-use Rattle.il_base.specs.declared.sig.Sig.{Sig}
-use Rattle.descriptor_file.specs.declared.root.Root.{Root}
 use Rattle.world_model.specs.declared.members.MemberRefRow.{MemberRefRow}
 use Rattle.world_model.specs.declared.record.AsmRec.{AsmRec}
 use Rattle.world_model.specs.Records.{IsRecord}
@@ -21,18 +19,17 @@ use Rattle.mark_rules.specs.Places.{row_of, is_core}
 use Rattle.merge_rules.specs.Order.{Met}
 use Rattle.merge_rules.specs.Refs.{Output, types_of_met, specs_of_met, is_reference, member_ref_rows}
 use Rattle.merge_rules.specs.Restricted.{placed_methods, moved_methods, restricted_by, output_of, restricted}
-use Rattle.merged_record.specs.Laws.{InputsAreRecords, ReferencesStand, NamesAll, RowsFit}
+use Rattle.merged_record.specs.Laws.{InputsAreRecords, ReferencesStand, RowsFit}
 use Rattle.merged_record.proofs.Lists.{place_in}
 use Rattle.merged_record.proofs.Sizes.{left}
 use Rattle.merged_owners.proofs.Every.{Every}
 use Rattle.merged_world_rules.specs.Merge.{Merge, IsMerge, before, output}
 use Rattle.merged_references.specs.Laws.{MetWritten}
-use Rattle.merged_references.specs.Written.{HasReferenceRows, IsWritten, kept_type, core_type, KeepsMet}
+use Rattle.merged_references.specs.Written.{HasReferenceRows, IsWritten, kept_type, core_type}
 use Rattle.merged_tokens.specs.Laws.{NamesFollow}
 use Rattle.merged_tokens.proofs.Once.{below_home}
 use Rattle.merged_standing.specs.Laws.{ReferenceRowsStand}
 use Rattle.merged_standing.proofs.Mets.{mets_hold}
-use Rattle.marked_merge_rules.specs.Merges.{IsMarkedMerge}
 use Rattle.marked_merge_rules.specs.Reads.{KeepsAllMet}
 use Rattle.member_parents.specs.Laws.{ParentsNamed, AllNamed}
 use Rattle.member_parents.proofs.Parents.{Keyed, all_keyed, of_met, member_met, class_is, row_from}

@@ -3,14 +3,15 @@ use Rattle.std.proofs.Common.{◌≡◌, ◌<◌, ◌≤◌, ℕ, suc, ◌+◌, 
 use Rattle.std.specs.Prelude.{slice_get, ◌==◌, if◌then◌else◌}
 use Rattle.std.specs.List.{flat_map, filter}
 use Rattle.std.specs.Option.{option_and_then}
-use Rattle.std.proofs.lemmas.Bool.{eq-eqb, cases_lt}
+use Rattle.std.proofs.lemmas.Bool.{eq-eqb, eqb-true, cases_lt}
 use Rattle.std.proofs.lemmas.List.{append-nil, map-append}
 use Rattle.std.proofs.lemmas.Grind.{flat_map-append}
 use Rattle.std.proofs.lemmas.List.Elements.{filter-append}
 use Rattle.il_base.specs.declared.table.TheConstants.{TYPE_DEF}
 use Rattle.world_model.specs.declared.members.MethodImplRow.{MethodImplRow}
 use Rattle.world_model.specs.declared.record.AsmRec.{AsmRec}
-use Rattle.world_model.specs.Tokens.{token_of, table_of, row_index, index_in}
+use Rattle.world_model.specs.Records.{rows_in, table_sizes}
+use Rattle.world_model.specs.Tokens.{token_of, table_of, index_from, row_index, index_in}
 use Rattle.world_model.specs.Worlds.{types_in}
 use Rattle.core_table.specs.Record.{core_record, record_with}
 use Rattle.link_rules.specs.declared.row_at.RowAt.{RowAt}
@@ -29,7 +30,7 @@ use Rattle.merged_world_rules.specs.NewNumbers.{rho_of}
 use Rattle.merged_places.proofs.Ranks.{rank}
 use Rattle.merged_places.proofs.Rows.{place_within, place_past}
 use Rattle.merged_places.proofs.Kept.{keeps}
-use Rattle.merged_places.proofs.Worlds.{core_of, left_core, after_is, after_left, after_core, core_at, left_is}
+use Rattle.merged_places.proofs.Worlds.{core_of, left_core, after_is, after_left, after_core, core_at, before_input, left_is}
 use Rattle.merged_places.proofs.Tables.{number_type, type_rows as kept_type_rows, type_kind}
 use Rattle.merged_places.proofs.Situations.{place, situation, Input, Core, Gone}
 use Rattle.merged_rows_move.specs.Premises.{uses_of, ReadsImpls}
@@ -80,6 +81,21 @@ module _ (m : Merge) (is : IsMerge m) (k : Keep) (reads : ReadsImpls m k) where
 
     -- ---- row by row
 
+    type_size : (rec : AsmRec) → rows_in rec TYPE_DEF ≡ length rec.type_def
+    unfolding table_sizes
+    type_size rec = refl
+
+    -- its class is this type
+    own_index : (i : ℕ) (row : MethodImplRow) → slice_get h.there.rec.method_impl i ≡ Some row → (row.class == own) ≡ true → index_in TYPE_DEF row.class ≡ Some at.row
+    own_index i row f e =
+        let named = impl_named at.asm h.there.rec h.there.here h.earlier i row f in
+        let same = eqb-true row.class own e in
+        let lt = h.there.below in
+        let few = is.few_inputs at.asm h.there.rec (sym (before_input m at.asm h.earlier) ∙ h.there.here) TYPE_DEF in
+        let size = type_size h.there.rec in
+        let r : row.class % 16777216 ≡ suc at.row = omega (arith, same, lt, few, size) in
+        ap (λ (b : Bool). if b then row_index row.class else None) (eq-eqb (table_of row.class) TYPE_DEF named.table) ∙ ap index_from r
+
     moved_append : (xs ys : List Impl) → moved (xs ++ ys) ≡ moved xs ++ moved ys
     moved_append xs ys = ap (map (move_impl (rho_of m))) (filter-append (keeps_impl k) xs ys) ∙ map-append (move_impl (rho_of m)) (filter (keeps_impl k) xs) (filter (keeps_impl k) ys)
 
@@ -89,7 +105,7 @@ module _ (m : Merge) (is : IsMerge m) (k : Keep) (reads : ReadsImpls m k) where
     gone_by : (i : ℕ) (row : MethodImplRow) → slice_get h.there.rec.method_impl i ≡ Some row → has_kept_body (output m) at.asm h.there.rec row ≡ false → (b : Bool) → (row.class == own) ≡ b
         → [] ≡ moved (impls_by (before m) at.asm h.there.rec own row)
     gone_by i row f stays true e =
-        sym (ap moved (own_by row true e) ∙ ap (map (move_impl (rho_of m))) ((reads at.asm i h.there.rec row h.there.here f h.earlier).gone stays))
+        sym (ap moved (own_by row true e) ∙ ap (map (move_impl (rho_of m))) ((reads at.asm i at.row h.there.rec row h.there.here f h.earlier (own_index i row f e) h.keeps_it).gone stays))
     gone_by i row f stays false e = sym (ap moved (own_by row false e))
 
     kept_by : (i : ℕ) (row : MethodImplRow) → slice_get h.there.rec.method_impl i ≡ Some row → has_kept_body (output m) at.asm h.there.rec row ≡ true → (o : Option ℕ) → has token o ≡ (row.class == own)
@@ -102,7 +118,7 @@ module _ (m : Merge) (is : IsMerge m) (k : Keep) (reads : ReadsImpls m k) where
         by_test true same =
             append-nil (seen (impl_row (output m) at.asm h.there.rec row t))
             ∙ ap (λ (b : Bool). if b then uses_of (after m) 0 m.left (impl_row (output m) at.asm h.there.rec row t) else []) same
-            ∙ (reads at.asm i h.there.rec row h.there.here f h.earlier).kept stays t ∙ sym (ap moved (own_by row true (sym e ∙ same)))
+            ∙ (reads at.asm i at.row h.there.rec row h.there.here f h.earlier (own_index i row f (sym e ∙ same)) h.keeps_it).kept stays t ∙ sym (ap moved (own_by row true (sym e ∙ same)))
         by_test false same = sym (ap moved (own_by row false (sym e ∙ same)))
 
     row_by : (i : ℕ) (row : MethodImplRow) → slice_get h.there.rec.method_impl i ≡ Some row → (b : Bool) → has_kept_body (output m) at.asm h.there.rec row ≡ b → has token (class_token (before m) m.kept at.asm row.class) ≡ (row.class == own)

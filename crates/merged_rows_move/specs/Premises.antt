@@ -1,6 +1,7 @@
 -- What is asked of references and names where a merge's rows are read again.
 use Rattle.std.specs.Prelude.{◌≡◌, ◌<◌, ◌==◌, ℕ, suc, List, [], ◌∷◌, length, map, Some, None, slice_get, IsTrue, false, true}
 use Rattle.std.specs.List.{Contains, flat_map, filter}
+use Rattle.il_base.specs.declared.table.TheConstants.{TYPE_DEF}
 use Rattle.world_model.specs.declared.known.Known.TheVariants.{Good}
 use Rattle.world_model.specs.declared.expr.TypeExpr.{TypeExpr}
 use Rattle.world_model.specs.declared.types.TypeDefRow.{TypeDefRow}
@@ -9,6 +10,7 @@ use Rattle.world_model.specs.declared.members.MethodDefRow.{MethodDefRow}
 use Rattle.world_model.specs.declared.members.MethodImplRow.{MethodImplRow}
 use Rattle.world_model.specs.declared.record.AsmRec.{AsmRec}
 use Rattle.world_model.specs.Records.{IsRecord}
+use Rattle.world_model.specs.Tokens.{index_in}
 use Rattle.world_model.specs.Worlds.{known_then, known_map}
 use Rattle.link_rules.specs.declared.row_at.RowAt.{RowAt}
 use Rattle.link_rules.specs.Types.{at_row, encloser}
@@ -64,15 +66,17 @@ abbrev pub uses_of : List AsmRec → ℕ → AsmRec → MethodImplRow → List I
 uses_of recs a rec row =
     flat_map (λ d. map (impl_by d) (listed (good_use (generic_method recs a rec row.body)))) (listed (good_use (generic_method recs a rec row.declaration)))
 
--- A MethodImpl row that is written names in the output what it named, moved, if its body is kept; one that isn't written has no kept body.
+-- A MethodImpl row of a kept class names in the output what it named, moved, if its body is kept; one that isn't written has no kept body.
 pub record ReadsImpl (m : Merge) (k : Keep) (a : ℕ) (rec : AsmRec) (row : MethodImplRow) : Type 0 where
   pub kept : has_kept_body (output m) a rec row ≡ true → (class : ℕ)
       → uses_of (after m) 0 m.left (impl_row (output m) a rec row class) ≡ map (move_impl (rho_of m)) (filter (keeps_impl k) (uses_of (before m) a rec row))
   pub gone : has_kept_body (output m) a rec row ≡ false → filter (keeps_impl k) (uses_of (before m) a rec row) ≡ []
 
+-- of rows whose class is kept: others aren't written, and what they name may be gone
 abbrev pub ReadsImpls : Merge → Keep → Type 0
 ReadsImpls m k =
-    (a i : ℕ) (rec : AsmRec) (row : MethodImplRow) → slice_get (before m) a ≡ Some rec → slice_get rec.method_impl i ≡ Some row → suc a < length (before m) → ReadsImpl m k a rec row
+    (a i j : ℕ) (rec : AsmRec) (row : MethodImplRow) → slice_get (before m) a ≡ Some rec → slice_get rec.method_impl i ≡ Some row → suc a < length (before m) → index_in TYPE_DEF row.class ≡ Some j
+    → m.kept (type_item (before m) (at_row a j)) ≡ true → ReadsImpl m k a rec row
 
 -- a kept method's signature is read in the output as it was, moved
 abbrev pub ReadsSignatures : Merge → Type 0

@@ -30,7 +30,7 @@ use Rattle.mark_rules.specs.Types.{encloser_of, parts_of_type, type_needs, layou
 use Rattle.mark_rules.specs.Shown.{encloser_shown}
 use Rattle.mark_rules.specs.Marking.{row_needs, one}
 use Rattle.world_change_rules.specs.Places.{type_number}
-use Rattle.marked_laws.specs.Flags.{is_core_type, keep_of}
+use Rattle.marked_laws.specs.Flags.{is_added, is_core_type, keep_of}
 use Rattle.marked_laws.proofs.Closing.{mapped_in, row_gives, by_one}
 use Rattle.marked_laws.proofs.Flags.{typ_has, shown_is, shown_typ}
 use Rattle.merged_world_rules.specs.Merge.{Merge, IsMerge, before}
@@ -130,9 +130,12 @@ module _ (m : Merge) (entry : Option RowAt) (roots : List Root) (holds : Fact �
       (flat_in (encloser_of recs at) f rec (listed (rec_at recs at)) (listed_in rec (rec_at recs at) here)
       (mapped_in (λ k. marks_type recs (at_row at.asm k)) j (listed (encloser rec at.row)) (listed_in j (encloser rec at.row) e))))
 
-  outer_flag : (at : RowAt) (rec : AsmRec) (j : ℕ) → slice_get recs at.asm ≡ Some rec → encloser rec at.row ≡ Some j → IsThere types_in recs at → IsTrue (has (marked (type_item recs at))) → IsTrue (has (marked (type_item recs (at_row at.asm j))))
-  outer_flag at rec j here e there h =
-      row_gives recs entry roots has flagged.marks (type_item recs at) at (marks_type recs (at_row at.asm j)) h (type_row m at there) (outer_needed at rec j here e)
+  outer_plain : (at : RowAt) (rec : AsmRec) (j : ℕ) → IsNested m flagged.merge.merge at rec j → is_added recs (marks_type recs (at_row at.asm j)) ≡ false
+  outer_plain at rec j n = input_plain m (type_id recs at.asm j) (at_row at.asm j) (type_home_is m (at_row at.asm j) n.outer) n.input
+
+  outer_flag : (at : RowAt) (rec : AsmRec) (j : ℕ) → slice_get recs at.asm ≡ Some rec → encloser rec at.row ≡ Some j → IsNested m flagged.merge.merge at rec j → IsTrue (has (marked (type_item recs at))) → IsTrue (has (marked (type_item recs (at_row at.asm j))))
+  outer_flag at rec j here e n h =
+      row_gives recs entry roots has flagged.marks (type_item recs at) at (marks_type recs (at_row at.asm j)) h (type_row m at n.inner) (outer_needed at rec j here e) (outer_plain at rec j n)
 
   outer_shown : (at : RowAt) (rec : AsmRec) (j : ℕ) → slice_get recs at.asm ≡ Some rec → encloser rec at.row ≡ Some j → IsThere types_in recs at
       → In (shown (type_id recs at.asm j)) (one recs roots (shown (type_id recs at.asm at.row)))
@@ -151,9 +154,8 @@ module _ (m : Merge) (entry : Option RowAt) (roots : List Root) (holds : Fact �
   enclosers_kept at rec j here e kept =
       let n = nested_in m flagged.merge.merge at rec j here e in
       let plain = input_plain m (type_id recs at.asm at.row) at (type_home_is m at n.inner) n.input in
-      let outer_plain = input_plain m (type_id recs at.asm j) (at_row at.asm j) (type_home_is m (at_row at.asm j) n.outer) n.input in
       let h = flag_is m entry roots holds flagged (type_item recs at) at (type_row m at n.inner) plain ∙ kept in
-      sym (flag_is m entry roots holds flagged (type_item recs (at_row at.asm j)) (at_row at.asm j) (type_row m (at_row at.asm j) n.outer) outer_plain) ∙ outer_flag at rec j here e n.inner h
+      sym (flag_is m entry roots holds flagged (type_item recs (at_row at.asm j)) (at_row at.asm j) (type_row m (at_row at.asm j) n.outer) (outer_plain at rec j n)) ∙ outer_flag at rec j here e n h
 
   -- a type of an input that is shown has its flag
   shown_flag : (t : TypeId) → is_core_type recs t.0 ≡ false → IsTrue ((keep_by m holds).shown t.0) → IsTrue (has (shown t))
@@ -171,5 +173,5 @@ module _ (m : Merge) (entry : Option RowAt) (roots : List Root) (holds : Fact �
       let n = nested_in m flagged.merge.merge at rec j here e in
       let t : TypeId = type_id recs at.asm at.row in
       let marks = typ_has recs has t (shown_typ recs has t h) in
-      shown_is recs has (type_id recs at.asm j) (outer_flag at rec j here e n.inner marks)
-      (by_one recs entry roots has flagged.marks (shown t) (shown (type_id recs at.asm j)) (seen_flag at n.inner n.input h) (outer_shown at rec j here e n.inner))
+      shown_is recs has (type_id recs at.asm j) (outer_flag at rec j here e n marks)
+      (by_one recs entry roots has flagged.marks (shown t) (shown (type_id recs at.asm j)) (seen_flag at n.inner n.input h) (outer_shown at rec j here e n.inner) refl)
