@@ -46,7 +46,7 @@ impl<'w> View<'w> {
         let marker = Marker::of(alloc, world)?;
         let definitions = Definitions::of(alloc, &marker)?;
         let layouts = Layouts::of(alloc, &marker, definitions)?;
-        let Marker { tables, rows: _ } = marker;
+        let Marker { tables, .. } = marker;
         let types = ClosedTypes::of(alloc, tables)?;
         Ok(View { layouts, types })
     }

@@ -12,23 +12,29 @@ use Rattle.world_model.specs.Worlds.{type_id}
 use Rattle.world_model.specs.declared.record.AsmRec.{AsmRec}
 use Rattle.core_table.specs.declared.types.TheConstants.{TYPES}
 use Rattle.link_rules.specs.declared.row_at.RowAt.{RowAt}
+use Rattle.link_rules.specs.Types.{at_row}
 use Rattle.link_rules.specs.Members.{type_home}
 use Rattle.link_rules.specs.Cycles.{listed}
 use Rattle.type_rules.specs.Slots.{type_of_method}
 use Rattle.mark_rules.specs.Facts.{Fact, Derived}
 use Rattle.mark_rules.specs.Facts.Fact.{marked, instantiated, reflected, shown}
-use Rattle.mark_rules.specs.Places.{row_of, is_core, method_item, marks_type, marks_method}
+use Rattle.mark_rules.specs.Places.{row_of, is_core, type_item, method_item, marks_type, marks_method}
+use Rattle.mark_rules.specs.Calls.{row_class}
 use Rattle.mark_rules.specs.Naming.{of_parts}
 use Rattle.mark_rules.specs.Shown.{parts_of_item}
 use Rattle.mark_rules.specs.Marking.{row_needs, item_needs, is_core_fact, given, one, two, three, marking, Marks}
 use Rattle.mark_numbers.specs.Numbers.{is_there}
 use Rattle.mark_laws.proofs.There.{one_there, two_there, three_there}
-use Rattle.marked_laws.specs.Flags.{is_added_row, is_added, HasMarks}
+use Rattle.marked_laws.specs.Flags.{is_added_row, is_added, OfClass, HasClass, HasMarks}
 use Rattle.merged_world_rules.specs.Merge.{Merge, before}
 use Rattle.merged_world_rules.specs.NewNumbers.{type_core}
 use Rattle.marked_merge_rules.specs.Merges.{IsMarkedMerge, AreFacts, stays_there, flags_of}
-use Rattle.flagged_marks.specs.Laws.{PartsStay, CoreIsPlain, FlagsFollow}
+use Rattle.flagged_marks.specs.Laws.{HasKeptClass, PartsStay, CoreIsPlain, FlagsFollow}
 use Rattle.flagged_marks.proofs.Homes.{row_below_end, owner_home}
+use Rattle.type_laws.proofs.Places.{place_has}
+use Rattle.marked_laws.proofs.Places.{type_home_of}
+use Rattle.merged_loads.proofs.Whole.{an_input}
+use Rattle.flagged_marks.proofs.Classes.{class_is, class_below}
 use Rattle.flagged_marks.proofs.Needed.{part_in_one, owner_in_one}
 use Rattle.flagged_marks.proofs.Owners.{owner_low}
 
@@ -129,6 +135,10 @@ module _ (m : Merge) (entry : Option RowAt) (roots : List Root) (holds : Fact �
   marks : (f : Fact) → IsTrue (is_there recs f) → IsTrue (has f) → Marks recs entry roots f
   marks f there h = marks_by f (is_added recs f) refl there h
 
+  typ_row : (t : TypeId) (at : RowAt) → type_home recs t ≡ Some at → row_of recs (item.Typ t) ≡ Some at
+  unfolding row_of
+  typ_row t at e = e
+
   there_of : (i : Item) (at : RowAt) → row_of recs i ≡ Some at → IsTrue (is_there recs (marked i))
   unfolding is_there
   there_of i at e = ap is_some e
@@ -140,37 +150,56 @@ module _ (m : Merge) (entry : Option RowAt) (roots : List Root) (holds : Fact �
     unfolding row_of
     kept_of i at e h = is.all i (ap is_some e) (marks (marked i) (there_of i at e) h)
 
+    class_kept : (at : RowAt) → suc at.asm < length recs → (q : OfClass recs has at) (c : RowAt) → row_class recs at ≡ Some c → m.kept (type_item recs c) ≡ true
+    class_kept at lt q c e =
+        let same : c ≡ at_row at.asm q.class = class_is recs at q.rec q.row q.class q.there q.is q.named c e in
+        let names = (is.merge.records at.asm q.rec (an_input m.inputs is.files at.asm q.rec lt q.there)).tokens.interface_impls at.row q.row q.is in
+        let below : q.class < length q.rec.type_def = class_below q.rec q.row.class q.class q.named names.0 in
+        let row = place_has q.rec.type_def q.class below in
+        let home : type_home recs (type_id recs at.asm q.class) ≡ Some (at_row at.asm q.class) = type_home_of recs (at_row at.asm q.class) q.rec q.there row.0 row.1 in
+        subst (λ (x : RowAt). m.kept (type_item recs x) ≡ true) (sym same) (kept_of (type_item recs (at_row at.asm q.class)) (at_row at.asm q.class) (typ_row (type_id recs at.asm q.class) (at_row at.asm q.class) home) q.marks)
+
+    classed : (i : Item) (at : RowAt) → suc at.asm < length recs → HasClass recs has i at → HasKeptClass m i at
+    classed (item.Impl r) at lt q = class_kept at lt q
+    classed (item.Asm x) at lt q = tt
+    classed (item.Typ x) at lt q = tt
+    classed (item.Method x) at lt q = tt
+    classed (item.Field x) at lt q = tt
+    classed (item.Prop x) at lt q = tt
+    classed (item.Event x) at lt q = tt
+
     stays : (t : TypeId) (at : RowAt) → type_home recs t ≡ Some at → (s : ℕ) → (type_core m).to at.row ≡ Some s → stays_there m (marked (item.Typ t)) ≡ true
     stays t at e s g = ap (λ (o : Option RowAt). list_any (λ (x : RowAt). is_some ((type_core m).to x.row)) (listed o)) e ∙ ap (λ (o : Option ℕ). is_some o || false) g
 
-    added_stays : (i : Item) (at : RowAt) (t : TypeId) → row_of recs i ≡ Some at → IsTrue (m.kept i) → suc at.asm < length recs → Contains (of_parts (parts_of_item recs i at)) (marked (item.Typ t)) → is_added recs (marked (item.Typ t)) ≡ true
+    added_stays : (i : Item) (at : RowAt) (t : TypeId) → row_of recs i ≡ Some at → IsTrue (m.kept i) → HasKeptClass m i at → suc at.asm < length recs → Contains (of_parts (parts_of_item recs i at)) (marked (item.Typ t)) → is_added recs (marked (item.Typ t)) ≡ true
         → IsTrue (has (marked (item.Typ t)))
-    added_stays i at t e k lt c known =
+    added_stays i at t e k q lt c known =
         let a = added_at recs t (type_home recs t) refl known in
-        let s = parts i at t a.at k e lt c a.home a.last in
+        let s = parts i at t a.at k e lt q c a.home a.last in
         by_name (marked (item.Typ t)) known ∙ stays t a.at a.home s.0 s.1
 
-    named : (i : Item) (at : RowAt) (f : Fact) → row_of recs i ≡ Some at → IsTrue (m.kept i) → suc at.asm < length recs → Contains (of_parts (parts_of_item recs i at)) f → is_added recs f ≡ true → IsTrue (has f)
-    named i at (marked (item.Typ t)) e k lt c known = added_stays i at t e k lt c known
-    named i at (marked (item.Asm x)) e k lt c known = absurd (cc)
-    named i at (marked (item.Method x)) e k lt c known = absurd (cc)
-    named i at (marked (item.Field x)) e k lt c known = absurd (cc)
-    named i at (marked (item.Prop x)) e k lt c known = absurd (cc)
-    named i at (marked (item.Event x)) e k lt c known = absurd (cc)
-    named i at (marked (item.Impl x)) e k lt c known = absurd (cc)
-    named i at (instantiated t) e k lt c known = absurd (cc)
-    named i at (reflected x) e k lt c known = absurd (cc)
-    named i at (shown t) e k lt c known = absurd (cc)
+    named : (i : Item) (at : RowAt) (f : Fact) → row_of recs i ≡ Some at → IsTrue (m.kept i) → HasKeptClass m i at → suc at.asm < length recs → Contains (of_parts (parts_of_item recs i at)) f → is_added recs f ≡ true → IsTrue (has f)
+    named i at (marked (item.Typ t)) e k q lt c known = added_stays i at t e k q lt c known
+    named i at (marked (item.Asm x)) e k q lt c known = absurd (cc)
+    named i at (marked (item.Method x)) e k q lt c known = absurd (cc)
+    named i at (marked (item.Field x)) e k q lt c known = absurd (cc)
+    named i at (marked (item.Prop x)) e k q lt c known = absurd (cc)
+    named i at (marked (item.Event x)) e k q lt c known = absurd (cc)
+    named i at (marked (item.Impl x)) e k q lt c known = absurd (cc)
+    named i at (instantiated t) e k q lt c known = absurd (cc)
+    named i at (reflected x) e k q lt c known = absurd (cc)
+    named i at (shown t) e k q lt c known = absurd (cc)
 
-    by_home : (i : Item) (at : RowAt) (f : Fact) → row_of recs i ≡ Some at → IsTrue (m.kept i) → Contains (of_parts (parts_of_item recs i at)) f → is_added recs f ≡ true → (b : Bool) → (suc at.asm == length recs) ≡ b → IsTrue (has f)
-    by_home i at f e k c known true last = absurd (let p = core_plain i at f e (eqb-true (suc at.asm) (length recs) last) c in cc)
-    by_home i at f e k c known false last =
+    by_home : (i : Item) (at : RowAt) (f : Fact) → row_of recs i ≡ Some at → IsTrue (m.kept i) → HasClass recs has i at → Contains (of_parts (parts_of_item recs i at)) f → is_added recs f ≡ true → (b : Bool) → (suc at.asm == length recs) ≡ b → IsTrue (has f)
+    by_home i at f e k q c known true last = absurd (let p = core_plain i at f e (eqb-true (suc at.asm) (length recs) last) c in cc)
+    by_home i at f e k q c known false last =
         let below = row_below_end recs i at e in
-        named i at f e k (omega (arith, below, eqb-false (suc at.asm) (length recs) last)) c known
+        let lt : suc at.asm < length recs = omega (arith, below, eqb-false (suc at.asm) (length recs) last) in
+        named i at f e k (classed i at lt q) lt c known
 
-    by_part : (i : Item) (at : RowAt) (f : Fact) (b : Bool) → is_added recs f ≡ b → IsTrue (has (marked i)) → row_of recs i ≡ Some at → Contains (of_parts (parts_of_item recs i at)) f → IsTrue (has f)
-    by_part i at f false known h e c = set f known (one_step recs entry roots (marked i) f (marks (marked i) (there_of i at e) h) (part_in_one recs roots i at f e c))
-    by_part i at f true known h e c = by_home i at f e (kept_of i at e h) c known (suc at.asm == length recs) refl
+    by_part : (i : Item) (at : RowAt) (f : Fact) (b : Bool) → is_added recs f ≡ b → IsTrue (has (marked i)) → row_of recs i ≡ Some at → HasClass recs has i at → Contains (of_parts (parts_of_item recs i at)) f → IsTrue (has f)
+    by_part i at f false known h e q c = set f known (one_step recs entry roots (marked i) f (marks (marked i) (there_of i at e) h) (part_in_one recs roots i at f e c))
+    by_part i at f true known h e q c = by_home i at f e (kept_of i at e h) q c known (suc at.asm == length recs) refl
 
     -- ---- owners
 
@@ -205,7 +234,7 @@ module _ (m : Merge) (entry : Option RowAt) (roots : List Root) (holds : Fact �
         by_three = λ a b c f h g u i known.
             let t = three_there recs a b c f i in
             set f known (three_step recs entry roots a b c f (marks a t.0 h) (marks b t.1 g) (marks c t.2 u) i);
-        by_part = λ i at f h e c. by_part i at f (is_added recs f) refl h e c;
+        by_part = λ i at f h e q c. by_part i at f (is_added recs f) refl h e q c;
         by_owner = λ at owner h e o. by_owner at owner h e o;
       },
       marks,

@@ -1,4 +1,5 @@
 pub mod Homes
+pub mod Classes
 pub mod Needed
 pub mod Owners
 pub mod Follow

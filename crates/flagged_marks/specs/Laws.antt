@@ -1,5 +1,5 @@
 -- The flags by which the worlds of a merge are compared follow the rules of marking, where exactly what is marked is kept.
-use Rattle.std.specs.Prelude.{◌≡◌, ◌<◌, ℕ, suc, List, length, Option, Some, Bool, false, IsTrue}
+use Rattle.std.specs.Prelude.{◌≡◌, ◌<◌, ℕ, suc, List, length, Option, Some, Bool, true, false, IsTrue}
 use Rattle.std.specs.List.{Contains}
 use Rattle.il_base.specs.declared.ids.TypeId.{TypeId}
 use Rattle.il_base.specs.declared.ids.Item.{Item}
@@ -9,7 +9,8 @@ use Rattle.link_rules.specs.declared.row_at.RowAt.{RowAt}
 use Rattle.link_rules.specs.Members.{type_home}
 use Rattle.mark_rules.specs.Facts.{Fact}
 use Rattle.mark_rules.specs.Facts.Fact.{marked}
-use Rattle.mark_rules.specs.Places.{row_of}
+use Rattle.mark_rules.specs.Places.{row_of, type_item}
+use Rattle.mark_rules.specs.Calls.{row_class}
 use Rattle.mark_rules.specs.Naming.{of_parts}
 use Rattle.mark_rules.specs.Shown.{parts_of_item}
 use Rattle.marked_laws.specs.Flags.{is_added, HasMarks}
@@ -18,10 +19,15 @@ use Rattle.merged_world_rules.specs.Merge.{Merge, before}
 use Rattle.merged_world_rules.specs.NewNumbers.{type_core}
 use Rattle.marked_merge_rules.specs.Merges.{IsMarkedMerge, AreFacts, flags_of}
 
+-- the type that a kept interface row is of is kept (II.22.23); nothing is asked of other items
+abbrev pub HasKeptClass : Merge → Item → RowAt → Type 0
+HasKeptClass m (item.Impl r) at = (c : RowAt) → row_class (before m) at ≡ Some c → m.kept (type_item (before m) c) ≡ true
+HasKeptClass m _ at = Unit {0}
+
 -- A type of the core library that a part of a kept item names is in the output's world, also a name that only modifiers use (II.7.1.1).
 abbrev pub PartsStay : Merge → Type 0
 PartsStay m =
-    (i : Item) (at : RowAt) (t : TypeId) (core : RowAt) → IsTrue (m.kept i) → row_of (before m) i ≡ Some at → suc at.asm < length (before m) → Contains (of_parts (parts_of_item (before m) i at)) (marked (item.Typ t))
+    (i : Item) (at : RowAt) (t : TypeId) (core : RowAt) → IsTrue (m.kept i) → row_of (before m) i ≡ Some at → suc at.asm < length (before m) → HasKeptClass m i at → Contains (of_parts (parts_of_item (before m) i at)) (marked (item.Typ t))
     → type_home (before m) t ≡ Some core → suc core.asm ≡ length (before m) → (s : ℕ) × ((type_core m).to core.row ≡ Some s)
 
 -- no part of an item of the core library names one that only modifiers use

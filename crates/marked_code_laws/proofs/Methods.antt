@@ -96,7 +96,7 @@ module _ (recs : List AsmRec) (entry : Option RowAt) (roots : List Root) (has : 
     needed f i = in_behind f (owner_facts recs at) (of_parts (parts_of_method recs at)) i
 
     whole : HasParts recs entry roots has m self at
-    whole = record { marks = h; is = is_row; needs = λ f i. needs_in recs entry roots has m at f (needed f i) }
+    whole = record { marks = h; is = is_row; classed = tt; needs = λ f i. needs_in recs entry roots has m at f (needed f i) }
 
     -- ---- its parts
 

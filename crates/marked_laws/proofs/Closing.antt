@@ -28,7 +28,7 @@ use Rattle.mark_rules.specs.Shown.{parts_of_item, arguments_of_part, arguments_o
 use Rattle.mark_rules.specs.Marking.{row_needs, item_needs, one, of_rows, two, of_three, three, is_core_fact, given}
 use Rattle.mark_rules.specs.Types.{rows_for}
 use Rattle.mark_rules.specs.Calls.{class_runs, interface_runs}
-use Rattle.marked_laws.specs.Flags.{HasMarks, is_added}
+use Rattle.marked_laws.specs.Flags.{HasMarks, HasClass, is_added}
 
 -- ---- members of lists that are made of lists
 
@@ -62,8 +62,8 @@ module _ (recs : List AsmRec) (entry : Option RowAt) (roots : List Root) (has : 
   by_three a b c f h g u i known = m.by_three a b c f h g u (contains (three recs a b c) f i) known
 
   -- what a good part of a marked item names
-  pub part_gives : (i : Item) (at : RowAt) (f : Fact) → IsTrue (has (marked i)) → row_of recs i ≡ Some at → In f (of_parts (parts_of_item recs i at)) → IsTrue (has f)
-  part_gives i at f h is g = m.by_part i at f h is (contains (of_parts (parts_of_item recs i at)) f g)
+  pub part_gives : (i : Item) (at : RowAt) (f : Fact) → IsTrue (has (marked i)) → row_of recs i ≡ Some at → HasClass recs has i at → In f (of_parts (parts_of_item recs i at)) → IsTrue (has f)
+  part_gives i at f h is classed g = m.by_part i at f h is classed (contains (of_parts (parts_of_item recs i at)) f g)
 
   -- ---- what a marked item needs by its row
 

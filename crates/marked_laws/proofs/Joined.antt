@@ -48,7 +48,7 @@ rows_kept inputs entry roots has sound m ends =
       shown_prims = λ n t e. prims_shown recs entry roots has m n t e (prim_not_added inputs n t e);
       array = λ t e. typ_is recs has t (by_core recs entry roots has m (item.Typ t) (array_is_core inputs t e) (array_not_added inputs t e));
       bases = λ at e h is. bases_kept recs entry roots has m at e h is;
-      interfaces = λ at e h c. interfaces_kept recs entry roots has m at e c;
+      interfaces = λ at e h c. interfaces_kept recs entry roots has m at e h c;
       laid = λ at h v. laid_kept recs entry roots has m at h v;
       field_types = λ at d h e. field_types_kept recs entry roots has m at d h e;
       shown = λ t h. shown_typ recs has (record { 0 = t }) h;

@@ -162,7 +162,7 @@ module _ (recs : List AsmRec) (entry : Option RowAt) (roots : List Root) (has : 
   field_needed at f h = in_front f (field_needs recs at) (field_starts recs at) (in_behind f _ (of_parts (parts_of_field recs at)) h)
 
   of_field : (at : RowAt) (rec : AsmRec) (f : FieldRow) → IsTrue (keeps_field_row k recs at) → slice_get recs at.asm ≡ Some rec → slice_get rec.field at.row ≡ Some f → HasParts recs entry roots has m (field_item recs at) at
-  of_field at rec f h s e = record { marks = field_has recs has _ h; is = field_row_of recs at rec s f e; needs = field_needed at }
+  of_field at rec f h s e = record { marks = field_has recs has _ h; is = field_row_of recs at rec s f e; classed = tt; needs = field_needed at }
 
   field_part : (at : RowAt) (rec : AsmRec) (f : FieldRow) (e : TypeExpr) → slice_get recs at.asm ≡ Some rec → slice_get rec.field at.row ≡ Some f → known_then (sig_expr (names_at recs at.asm rec)) f.signature ≡ Good e
       → In (good_part (token_of FIELD (suc at.row)) (type e)) (parts_of_field recs at)

@@ -19,7 +19,7 @@ use Rattle.mark_rules.specs.Naming.Named.{type}
 use Rattle.mark_rules.specs.Shown.{arguments_of_parts, parts_of_item, showing_parts, shown_by_item}
 use Rattle.mark_rules.specs.Marking.{row_needs}
 use Rattle.change_rules.specs.Keeps.{keeps_expr}
-use Rattle.marked_laws.specs.Flags.{HasMarks, keep_of}
+use Rattle.marked_laws.specs.Flags.{HasMarks, HasClass, keep_of}
 use Rattle.marked_laws.proofs.Closing.{mapped_in, in_parts_of, in_arguments_of, part_gives, item_gives_shown}
 use Rattle.marked_laws.proofs.Named.{TypesKept, ArgumentsShown, kept_by_parts, arguments_are_types}
 use Rattle.marked_laws.proofs.Flags.{typ_is, shown_is}
@@ -33,10 +33,11 @@ module _ (recs : List AsmRec) (entry : Option RowAt) (roots : List Root) (has : 
   pub record HasParts (i : Item) (at : RowAt) : Type 0 where
     pub marks : IsTrue (has (marked i))
     pub is : row_of recs i ≡ Some at
+    pub classed : HasClass recs has i at
     pub needs : (f : Fact) → In f (of_parts (parts_of_item recs i at)) → In f (row_needs recs i at)
 
   pub part_marks : (i : Item) (at : RowAt) → HasParts i at → (p : Part) (n : Named) (f : Fact) → In p (parts_of_item recs i at) → p.named ≡ Good n → In f (of_named n) → IsTrue (has f)
-  part_marks i at h p n f q e g = part_gives recs entry roots has m i at f h.marks h.is (in_parts_of (parts_of_item recs i at) p n f q e g)
+  part_marks i at h p n f q e g = part_gives recs entry roots has m i at f h.marks h.is h.classed (in_parts_of (parts_of_item recs i at) p n f q e g)
 
   pub part_types : (i : Item) (at : RowAt) → HasParts i at → (p : Part) (e : TypeExpr) → In p (parts_of_item recs i at) → p.named ≡ Good (type e) → TypesKept (keep_of recs has) e
   part_types i at h p e q is t g = typ_is recs has t (part_marks i at h p (type e) (marked (item.Typ t)) q is (mapped_in (λ t. marked (item.Typ t)) t (types_in e) g))

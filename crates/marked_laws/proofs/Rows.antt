@@ -33,7 +33,7 @@ use Rattle.change_rules.specs.Change.{Keep}
 use Rattle.change_rules.specs.Keeps.{keeps_expr}
 use Rattle.world_change_rules.specs.Places.{keeps_type_row, keeps_method_row}
 use Rattle.world_change_rules.specs.Rows.{kept_interface_of, kept_interfaces_in, kept_interfaces_at}
-use Rattle.marked_laws.specs.Flags.{is_added, HasMarks, keep_of, kept_of}
+use Rattle.marked_laws.specs.Flags.{is_added, OfClass, HasMarks, keep_of, kept_of}
 use Rattle.marked_laws.proofs.Closing.{mapped_in, row_gives}
 use Rattle.marked_laws.proofs.Flags.{typ_has, typ_is, method_has, method_is}
 use Rattle.marked_laws.proofs.Places.{type_row_of, method_row_of, impl_row_of}
@@ -71,6 +71,7 @@ module _ (recs : List AsmRec) (entry : Option RowAt) (roots : List Root) (has : 
   of_type at rec t h s e = record {
     marks = typ_has recs has (type_id recs at.asm at.row) h;
     is = type_row_of recs at rec s t e;
+    classed = tt;
     needs = type_parts_needed at;
   }
 
@@ -113,8 +114,8 @@ module _ (recs : List AsmRec) (entry : Option RowAt) (roots : List Root) (has : 
   unfolding impl_needs
   impl_needed at f h = h
 
-  pub of_impl : (at : RowAt) (rec : AsmRec) (row : InterfaceImplRow) → IsTrue (kept_of recs has at) → slice_get recs at.asm ≡ Some rec → slice_get rec.interface_impl at.row ≡ Some row → HasParts recs entry roots has m (impl_item recs at) at
-  of_impl at rec row h s e = record { marks = h; is = impl_row_of recs at rec s row e; needs = impl_needed at }
+  pub of_impl : (at : RowAt) (rec : AsmRec) (row : InterfaceImplRow) → IsTrue (kept_of recs has at) → OfClass recs has at → slice_get recs at.asm ≡ Some rec → slice_get rec.interface_impl at.row ≡ Some row → HasParts recs entry roots has m (impl_item recs at) at
+  of_impl at rec row h c s e = record { marks = h; is = impl_row_of recs at rec s row e; classed = c; needs = impl_needed at }
 
   impl_part : (at : RowAt) (rec : AsmRec) (row : InterfaceImplRow) → slice_get recs at.asm ≡ Some rec → slice_get rec.interface_impl at.row ≡ Some row
       → In (type_token_part recs at.asm rec (token_of 0x09 (suc at.row)) 0 row.interface) (parts_of_impl recs at)
@@ -137,13 +138,27 @@ module _ (recs : List AsmRec) (entry : Option RowAt) (roots : List Root) (has : 
   if_row o e true i = only_one o e i
   if_row o e false i = absurd i
 
+  of_class : (o : Option TypeExpr) (e : TypeExpr) (b c : Bool) → c ≡ b → In e (if b then only_interface recs o else []) → c ≡ true
+  of_class o e true c same i = same
+  of_class o e false c same i = absurd i
+
   -- a kept row names what is kept
-  pub impl_kept : (a n : ℕ) (rec : AsmRec) (row : InterfaceImplRow) (token : ℕ) (e : TypeExpr) → IsTrue (kept_of recs has (at_row a n)) → slice_get recs a ≡ Some rec → slice_get rec.interface_impl n ≡ Some row
-      → In e (interface_of recs a rec token row) → IsTrue (keeps_expr k e)
-  impl_kept a n rec row token e h s r i =
+  impl_kept : (a n j : ℕ) (rec : AsmRec) (row : InterfaceImplRow) (e : TypeExpr) → IsTrue (kept_of recs has (at_row a n)) → IsTrue (keeps_type_row k recs (at_row a j)) → slice_get recs a ≡ Some rec
+      → slice_get rec.interface_impl n ≡ Some row → In e (interface_of recs a rec (token_of TYPE_DEF (suc j)) row) → IsTrue (keeps_expr k e)
+  impl_kept a n j rec row e h t s r i =
+      let token : ℕ = token_of TYPE_DEF (suc j) in
+      let c : OfClass recs has (at_row a n) = record {
+        rec = rec;
+        there = s;
+        row = row;
+        is = r;
+        class = j;
+        named = of_class (good_type (token_type recs a rec row.interface)) e (is_row_of token row) (row.class == token) refl i;
+        marks = typ_has recs has (type_id recs a j) t;
+      } in
       let p : Part = type_token_part recs a rec (token_of 0x09 (suc n)) 0 row.interface in
       let within : In p (parts_of_impl recs (at_row a n)) = impl_part (at_row a n) rec row s r in
-      part_kept recs entry roots has m (impl_item recs (at_row a n)) (at_row a n) (of_impl (at_row a n) rec row h s r) p e within within
+      part_kept recs entry roots has m (impl_item recs (at_row a n)) (at_row a n) (of_impl (at_row a n) rec row h c s r) p e within within
       (token_named recs a rec (token_of 0x09 (suc n)) 0 row.interface e (good_is (token_type recs a rec row.interface) e (if_row (good_type (token_type recs a rec row.interface)) e (is_row_of token row) i)))
 
   -- the row that gives an item, with its number
@@ -165,26 +180,26 @@ module _ (recs : List AsmRec) (entry : Option RowAt) (roots : List Root) (has : 
   from_row f i [] e h = absurd h
   from_row f i (x ∷ rows) e h = from_by f i x rows e (from_row f (suc i) rows e) (in_parts e (f i x) (each_from f (suc i) rows) h)
 
-  if_kept : (a n : ℕ) (rec : AsmRec) (row : InterfaceImplRow) (token : ℕ) (e : TypeExpr) (b : Bool) → kept_of recs has (at_row a n) ≡ b → slice_get recs a ≡ Some rec → slice_get rec.interface_impl n ≡ Some row
-      → In e (if b then interface_of recs a rec token row else []) → IsTrue (keeps_expr k e)
-  if_kept a n rec row token e true h s r i = impl_kept a n rec row token e h s r i
-  if_kept a n rec row token e false h s r i = absurd i
+  if_kept : (a n j : ℕ) (rec : AsmRec) (row : InterfaceImplRow) (e : TypeExpr) (b : Bool) → kept_of recs has (at_row a n) ≡ b → IsTrue (keeps_type_row k recs (at_row a j)) → slice_get recs a ≡ Some rec
+      → slice_get rec.interface_impl n ≡ Some row → In e (if b then interface_of recs a rec (token_of TYPE_DEF (suc j)) row else []) → IsTrue (keeps_expr k e)
+  if_kept a n j rec row e true h t s r i = impl_kept a n j rec row e h t s r i
+  if_kept a n j rec row e false h t s r i = absurd i
 
-  in_kept_record : (at : RowAt) (rec : AsmRec) (e : TypeExpr) → slice_get recs at.asm ≡ Some rec → In e (kept_interfaces_in recs (kept_of recs has) at rec) → IsTrue (keeps_expr k e)
-  in_kept_record at rec e s i =
+  in_kept_record : (at : RowAt) (rec : AsmRec) (e : TypeExpr) → IsTrue (keeps_type_row k recs at) → slice_get recs at.asm ≡ Some rec → In e (kept_interfaces_in recs (kept_of recs has) at rec) → IsTrue (keeps_expr k e)
+  in_kept_record at rec e t s i =
       let f = from_row (kept_interface_of recs (kept_of recs has) at.asm rec (token_of TYPE_DEF (suc at.row))) 0 rec.interface_impl e i in
       let z : 0 + f.number ≡ f.number = omega arith in
-      if_kept at.asm f.number rec f.row (token_of TYPE_DEF (suc at.row)) e (kept_of recs has (at_row at.asm f.number)) refl s f.there
+      if_kept at.asm f.number at.row rec f.row e (kept_of recs has (at_row at.asm f.number)) refl t s f.there
       (subst (λ (n : ℕ). In e (kept_interface_of recs (kept_of recs has) at.asm rec (token_of TYPE_DEF (suc at.row)) n f.row)) z f.gives)
 
-  in_kept_at : (at : RowAt) (e : TypeExpr) → In e (kept_interfaces_at recs (kept_of recs has) at) → IsTrue (keeps_expr k e)
+  in_kept_at : (at : RowAt) (e : TypeExpr) → IsTrue (keeps_type_row k recs at) → In e (kept_interfaces_at recs (kept_of recs has) at) → IsTrue (keeps_expr k e)
   unfolding kept_interfaces_at
-  in_kept_at at e i =
+  in_kept_at at e t i =
       let f = in_flat (kept_interfaces_in recs (kept_of recs has) at) e (listed (slice_get recs at.asm)) i in
-      in_kept_record at f.0 e (in_listed f.0 (slice_get recs at.asm) f.1) f.2
+      in_kept_record at f.0 e t (in_listed f.0 (slice_get recs at.asm) f.1) f.2
 
-  pub interfaces_kept : (at : RowAt) (e : TypeExpr) → Contains (kept_interfaces_at recs (kept_of recs has) at) e → IsTrue (keeps_expr k e)
-  interfaces_kept at e c = in_kept_at at e (contained (kept_interfaces_at recs (kept_of recs has) at) e c)
+  pub interfaces_kept : (at : RowAt) (e : TypeExpr) → IsTrue (keeps_type_row k recs at) → Contains (kept_interfaces_at recs (kept_of recs has) at) e → IsTrue (keeps_expr k e)
+  interfaces_kept at e t c = in_kept_at at e t (contained (kept_interfaces_at recs (kept_of recs has) at) e c)
 
   -- ---- methods
 

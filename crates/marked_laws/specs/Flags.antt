@@ -1,5 +1,5 @@
 -- What is kept where the marked set is kept: the flags of a change (`change_rules/specs/Change`), by which facts are marked.
-use Rattle.std.specs.Prelude.{◌≡◌, ◌≤◌, ℕ, suc, List, length, Option, Some, slice_get, nat_le, Bool, false, not, ◌==◌, ◌&&◌, ◌||◌, IsTrue}
+use Rattle.std.specs.Prelude.{◌≡◌, ◌≤◌, ℕ, suc, List, length, Option, Some, slice_get, nat_le, Bool, true, false, not, ◌==◌, ◌&&◌, ◌||◌, IsTrue}
 use Rattle.std.specs.List.{Contains, list_any, range_with_len}
 use Rattle.std.specs.Option.{is_some, option_map}
 use Rattle.il_base.specs.declared.ids.TypeId.{TypeId}
@@ -7,8 +7,11 @@ use Rattle.il_base.specs.declared.ids.MethodId.{MethodId}
 use Rattle.il_base.specs.declared.ids.FieldId.{FieldId}
 use Rattle.il_base.specs.declared.ids.Item.{Item}
 use Rattle.il_base.specs.declared.ids.Item.TheVariants as item
+use Rattle.il_base.specs.declared.table.TheConstants.{TYPE_DEF}
 use Rattle.world_model.specs.declared.types.TypeDefRow.{TypeDefRow}
+use Rattle.world_model.specs.declared.types.InterfaceImplRow.{InterfaceImplRow}
 use Rattle.world_model.specs.declared.record.AsmRec.{AsmRec}
+use Rattle.world_model.specs.Tokens.{token_of}
 use Rattle.core_table.specs.declared.types.TheConstants.{TYPES}
 use Rattle.link_rules.specs.declared.row_at.RowAt.{RowAt}
 use Rattle.link_rules.specs.Types.{at_row}
@@ -34,6 +37,21 @@ abbrev pub is_added : List AsmRec → Fact → Bool
 is_added recs (marked (item.Typ t)) = list_any (is_added_row recs) (listed (type_home recs t))
 is_added recs _ = false
 
+-- the type that an interface row is of has its flag (II.22.23)
+pub record OfClass (recs : List AsmRec) (has : Fact → Bool) (at : RowAt) : Type 0 where
+  pub rec : AsmRec
+  pub there : slice_get recs at.asm ≡ Some rec
+  pub row : InterfaceImplRow
+  pub is : slice_get rec.interface_impl at.row ≡ Some row
+  pub class : ℕ
+  pub named : (row.class == token_of TYPE_DEF (suc class)) ≡ true
+  pub marks : IsTrue (has (marks_type recs (at_row at.asm class)))
+
+-- of an interface row; nothing is asked of other items
+abbrev pub HasClass : List AsmRec → (Fact → Bool) → Item → RowAt → Type 0
+HasClass recs has (item.Impl r) at = OfClass recs has at
+HasClass recs has _ at = Unit {0}
+
 -- A flag for each fact, set for those that are given and for what the rules bring of facts whose flags are set. Such a type has its
 -- flag where a part of an item with a flag names it: one that only a MethodImpl row of another class names isn't written.
 pub record HasMarks (recs : List AsmRec) (entry : Option RowAt) (roots : List Root) (has : Fact → Bool) : Type 0 where
@@ -41,7 +59,7 @@ pub record HasMarks (recs : List AsmRec) (entry : Option RowAt) (roots : List Ro
   pub by_one : (a f : Fact) → IsTrue (has a) → Contains (one recs roots a) f → is_added recs f ≡ false → IsTrue (has f)
   pub by_two : (a b f : Fact) → IsTrue (has a) → IsTrue (has b) → Contains (two recs a b) f → is_added recs f ≡ false → IsTrue (has f)
   pub by_three : (a b c f : Fact) → IsTrue (has a) → IsTrue (has b) → IsTrue (has c) → Contains (three recs a b c) f → is_added recs f ≡ false → IsTrue (has f)
-  pub by_part : (i : Item) (at : RowAt) (f : Fact) → IsTrue (has (marked i)) → row_of recs i ≡ Some at → Contains (of_parts (parts_of_item recs i at)) f → IsTrue (has f)
+  pub by_part : (i : Item) (at : RowAt) (f : Fact) → IsTrue (has (marked i)) → row_of recs i ≡ Some at → HasClass recs has i at → Contains (of_parts (parts_of_item recs i at)) f → IsTrue (has f)
   -- a method's type
   pub by_owner : (at owner : RowAt) → IsTrue (has (marks_method recs at)) → row_of recs (method_item recs at) ≡ Some at → type_of_method recs at ≡ Some owner → IsTrue (has (marks_type recs owner))
 

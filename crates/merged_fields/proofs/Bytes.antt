@@ -207,7 +207,7 @@ module _ (m : Merge) (is : IsMerge m) (at : RowAt) (h : Input m fields_in number
   own_give [] tables = refl
   own_give (row ∷ rows) tables =
       let yes : has token (kept_token at.asm row.field) ≡ nat_eq row.field own =
-          ap (has token) (token_is at.asm row.field (tables 0 row refl)) ∙ own_by at.asm row.field (row.field % 16777216) refl (tables 0 row refl) refl in
+      ap (has token) (token_is at.asm row.field (tables 0 row refl)) ∙ own_by at.asm row.field (row.field % 16777216) refl (tables 0 row refl) refl in
       let more = own_give rows (λ k r e. tables (suc k) r e) in
       λ i. (if yes i then row.bytes ∷ [] else []) ++ more i
 

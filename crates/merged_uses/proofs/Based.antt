@@ -1,5 +1,5 @@
 -- In a merge's inputs bases and System.Array are definitions that stand in their tables.
-use Rattle.std.proofs.Common.{◌≡◌, ◌<◌, ◌≤◌, ℕ, zero, suc, ◌+◌, ◌-◌, Bool, true, false, List, [], ◌∷◌, ◌++◌, length, map, Option, Some, None, ◌⊎◌, inl, inr, refl, sym, ap, subst, ◌∙◌, arith}
+use Rattle.std.proofs.Common.{◌≡◌, ◌<◌, ◌≤◌, ℕ, zero, suc, ◌-◌, Bool, true, false, List, [], ◌∷◌, ◌++◌, length, map, Option, Some, None, ◌⊎◌, inl, inr, refl, sym, ap, subst, ◌∙◌, arith}
 use Rattle.std.specs.Prelude.{slice_get, ◌==◌, ◌||◌, if◌then◌else◌}
 use Rattle.std.specs.List.{list_all}
 use Rattle.std.specs.Option.{option_map, option_and_then}
@@ -14,9 +14,8 @@ use Rattle.world_model.specs.declared.expr.TypeExpr.TheVariants as expr
 use Rattle.world_model.specs.declared.types.TypeDefRow.{TypeDefRow}
 use Rattle.world_model.specs.declared.record.AsmRec.{AsmRec}
 use Rattle.world_model.specs.Tokens.{index_in}
-use Rattle.world_model.specs.Worlds.{types_in, type_id, core_types, prim_of, prims}
+use Rattle.world_model.specs.Worlds.{type_id, core_types, prim_of, prims}
 use Rattle.core_table.specs.declared.tokens.TheConstants.{ARRAY}
-use Rattle.core_table.specs.declared.types.TheConstants.{TYPE_COUNT}
 use Rattle.core_table.specs.Names.{text_of}
 use Rattle.core_table.specs.Record.{core_record, record_with, type_rows, type_row}
 use Rattle.link_rules.specs.declared.core_type_name.CoreTypeName.{CoreTypeName}
@@ -35,7 +34,7 @@ use Rattle.merged_signatures.proofs.Agreeing.{good_token}
 use Rattle.merged_rows_move.proofs.Bases.{Own, own_token, named_own}
 use Rattle.merged_rows_move.proofs.Core.{types_before, types_more}
 use Rattle.merged_uses.proofs.Leaves.{alone, All}
-use Rattle.merged_uses.proofs.Sound.{IsAlone, Ok, def_is, expr_ok, token_ok}
+use Rattle.merged_uses.proofs.Sound.{Ok, def_is, expr_ok, token_ok}
 
 -- ---- what rows of the core library extend is of its table
 

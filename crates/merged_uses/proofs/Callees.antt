@@ -1,75 +1,48 @@
 -- A method that a token names is named, moved, by the token that its key has in the output.
-use Rattle.std.proofs.Common.{◌≡◌, ◌<◌, ◌≤◌, ℕ, zero, suc, ◌+◌, Bool, true, false, nat_lt, List, [], ◌∷◌, ◌++◌, length, map, Option, Some, None, ◌⊎◌, inl, inr, refl, sym, ap, subst, ◌∙◌, ◌&&◌, ◌||◌, arith}
-use Rattle.std.specs.Prelude.{IsTrue, Contains, slice_get, ◌==◌, if◌then◌else◌}
-use Rattle.std.specs.List.{list_any, flat_map}
-use Rattle.std.specs.Option.{option_map, option_and_then, is_some}
-use Rattle.std.proofs.lemmas.Bool.{eq-eqb, ne_eqb, and_parts, cases_lt, ltb-true, eqb-true}
-use Rattle.std.proofs.lemmas.List.{append-nil}
+use Rattle.std.proofs.Common.{◌≡◌, ◌<◌, ℕ, suc, Bool, true, false, List, [], length, Option, Some, None, ◌⊎◌, inl, inr, refl, sym, ap, subst, ◌∙◌, ◌||◌}
+use Rattle.std.specs.Prelude.{IsTrue, slice_get, ◌==◌}
+use Rattle.std.specs.List.{list_any}
+use Rattle.std.specs.Option.{option_and_then, is_some}
+use Rattle.std.proofs.lemmas.Bool.{eqb-true}
 use Rattle.il_base.specs.declared.ids.TypeId.{TypeId}
-use Rattle.il_base.specs.declared.ids.MethodId.{MethodId}
-use Rattle.il_base.specs.declared.ids.Item.{Item}
 use Rattle.il_base.specs.declared.ids.Item.TheVariants as item
-use Rattle.il_base.specs.declared.sig.Sig.{Sig}
-use Rattle.il_base.specs.declared.sig.MethodSig.{MethodSig}
-use Rattle.il_base.specs.declared.table.TheConstants.{METHOD_DEF, MEMBER_REF}
-use Rattle.world_model.specs.declared.known.Known.{Known}
-use Rattle.world_model.specs.declared.known.Known.TheVariants.{Good, Bad}
-use Rattle.world_model.specs.declared.known.BadKind.TheVariants.{Unresolved}
-use Rattle.world_model.specs.declared.expr.TypeExpr.{TypeExpr, out-TypeExpr}
-use Rattle.world_model.specs.declared.expr.TypeExpr.TheVariants as expr
+use Rattle.world_model.specs.declared.known.Known.TheVariants.{Good}
+use Rattle.world_model.specs.declared.expr.TypeExpr.{TypeExpr}
 use Rattle.world_model.specs.declared.expr.MethodUse.{MethodUse}
-use Rattle.world_model.specs.declared.expr.MemberSig.TheVariants as member
-use Rattle.world_model.specs.declared.types.TypeDefRow.{TypeDefRow}
 use Rattle.world_model.specs.declared.members.MethodDefRow.{MethodDefRow}
-use Rattle.world_model.specs.declared.members.MemberRefRow.{MemberRefRow}
 use Rattle.world_model.specs.declared.record.AsmRec.{AsmRec}
-use Rattle.world_model.specs.Tokens.{table_of, index_in}
-use Rattle.world_model.specs.Exprs as exprs
-use Rattle.world_model.specs.Exprs.{levels}
-use Rattle.world_model.specs.Worlds.{known_map, known_then, rows_before, types_in, type_id}
+use Rattle.world_model.specs.Worlds.{types_in}
 use Rattle.link_rules.specs.declared.row_at.RowAt.{RowAt}
 use Rattle.link_rules.specs.declared.member_type.MethodType.{MethodType}
-use Rattle.link_rules.specs.Types.{at_row}
-use Rattle.link_rules.specs.Signatures.{definition_expr, names_at, token_type, method_type}
 use Rattle.link_rules.specs.Members.{type_home, owner_of, args_of, methods_in, Found, find_method, method_of_type, most_levels, method_use, param_count, own_type, with_own_args, owns_method}
 use Rattle.link_rules.specs.Members as link
 use Rattle.link_rules.specs.Cycles.{listed, home_of}
-use Rattle.type_rules.specs.Rows.{rec_at, type_row_at, methods_of_type}
+use Rattle.type_rules.specs.Rows.{methods_of_type}
 use Rattle.type_rules.specs.Slots.{method_row_at, type_of_method, type_of_row}
 use Rattle.mark_rules.specs.Places.{is_core, row_of}
-use Rattle.merge_rules.specs.Numbers.{kept_types, new_row}
-use Rattle.merge_rules.specs.Keys.{MethodKey, own_method, found_method, absent_method, is_bare_in, is_plain_input, is_plain_owner, method_key_of}
-use Rattle.merge_rules.specs.Order.{Met}
-use Rattle.merge_rules.specs.Refs.{MemberKey, a_method, types_of_owner, types_of_method, types_of_met, spec_of_method, specs_of_met, member_of_method, members_of_met, method_at, method_token}
+use Rattle.merge_rules.specs.Numbers.{kept_types}
 use Rattle.change_rules.specs.Change.{Keep}
-use Rattle.change_rules.specs.Moves.{move_expr, move_use}
 use Rattle.query_laws.specs.Laws.{first_at}
-use Rattle.type_laws.proofs.Within.{In, in_front, in_behind}
-use Rattle.world_change_rules.specs.Places.{type_number, method_number, keeps_type_row, keeps_method_row}
+use Rattle.world_change_rules.specs.Places.{keeps_type_row, keeps_method_row}
 use Rattle.marked_code_laws.proofs.Owners.{looked_up}
 use Rattle.closed_laws.proofs.Runs.{methods_apart}
-use Rattle.merged_world_rules.specs.Merge.{Merge, IsMerge, before, after, output}
+use Rattle.merged_world_rules.specs.Merge.{Merge, IsMerge, before}
 use Rattle.merged_world_rules.specs.Numbering.{number_at}
-use Rattle.merged_world_rules.specs.NewNumbers.{type_core, rho_of, places_of}
-use Rattle.merged_places.proofs.Rows.{IsThere, place_within, place_has, there_home, home_there, home_number}
+use Rattle.merged_world_rules.specs.NewNumbers.{type_core}
+use Rattle.merged_places.proofs.Rows.{place_has, there_home, home_there, home_number}
 use Rattle.merged_places.proofs.Kept.{kept_at}
 use Rattle.merged_places.proofs.Numbers.{new_row_at}
 use Rattle.merged_places.proofs.Tables.{number_type}
 use Rattle.merged_places.proofs.Whole.{there_row}
 use Rattle.merged_references.specs.Written.{IsWritten, kept_type, core_type}
-use Rattle.merged_references.proofs.Lists.{contains}
 use Rattle.merged_signatures.specs.Laws.{IsThere as IsTypeThere}
-use Rattle.marked_merge_rules.specs.Reads.{method_of_key, members_met}
 use Rattle.merged_uses.specs.Laws.{Reads}
 use Rattle.merged_uses.proofs.Leaves.{All}
-use Rattle.merged_uses.proofs.Owners.{Shape, a_prim, a_definition, an_instance, put_shape, put_owner, prim_owner, def_owner, inst_owner, Fit, Looked, looked}
+use Rattle.merged_uses.proofs.Owners.{Shape, put_shape, put_owner, looked}
 use Rattle.merged_uses.proofs.Sound.{Ok, token_ok}
 use Rattle.merged_uses.proofs.Based.{array_ok, base_ok}
-use Rattle.merged_uses.proofs.Parents.{OwnerMet, owner_type}
-use Rattle.merged_uses.proofs.Matches.{first_passes, fits, method_is, Fits, fits_from, first_own}
-use Rattle.merged_uses.proofs.Searches.{used_again}
-use Rattle.merged_uses.proofs.Own.{map_from, own_reads}
-use Rattle.merged_uses.proofs.Uses.{Used, ByReference, ByRow, ByToken, own_row, reference}
+use Rattle.merged_uses.proofs.Matches.{first_passes, fits, method_is, fits_from, first_own}
+use Rattle.merged_uses.proofs.Uses.{ByReference}
 
 pub then_from : {A B : Type 0} (f : A → Option B) (o : Option A) (y : B) → option_and_then f o ≡ Some y → (x : A) × (o ≡ Some x) × (f x ≡ Some y)
 then_from f None y e = absurd (cc)

@@ -1,5 +1,5 @@
 -- The signature of a method of the core library, written with the output's tokens, is read as it was, moved.
-use Rattle.std.proofs.Common.{◌≡◌, ◌<◌, ℕ, zero, suc, Bool, true, false, List, [], ◌∷◌, ◌++◌, length, map, Option, Some, None, inl, inr, refl, sym, ap, subst, ◌∙◌, ◌&&◌, arith}
+use Rattle.std.proofs.Common.{◌≡◌, ℕ, zero, suc, Bool, true, false, List, [], ◌∷◌, ◌++◌, length, map, Some, inl, refl, sym, ap, subst, ◌∙◌, ◌&&◌, arith}
 use Rattle.std.specs.Prelude.{slice_get}
 use Rattle.std.specs.List.{list_all, flat_map}
 use Rattle.std.proofs.lemmas.Bool.{and_parts}
@@ -15,7 +15,7 @@ use Rattle.world_model.specs.declared.expr.TypeExpr.{TypeExpr}
 use Rattle.world_model.specs.declared.expr.TypeExpr.TheVariants as expr
 use Rattle.world_model.specs.declared.members.MethodDefRow.{MethodDefRow}
 use Rattle.world_model.specs.declared.record.AsmRec.{AsmRec}
-use Rattle.world_model.specs.Worlds.{Names, known_map, known_then, all_known, named_in, sig_layer, sig_expr}
+use Rattle.world_model.specs.Worlds.{Names, known_map, known_then, all_known, sig_layer, sig_expr}
 use Rattle.core_table.specs.declared.shape.CoreMethod.{CoreMethod}
 use Rattle.core_table.specs.declared.shape.CoreParams.{CoreParams}
 use Rattle.core_table.specs.declared.shape.CoreParams.TheVariants.{Zero, One, Two, Three, Four}
@@ -32,17 +32,17 @@ use Rattle.link_rules.specs.Types.{at_row}
 use Rattle.link_rules.specs.Members.{type_home}
 use Rattle.link_rules.specs.Signatures.{definition_expr, named_type, names_at, method_type_of, method_type}
 use Rattle.merge_rules.specs.Keys.{number_of, absent_number, found_or, class_number, world_layer, world_sig, world_method_sig}
-use Rattle.merge_rules.specs.Refs.{numbers_layer, numbers_in, types_of_sig, type_of_number, type_token, number_token, new_sig_layer, new_sig, new_method_sig}
+use Rattle.merge_rules.specs.Refs.{numbers_layer, numbers_in, types_of_sig, type_of_number, type_token, new_sig_layer, new_sig, new_method_sig}
 use Rattle.merge_rules.specs.Restricted.{output_of}
 use Rattle.change_rules.specs.Moves.{move_expr, move_exprs}
 use Rattle.change_laws.proofs.Exprs.{move_prim}
 use Rattle.world_change_rules.specs.Rows.{move_method_type, is_table_type}
-use Rattle.type_laws.proofs.Within.{In, in_front, in_behind, flat_in}
+use Rattle.type_laws.proofs.Within.{In, in_front, in_behind}
 use Rattle.merged_world_rules.specs.Merge.{Merge, IsMerge, before, output}
 use Rattle.merged_world_rules.specs.NewNumbers.{rho_of}
 use Rattle.merged_places.proofs.Worlds.{core_of}
 use Rattle.merged_rows_move.proofs.Core.{types_more}
-use Rattle.merged_rows_move.proofs.Bases.{Own, own_token, named_own}
+use Rattle.merged_rows_move.proofs.Bases.{own_token, named_own}
 use Rattle.merged_references.specs.Written.{HasReferenceRows}
 use Rattle.merged_references.proofs.Merges as merges
 use Rattle.merged_references.proofs.Merges.{premises, number_is}

@@ -1,19 +1,18 @@
 -- The tokens of definitions that the output has name them, moved.
-use Rattle.std.proofs.Common.{◌≡◌, ◌<◌, ℕ, zero, suc, ◌-◌, get_or, Bool, true, false, List, [], ◌∷◌, length, map, Option, Some, None, ◌⊎◌, inl, inr, refl, sym, ap, subst, ◌∙◌, arith}
-use Rattle.std.specs.Prelude.{slice_get, position, Contains, ◌==◌, if◌then◌else◌}
+use Rattle.std.proofs.Common.{◌≡◌, ◌<◌, ℕ, zero, suc, ◌-◌, get_or, Bool, true, List, [], ◌∷◌, length, map, Option, Some, None, ◌⊎◌, inl, inr, refl, sym, ap, subst, ◌∙◌, arith}
+use Rattle.std.specs.Prelude.{slice_get, position, if◌then◌else◌}
 use Rattle.std.specs.Option.{option_map, option_and_then}
 use Rattle.std.proofs.lemmas.Bool.{eq-eqb, eqb-true}
 use Rattle.std.proofs.lemmas.List.Quantifiers.{position-Some}
 use Rattle.il_base.specs.declared.ids.TypeId.{TypeId}
 use Rattle.world_model.specs.declared.known.Known.{Known}
 use Rattle.world_model.specs.declared.known.Known.TheVariants.{Good}
-use Rattle.world_model.specs.declared.expr.TypeExpr.{TypeExpr, out-TypeExpr}
+use Rattle.world_model.specs.declared.expr.TypeExpr.{TypeExpr}
 use Rattle.world_model.specs.declared.expr.TypeExpr.TheVariants as expr
 use Rattle.world_model.specs.declared.types.TypeDefRow.{TypeDefRow}
 use Rattle.world_model.specs.declared.record.AsmRec.{AsmRec}
 use Rattle.world_model.specs.Core.{is_code}
 use Rattle.world_model.specs.Worlds.{known_then, type_id, core_types, prim_of, is_code_of, prim_type, known_type, named_in, definition_in, definition_of, definition_named, found_or_named, modifier_named}
-use Rattle.core_table.specs.declared.types.TheConstants.{TYPE_COUNT}
 use Rattle.core_table.specs.Record.{core_record}
 use Rattle.link_rules.specs.declared.row_at.RowAt.{RowAt}
 use Rattle.link_rules.specs.CoreNames.{added_row}
@@ -30,9 +29,8 @@ use Rattle.merged_world_rules.specs.Merge.{Merge, IsMerge, before, names_before,
 use Rattle.merged_world_rules.specs.NewNumbers.{rho_of}
 use Rattle.query_laws.proofs.Prims.{prim_first}
 use Rattle.merged_places.proofs.Rows.{place_has, get_front}
-use Rattle.merged_places.proofs.Worlds.{core_of, before_length, core_at, before_types}
+use Rattle.merged_places.proofs.Worlds.{before_length}
 use Rattle.merged_references.specs.Written.{HasReferenceRows}
-use Rattle.merged_references.proofs.Core.{count}
 use Rattle.merged_references.proofs.Found.{Stands, Names, Added, first_stands}
 use Rattle.merged_references.proofs.Merges as merges
 use Rattle.merged_references.proofs.Merges.{premises, number_is}
@@ -176,10 +174,11 @@ module _ (m : Merge) (is : IsMerge m) where
     named_by at t n h w =
         let k = keys.key_of m.internal m.inputs (merges.names m is rows) (merges.those m is rows) m.kept (output m).mets m.left (premises m is rows) (rho_of m) (number_is m is rows) at n in
         let same : k.t ≡ t = one_type k.t t (definition_of (prim_type (before m)) (definition_expr (before m) at)) k.defined h in
-        let w' : Has m is rows k.t = subst (Has m is rows) (sym same) w in
-        (ap (λ (u : TypeId). named_type here 0 m.left (type_token (output m) u)) (sym same) ∙ k.token_names w',
-         k.moved ∙ ap (λ (u : TypeId). Good (move_type (rho_of m) u)) same,
-         ap (λ (u : TypeId). added_by here 0 m.left (type_token (output m) u)) (sym same) ∙ k.none w')
+        let w' : Has m is rows k.t = subst (Has m is rows) (sym same) w in (
+          ap (λ (u : TypeId). named_type here 0 m.left (type_token (output m) u)) (sym same) ∙ k.token_names w',
+          k.moved ∙ ap (λ (u : TypeId). Good (move_type (rho_of m) u)) same,
+          ap (λ (u : TypeId). added_by here 0 m.left (type_token (output m) u)) (sym same) ∙ k.none w',
+        )
 
     pub named_token : (at : RowAt) (t : TypeId) → Names (before m) at → definition_of (prim_type (before m)) (definition_expr (before m) at) ≡ Good t → Has m is rows t
         → named_type here 0 m.left (type_token (output m) t) ≡ Good (move_expr (rho_of m) (definition_expr (before m) at))

@@ -1,7 +1,7 @@
 -- The field that a reference of an input names: where it is, and that it is the first there of its own name and type.
-use Rattle.std.proofs.Common.{◌≡◌, ◌<◌, ℕ, suc, Bool, true, false, nat_lt, List, [], length, Option, Some, None, ◌⊎◌, inl, inr, refl, sym, ap, subst, ◌∙◌, ◌||◌}
+use Rattle.std.proofs.Common.{◌≡◌, ◌<◌, ℕ, suc, Bool, true, List, [], length, Option, Some, ◌⊎◌, inl, inr, sym, ap, subst, ◌∙◌, ◌||◌}
 use Rattle.std.specs.Prelude.{IsTrue, slice_get, ◌==◌}
-use Rattle.std.specs.Option.{option_map, option_and_then}
+use Rattle.std.specs.Option.{option_and_then}
 use Rattle.std.proofs.lemmas.Bool.{eqb-true}
 use Rattle.il_base.specs.declared.ids.TypeId.{TypeId}
 use Rattle.il_base.specs.declared.ids.Item.TheVariants as item

@@ -1,5 +1,5 @@
 -- A field that a token of an input names is named, moved, by its token in the output.
-use Rattle.std.proofs.Common.{◌≡◌, ◌<◌, ◌≤◌, ℕ, zero, suc, ◌+◌, Bool, true, false, nat_lt, List, [], ◌∷◌, ◌++◌, length, map, Option, Some, None, ◌⊎◌, inl, inr, refl, sym, ap, subst, ◌∙◌, ◌&&◌, ◌||◌, arith}
+use Rattle.std.proofs.Common.{◌≡◌, ◌<◌, ℕ, suc, Bool, true, false, nat_lt, List, [], ◌∷◌, length, map, Option, Some, None, inl, inr, refl, sym, ap, subst, ◌∙◌, ◌&&◌, ◌||◌, arith}
 use Rattle.std.specs.Prelude.{IsTrue, Contains, slice_get, ◌==◌, if◌then◌else◌}
 use Rattle.std.specs.List.{list_any, flat_map, position_from}
 use Rattle.std.specs.Option.{option_map, option_and_then}
@@ -7,7 +7,6 @@ use Rattle.std.proofs.lemmas.Bool.{eqb-true, ne_eqb, ltb-true, and_parts, cases_
 use Rattle.std.proofs.lemmas.List.{append-nil}
 use Rattle.il_base.specs.declared.ids.TypeId.{TypeId}
 use Rattle.il_base.specs.declared.ids.FieldId.{FieldId}
-use Rattle.il_base.specs.declared.ids.Item.{Item}
 use Rattle.il_base.specs.declared.ids.Item.TheVariants as item
 use Rattle.il_base.specs.declared.sig.Sig.{Sig}
 use Rattle.il_base.specs.declared.sig.Sig.TheVariants as signature
@@ -26,16 +25,15 @@ use Rattle.world_model.specs.Exprs.{levels}
 use Rattle.world_model.specs.Worlds.{known_map, known_then, types_in, type_id, prim_type, sig_expr}
 use Rattle.link_rules.specs.declared.row_at.RowAt.{RowAt}
 use Rattle.link_rules.specs.Types.{at_row}
-use Rattle.link_rules.specs.Signatures.{definition_expr, names_at, token_type}
-use Rattle.link_rules.specs.Members.{type_home, owner_of, fields_in, Found, find_field, most_levels, field_use, param_count, own_type, with_own_args, owns_field}
+use Rattle.link_rules.specs.Signatures.{definition_expr, names_at}
+use Rattle.link_rules.specs.Members.{type_home, owner_of, fields_in, most_levels, param_count, own_type, with_own_args, owns_field}
 use Rattle.link_rules.specs.Cycles.{listed}
 use Rattle.type_rules.specs.Rows.{rec_at, field_row_at}
 use Rattle.mark_rules.specs.Naming.{field_named}
-use Rattle.mark_rules.specs.Places.{is_core}
 use Rattle.merge_rules.specs.Keys.{FieldKey, own_field, found_field, is_bare_in, is_plain_input, is_plain_owner, good, field_key_of, field_key, world_sig}
 use Rattle.merge_rules.specs.Order.{Met, met_field, met_field_token}
 use Rattle.merge_rules.specs.Moved.{token_or_none, moved_sig, moved_field}
-use Rattle.merge_rules.specs.Refs.{a_field, known_list, own_field_sig, types_of_owner, types_of_sig, types_of_sigs, types_of_field, types_of_met, spec_of_field, specs_of_met, member_of_field, members_of_met, field_at, member_ref_row, member_token, field_token, new_sig, parent_token, field_name}
+use Rattle.merge_rules.specs.Refs.{a_field, known_list, own_field_sig, types_of_owner, types_of_sig, types_of_sigs, types_of_field, types_of_met, spec_of_field, specs_of_met, member_of_field, members_of_met, field_at, member_ref_row, field_token, new_sig, parent_token, field_name}
 use Rattle.merge_rules.specs.Restricted.{output_of}
 use Rattle.change_rules.specs.Change.{Keep}
 use Rattle.change_rules.specs.Moves.{move_expr, move_field_use}
@@ -49,8 +47,6 @@ use Rattle.merged_places.proofs.Rows.{place_within, there_home, home_number}
 use Rattle.merged_places.proofs.Worlds.{core_of, core_rec, before_fields}
 use Rattle.merged_references.proofs.Lists.{contains, contained}
 use Rattle.merged_references.proofs.Merges.{after_is}
-use Rattle.merged_signatures.proofs.Merges as signatures
-use Rattle.merged_signatures.proofs.Merges.{Has, has}
 use Rattle.merged_signatures.proofs.Reading.{good_then}
 use Rattle.marked_merge_rules.specs.Reads.{AreMet, field_of_key, members_met}
 use Rattle.merged_uses.specs.Laws.{Reads}
@@ -60,7 +56,7 @@ use Rattle.merged_uses.proofs.Parents.{OwnerMet, owner_type, parent_names}
 use Rattle.merged_uses.proofs.FieldSearches.{used_again}
 use Rattle.merged_uses.proofs.FieldOwn.{own_reads}
 use Rattle.merged_uses.proofs.Own.{plain_def}
-use Rattle.merged_uses.proofs.FieldUses.{Used, ByReference, ByRow, ByToken, own_row, reference, by_token}
+use Rattle.merged_uses.proofs.FieldUses.{ByReference, ByRow, ByToken, own_row, reference, by_token}
 use Rattle.merged_uses.proofs.CoreSigs.{prim_moves, prim_types}
 use Rattle.merged_uses.proofs.FieldSigs.{core_prim}
 use Rattle.merged_uses.proofs.FieldMatches.{type_of_field}

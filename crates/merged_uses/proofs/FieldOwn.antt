@@ -1,9 +1,9 @@
 -- A field of an input that is named by its own row is named so in the output.
-use Rattle.std.proofs.Common.{◌≡◌, ◌<◌, ◌≤◌, ℕ, zero, suc, ◌+◌, Bool, true, false, nat_lt, nat_le, List, [], ◌∷◌, length, map, Option, Some, None, inl, inr, refl, sym, ap, subst, ◌∙◌, arith}
+use Rattle.std.proofs.Common.{◌≡◌, ◌<◌, ℕ, zero, suc, Bool, true, false, nat_lt, nat_le, length, Option, Some, None, sym, ap, ◌∙◌, arith}
 use Rattle.std.specs.Prelude.{IsTrue, slice_get, ◌==◌, if◌then◌else◌}
 use Rattle.std.specs.List.{position_from}
 use Rattle.std.specs.Option.{option_map, option_and_then}
-use Rattle.std.proofs.lemmas.Bool.{eq-eqb, ne_eqb, lt-ltb, le-leb, and_from}
+use Rattle.std.proofs.lemmas.Bool.{ne_eqb, lt-ltb, le-leb, and_from}
 use Rattle.il_base.specs.declared.table.TheConstants.{FIELD, MEMBER_REF}
 use Rattle.world_model.specs.declared.known.Known.TheVariants.{Good}
 use Rattle.world_model.specs.declared.expr.TypeExpr.{TypeExpr}
@@ -19,11 +19,11 @@ use Rattle.link_rules.specs.declared.row_at.RowAt.{RowAt}
 use Rattle.link_rules.specs.Types.{at_row}
 use Rattle.link_rules.specs.Signatures.{definition_expr}
 use Rattle.link_rules.specs.Members.{fields_in, own_args, most_levels, field_use, param_count, with_own_args, own_type, owns_field, own_member, field_def_use}
-use Rattle.type_rules.specs.Rows.{field_row_at, owner_of_field}
+use Rattle.type_rules.specs.Rows.{field_row_at}
 use Rattle.mark_rules.specs.Naming.{field_def_at, field_ref_at, field_named}
 use Rattle.merge_rules.specs.Numbers.{kept_types, kept_fields, new_row}
 use Rattle.merge_rules.specs.Keys.{own_field}
-use Rattle.merge_rules.specs.Refs.{row_token, field_at, kept_token, field_token}
+use Rattle.merge_rules.specs.Refs.{row_token, kept_token, field_token}
 use Rattle.merge_rules.specs.Restricted.{output_of}
 use Rattle.change_rules.specs.Change.{Keep}
 use Rattle.change_rules.specs.Moves.{move_expr}
@@ -48,7 +48,7 @@ use Rattle.merged_places.proofs.Whole.{undone_of, places_move}
 use Rattle.merged_rows_move.proofs.Params.{params_move}
 use Rattle.merged_uses.specs.Laws.{Reads}
 use Rattle.merged_uses.proofs.Signed.{levels_moved}
-use Rattle.merged_uses.proofs.Own.{map_from, own_moved, plain_def}
+use Rattle.merged_uses.proofs.Own.{own_moved, plain_def}
 use Rattle.merged_uses.proofs.Impls.{at_in}
 use Rattle.merged_uses.proofs.FieldOwners.{owner_before, owner_after}
 use Rattle.merged_uses.proofs.FieldSearches.{use_of}

@@ -1,7 +1,6 @@
 -- The type that has a kept field is the one that it had: no field is in the runs of two types (II.22.37).
-use Rattle.std.proofs.Common.{◌≡◌, ◌<◌, ◌≤◌, ℕ, zero, suc, ◌+◌, ◌-◌, Bool, true, nat_le, nat_lt, List, [], ◌∷◌, length, Option, Some, None, refl, sym, ap, subst, ◌∙◌, arith}
-use Rattle.std.specs.Prelude.{slice_get, ◌&&◌}
-use Rattle.std.specs.List.{position_from}
+use Rattle.std.proofs.Common.{◌≡◌, ◌≤◌, ℕ, zero, suc, ◌+◌, ◌-◌, Bool, true, nat_le, nat_lt, [], ◌∷◌, length, Some, refl, ap, subst, ◌∙◌, arith}
+use Rattle.std.specs.Prelude.{slice_get}
 use Rattle.std.proofs.lemmas.Bool.{lt-ltb, le-leb, leb-true, ltb-true, and_parts, and_from}
 use Rattle.il_base.specs.declared.table.TheConstants.{FIELD}
 use Rattle.world_model.specs.declared.types.TypeDefRow.{TypeDefRow}
@@ -18,7 +17,7 @@ use Rattle.merge_rules.specs.Numbers.{kept_fields}
 use Rattle.merge_rules.specs.Moved.{moved_type_row}
 use Rattle.merge_rules.specs.Restricted.{output_of}
 use Rattle.closed_laws.proofs.Runs.{fields_apart}
-use Rattle.merged_world_rules.specs.Merge.{Merge, before, after, output, IsMerge}
+use Rattle.merged_world_rules.specs.Merge.{Merge, before, output, IsMerge}
 use Rattle.merged_world_rules.specs.Numbering.{number_at}
 use Rattle.merged_places.proofs.Ranks.{rank, rank_kept, rank_rises}
 use Rattle.merged_places.proofs.Rows.{IsThere, place_within}

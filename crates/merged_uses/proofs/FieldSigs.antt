@@ -1,11 +1,10 @@
 -- The type of a kept field moves with it; the one field of the core library has a primitive.
-use Rattle.std.proofs.Common.{◌≡◌, ◌<◌, ℕ, zero, suc, Bool, true, false, List, [], ◌∷◌, ◌++◌, length, map, Option, Some, None, inl, inr, refl, sym, ap, ◌∙◌}
+use Rattle.std.proofs.Common.{◌≡◌, ℕ, zero, suc, Bool, true, false, List, [], ◌∷◌, ◌++◌, Option, Some, None, inl, inr, refl, sym, ap, ◌∙◌}
 use Rattle.std.specs.Prelude.{IsTrue, slice_get}
 use Rattle.std.specs.List.{list_all}
 use Rattle.std.specs.Option.{option_map, option_and_then}
 use Rattle.std.proofs.lemmas.Bool.{and_parts}
-use Rattle.il_base.specs.declared.sig.Sig.{Sig, roll-Sig, fold-roll-Sig}
-use Rattle.il_base.specs.declared.sig.Sig.TheFolds.{map-Sig}
+use Rattle.il_base.specs.declared.sig.Sig.{Sig, fold-roll-Sig}
 use Rattle.il_base.specs.declared.sig.Sig.TheOpen.{Sig-F}
 use Rattle.il_base.specs.declared.sig.Sig.TheVariants as sig
 use Rattle.world_model.specs.declared.known.Known.{Known}
@@ -36,7 +35,7 @@ use Rattle.merged_world_rules.specs.Merge.{Merge, IsMerge, before, after, output
 use Rattle.merged_world_rules.specs.Numbering.{number_at}
 use Rattle.merged_world_rules.specs.NewNumbers.{rho_of, places_of}
 use Rattle.merged_places.proofs.Ranks.{rank}
-use Rattle.merged_places.proofs.Rows.{IsThere, place_has, place_past}
+use Rattle.merged_places.proofs.Rows.{place_has, place_past}
 use Rattle.merged_places.proofs.Kept.{keeps}
 use Rattle.merged_places.proofs.Worlds.{core_of, left_core, after_left, after_core, core_rec, core_at, before_fields}
 use Rattle.merged_places.proofs.CoreTables.{field_same}

@@ -1,11 +1,10 @@
 -- What a token of an input that names a field is: a row of its own, or a reference.
-use Rattle.std.proofs.Common.{◌≡◌, ◌<◌, ◌+◌, ℕ, suc, Bool, true, false, nat_lt, List, [], Option, Some, None, refl, sym, ap, subst, ◌∙◌}
+use Rattle.std.proofs.Common.{◌≡◌, ◌<◌, ◌+◌, ℕ, suc, Bool, true, false, nat_lt, List, Option, Some, None, refl, sym, subst}
 use Rattle.std.specs.Prelude.{slice_get, ◌==◌, if◌then◌else◌}
 use Rattle.std.specs.List.{position_from}
-use Rattle.std.specs.Option.{option_map, option_and_then}
+use Rattle.std.specs.Option.{option_and_then}
 use Rattle.std.proofs.lemmas.Bool.{ltb-true}
 use Rattle.il_base.specs.declared.table.TheConstants.{FIELD, MEMBER_REF}
-use Rattle.world_model.specs.declared.known.Known.{Known}
 use Rattle.world_model.specs.declared.known.Known.TheVariants.{Good, Bad}
 use Rattle.world_model.specs.declared.known.BadKind.TheVariants.{Unresolved, Outside}
 use Rattle.world_model.specs.declared.expr.TypeExpr.{TypeExpr}
@@ -17,7 +16,6 @@ use Rattle.world_model.specs.declared.record.AsmRec.{AsmRec}
 use Rattle.world_model.specs.Tokens.{table_of, index_in}
 use Rattle.world_model.specs.Exprs.{levels}
 use Rattle.world_model.specs.Worlds.{known_then, rows_before, row_below, sig_expr}
-use Rattle.link_rules.specs.declared.row_at.RowAt.{RowAt}
 use Rattle.link_rules.specs.Types.{at_row}
 use Rattle.link_rules.specs.Signatures.{names_at, token_type}
 use Rattle.link_rules.specs.Members.{fields_in, Found, find_field, most_levels, field_use, own_type, owns_field, own_member, field_def_use, is_method_sig, parent_of, field_in_parent, field_ref_use}

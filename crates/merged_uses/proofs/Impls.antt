@@ -1,10 +1,9 @@
 -- MethodImpl rows of kept classes are read in the output as they were, moved, where their body is kept.
-use Rattle.std.proofs.Common.{◌≡◌, ◌<◌, ◌≤◌, ℕ, zero, suc, ◌+◌, ◌*◌, ◌/◌, ◌%◌, Bool, true, false, cond, List, [], ◌∷◌, ◌++◌, length, map, Option, Some, None, ◌⊎◌, inl, inr, refl, sym, ap, subst, ◌∙◌, ◌&&◌, ◌||◌, arith}
-use Rattle.std.specs.Prelude.{IsTrue, Contains, slice_get, ◌==◌, if◌then◌else◌}
+use Rattle.std.proofs.Common.{◌≡◌, ◌<◌, ℕ, zero, suc, ◌%◌, Bool, true, false, cond, List, [], ◌∷◌, ◌++◌, length, map, Option, Some, None, ◌⊎◌, inl, inr, refl, sym, ap, subst, ◌∙◌, ◌||◌, arith}
+use Rattle.std.specs.Prelude.{slice_get, ◌==◌, if◌then◌else◌}
 use Rattle.std.specs.List.{list_any, flat_map, filter}
 use Rattle.std.specs.Option.{option_map, option_and_then}
-use Rattle.std.proofs.lemmas.Bool.{and_from, eq-eqb, eqb-true, or_left, or_right}
-use Rattle.std.proofs.lemmas.List.{append-nil}
+use Rattle.std.proofs.lemmas.Bool.{and_from, eq-eqb, eqb-true}
 use Rattle.il_base.specs.declared.ids.MethodId.{MethodId}
 use Rattle.il_base.specs.declared.ids.Item.{Item}
 use Rattle.il_base.specs.declared.ids.Item.TheVariants as item
@@ -14,12 +13,9 @@ use Rattle.world_model.specs.declared.known.Known.{Known}
 use Rattle.world_model.specs.declared.known.Known.TheVariants.{Good, Bad}
 use Rattle.world_model.specs.declared.known.BadKind.{BadKind}
 use Rattle.world_model.specs.declared.expr.MethodUse.{MethodUse}
-use Rattle.world_model.specs.declared.types.TypeDefRow.{TypeDefRow}
-use Rattle.world_model.specs.declared.members.MethodDefRow.{MethodDefRow}
 use Rattle.world_model.specs.declared.members.MethodImplRow.{MethodImplRow}
 use Rattle.world_model.specs.declared.record.AsmRec.{AsmRec}
-use Rattle.world_model.specs.Records.{rows_in, table_sizes}
-use Rattle.world_model.specs.Tokens.{token_of, table_of, row_of, index_from, row_index, index_in}
+use Rattle.world_model.specs.Tokens.{token_of, table_of, index_from, row_index, index_in}
 use Rattle.world_model.specs.Worlds.{types_in}
 use Rattle.link_rules.specs.declared.row_at.RowAt.{RowAt}
 use Rattle.link_rules.specs.Types.{at_row}
@@ -40,13 +36,11 @@ use Rattle.merge_rules.specs.Restricted.{impl_row, has_kept_body, output_of}
 use Rattle.change_rules.specs.Change.{Keep}
 use Rattle.change_rules.specs.Moves.{move_use}
 use Rattle.type_laws.proofs.Within.{In, in_front, in_behind, flat_in, listed_in}
-use Rattle.world_change_rules.specs.Places.{method_number, keeps_method_row}
 use Rattle.world_change_rules.specs.Rows.{Impl, move_impl, impl_by, keeps_impl}
 use Rattle.merged_world_rules.specs.Merge.{Merge, IsMerge, before, after, output}
 use Rattle.merged_world_rules.specs.Numbering.{number_at}
 use Rattle.merged_world_rules.specs.NewNumbers.{rho_of}
 use Rattle.merged_places.proofs.Rows.{IsThere, place_has}
-use Rattle.merged_places.proofs.Kept.{keeps}
 use Rattle.merged_places.proofs.Tables.{number_type, those_at}
 use Rattle.merged_record.proofs.Tokens.{of_coded}
 use Rattle.merged_references.proofs.Lists.{contains, contained}
@@ -58,7 +52,7 @@ use Rattle.merged_uses.specs.Laws.{Reads}
 use Rattle.merged_uses.proofs.Uses.{ByToken, own_row, reference, by_token}
 use Rattle.merged_uses.proofs.Callees.{keeps_method, searched}
 use Rattle.merged_uses.proofs.Named.{stands}
-use Rattle.merged_uses.proofs.Tokens.{none_bad, generic_good, plain_named, key_is, callee_is, plain_reads}
+use Rattle.merged_uses.proofs.Tokens.{none_bad, generic_good, plain_named, key_is, plain_reads}
 
 -- ---- lists
 

@@ -16,7 +16,7 @@ use Rattle.world_model.specs.declared.record.AsmRec.{AsmRec}
 use Rattle.world_model.specs.Worlds.{Names, known_map, known_then, all_known, named_in, definition_named, modifier_named, instance_of, modified, sig_layer, sig_expr}
 use Rattle.change_rules.specs.Change.{Rho}
 use Rattle.change_rules.specs.Moves.{move_type, move_expr, move_exprs}
-use Rattle.change_laws.proofs.Exprs.{With, plain_parts, move_prim, move_def, move_inst, move_array, move_by_ref, move_var, move_mvar, move_mod}
+use Rattle.change_laws.proofs.Exprs.{With, plain_parts, move_prim, move_inst, move_array, move_by_ref, move_var, move_mvar, move_mod}
 use Rattle.merge_rules.specs.Keys.{is_value, made_layer, made_sig}
 use Rattle.merge_rules.specs.Refs.{Output, numbers_layer, numbers_in, type_of_number, types_of_sig, number_token, new_sig_layer, new_sig}
 use Rattle.type_laws.proofs.Within.{In, in_front, in_behind, in_parts, flat_in}

@@ -1,5 +1,5 @@
 -- A method that a token of an input names is named, moved, by the token of its key.
-use Rattle.std.proofs.Common.{◌≡◌, ◌<◌, ◌≤◌, ℕ, zero, suc, ◌+◌, Bool, true, false, nat_lt, List, [], ◌∷◌, ◌++◌, length, map, Option, Some, None, ◌⊎◌, inl, inr, refl, sym, ap, subst, ◌∙◌, ◌&&◌, ◌||◌, arith}
+use Rattle.std.proofs.Common.{◌≡◌, ◌<◌, ℕ, suc, Bool, true, false, nat_lt, List, [], ◌∷◌, length, map, Option, Some, None, inl, inr, refl, sym, ap, subst, ◌∙◌, ◌&&◌, ◌||◌, arith}
 use Rattle.std.specs.Prelude.{IsTrue, slice_get, ◌==◌, if◌then◌else◌}
 use Rattle.std.specs.List.{list_any, flat_map, position_from}
 use Rattle.std.specs.Option.{option_map, option_and_then}
@@ -7,7 +7,6 @@ use Rattle.std.proofs.lemmas.Bool.{eqb-true, ne_eqb, ltb-true, and_parts, cases_
 use Rattle.std.proofs.lemmas.List.{append-nil}
 use Rattle.il_base.specs.declared.ids.TypeId.{TypeId}
 use Rattle.il_base.specs.declared.ids.MethodId.{MethodId}
-use Rattle.il_base.specs.declared.ids.Item.{Item}
 use Rattle.il_base.specs.declared.ids.Item.TheVariants as item
 use Rattle.il_base.specs.declared.sig.Sig.{Sig}
 use Rattle.il_base.specs.declared.sig.MethodSig.{MethodSig}
@@ -26,18 +25,16 @@ use Rattle.world_model.specs.Exprs.{levels}
 use Rattle.world_model.specs.Worlds.{known_map, known_then, types_in, type_id, prim_type}
 use Rattle.core_table.specs.Record.{signature_of}
 use Rattle.link_rules.specs.declared.row_at.RowAt.{RowAt}
-use Rattle.link_rules.specs.declared.member_type.MethodType.{MethodType}
 use Rattle.link_rules.specs.Types.{at_row}
-use Rattle.link_rules.specs.Signatures.{definition_expr, names_at, token_type, method_type}
-use Rattle.link_rules.specs.Members.{type_home, owner_of, methods_in, Found, find_method, most_levels, method_use, param_count, own_type, with_own_args, owns_method, generic_method}
+use Rattle.link_rules.specs.Signatures.{definition_expr, names_at, method_type}
+use Rattle.link_rules.specs.Members.{type_home, owner_of, methods_in, most_levels, param_count, own_type, with_own_args, owns_method, generic_method}
 use Rattle.link_rules.specs.Cycles.{listed}
 use Rattle.type_rules.specs.Rows.{rec_at}
 use Rattle.type_rules.specs.Slots.{method_row_at, type_of_method, type_of_row}
-use Rattle.mark_rules.specs.Places.{is_core}
 use Rattle.merge_rules.specs.Keys.{MethodKey, own_method, found_method, is_bare_in, is_plain_input, is_plain_owner, method_key_of, world_sig, world_method_sig}
 use Rattle.merge_rules.specs.Order.{Met}
 use Rattle.merge_rules.specs.Moved.{moved_method_sig}
-use Rattle.merge_rules.specs.Refs.{a_method, known_list, own_method_sig, types_of_owner, types_of_sig, types_of_method_sig, types_of_method, types_of_met, spec_of_method, specs_of_met, member_of_method, members_of_met, method_at, member_ref_row, member_token, method_token, new_method_sig, parent_token, method_name}
+use Rattle.merge_rules.specs.Refs.{a_method, known_list, own_method_sig, types_of_owner, types_of_sig, types_of_method_sig, types_of_method, types_of_met, spec_of_method, specs_of_met, member_of_method, members_of_met, method_at, member_ref_row, method_token, new_method_sig, parent_token, method_name}
 use Rattle.merge_rules.specs.Restricted.{output_of}
 use Rattle.change_rules.specs.Change.{Keep}
 use Rattle.change_rules.specs.Moves.{move_expr, move_use}
@@ -61,7 +58,7 @@ use Rattle.merged_uses.proofs.Facts.{prim_there}
 use Rattle.merged_uses.proofs.Parents.{OwnerMet, owner_type, parent_names}
 use Rattle.merged_uses.proofs.Searches.{used_again}
 use Rattle.merged_uses.proofs.Own.{own_reads, plain_def}
-use Rattle.merged_uses.proofs.Uses.{Used, ByReference, ByRow, ByToken, own_row, reference, by_token}
+use Rattle.merged_uses.proofs.Uses.{ByReference, ByRow, ByToken, own_row, reference, by_token}
 use Rattle.merged_uses.proofs.CoreSigs.{core_plain, core_moves}
 use Rattle.merged_uses.proofs.Callees.{then_from, keeps_method, keeps_there, keeps_number, Searched, searched}
 use Rattle.merged_uses.proofs.References.{method_row, method_reads}

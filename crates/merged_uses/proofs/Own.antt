@@ -1,15 +1,13 @@
 -- A method of an input that is named by its own row is named so in the output.
-use Rattle.std.proofs.Common.{◌≡◌, ◌<◌, ◌≤◌, ℕ, zero, suc, ◌+◌, Bool, true, false, nat_lt, List, [], ◌∷◌, length, map, Option, Some, None, inl, inr, refl, sym, ap, subst, ◌∙◌, arith}
+use Rattle.std.proofs.Common.{◌≡◌, ◌<◌, ℕ, zero, suc, ◌+◌, Bool, true, false, nat_lt, List, [], ◌∷◌, length, map, Option, Some, None, refl, sym, ap, subst, ◌∙◌, arith}
 use Rattle.std.specs.Prelude.{IsTrue, slice_get, ◌==◌, if◌then◌else◌}
 use Rattle.std.specs.List.{position_from, range_with_len}
 use Rattle.std.specs.Option.{option_map, option_and_then}
-use Rattle.std.proofs.lemmas.Bool.{eq-eqb, ne_eqb, lt-ltb}
+use Rattle.std.proofs.lemmas.Bool.{ne_eqb, lt-ltb}
 use Rattle.il_base.specs.declared.table.TheConstants.{METHOD_DEF, MEMBER_REF}
-use Rattle.world_model.specs.declared.known.Known.{Known}
 use Rattle.world_model.specs.declared.known.Known.TheVariants.{Good}
 use Rattle.world_model.specs.declared.expr.TypeExpr.{TypeExpr}
 use Rattle.world_model.specs.declared.expr.TypeExpr.TheVariants as expr
-use Rattle.world_model.specs.declared.expr.MethodUse.{MethodUse}
 use Rattle.world_model.specs.declared.types.TypeDefRow.{TypeDefRow}
 use Rattle.world_model.specs.declared.members.MethodDefRow.{MethodDefRow}
 use Rattle.world_model.specs.declared.record.AsmRec.{AsmRec}
@@ -19,12 +17,12 @@ use Rattle.world_model.specs.Exprs.{levels}
 use Rattle.world_model.specs.Worlds.{types_in, row_below, type_id, core_types, prim_of}
 use Rattle.link_rules.specs.declared.row_at.RowAt.{RowAt}
 use Rattle.link_rules.specs.Types.{at_row}
-use Rattle.link_rules.specs.Signatures.{prim_at, definition_expr}
-use Rattle.link_rules.specs.Members.{methods_in, Found, own_args, most_levels, method_use, param_count, with_own_args, own_type, owns_method, own_member, method_def_use, ref_use_at, def_use_at, generic_method}
+use Rattle.link_rules.specs.Signatures.{definition_expr}
+use Rattle.link_rules.specs.Members.{methods_in, own_args, most_levels, method_use, param_count, with_own_args, own_type, owns_method, own_member, method_def_use, ref_use_at, def_use_at, generic_method}
 use Rattle.type_rules.specs.Slots.{method_row_at, type_of_method}
 use Rattle.merge_rules.specs.Numbers.{kept_types, kept_methods, new_row}
 use Rattle.merge_rules.specs.Keys.{own_method}
-use Rattle.merge_rules.specs.Refs.{row_token, method_at, kept_token, method_token}
+use Rattle.merge_rules.specs.Refs.{row_token, kept_token, method_token}
 use Rattle.merge_rules.specs.Restricted.{output_of}
 use Rattle.change_rules.specs.Change.{Keep}
 use Rattle.change_rules.specs.Moves.{move_expr}
@@ -42,7 +40,7 @@ use Rattle.merged_places.proofs.Moving.{place_kept}
 use Rattle.merged_places.proofs.Situations.{place, place_there, Input}
 use Rattle.merged_places.proofs.Tables.{number_type, number_method, type_kind, method_kind, method_left}
 use Rattle.merged_places.proofs.Whole.{undone_of, places_move}
-use Rattle.merged_rows_move.proofs.Owners.{First, first_is}
+use Rattle.merged_rows_move.proofs.Owners.{first_is}
 use Rattle.merged_rows_move.proofs.Params.{params_move}
 use Rattle.merged_rows_move.proofs.Whole.{marks}
 use Rattle.merged_uses.specs.Laws.{Reads}

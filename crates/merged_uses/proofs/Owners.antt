@@ -1,5 +1,5 @@
 -- The type in which a reference finds a member: its form, and what it names.
-use Rattle.std.proofs.Common.{◌≡◌, ℕ, zero, suc, ◌+◌, Bool, true, false, List, [], ◌∷◌, ◌++◌, length, map, Option, Some, None, inl, inr, refl, sym, ap, subst, ◌∙◌, arith}
+use Rattle.std.proofs.Common.{◌≡◌, ℕ, zero, suc, ◌+◌, true, List, [], ◌∷◌, ◌++◌, length, map, Option, Some, None, inl, inr, refl, sym, ap, subst, ◌∙◌, arith}
 use Rattle.std.specs.List.{range_with_len}
 use Rattle.std.specs.Option.{option_map, option_and_then}
 use Rattle.il_base.specs.declared.ids.TypeId.{TypeId}
@@ -15,7 +15,7 @@ use Rattle.link_rules.specs.declared.row_at.RowAt.{RowAt}
 use Rattle.link_rules.specs.Members.{array_type, type_home, owner_in, owner_of, args_in, args_of, is_named_in, is_named, base_at, base_of, bases_from, type_count, with_bases, own_args, open_in, open_parent, Found, found_in, or_next, search, closed}
 use Rattle.type_laws.proofs.Within.{In}
 use Rattle.type_laws.proofs.Upwards.{out_is, owner_as, has_base}
-use Rattle.merged_uses.proofs.Leaves.{Leaf, alone, generic, All, AllOf, all_def, all_inst, all_var, all_args, put_all, inst_head}
+use Rattle.merged_uses.proofs.Leaves.{Leaf, alone, All, AllOf, all_def, all_inst, all_var, all_args, put_all, inst_head}
 
 -- ---- a type that is named, alone or with arguments
 

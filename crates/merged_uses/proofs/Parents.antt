@@ -1,9 +1,9 @@
 -- The parent of a reference to a member that is written names the type in which the member is found, moved.
-use Rattle.std.proofs.Common.{◌≡◌, ◌<◌, ℕ, zero, suc, Bool, true, false, List, [], ◌∷◌, ◌++◌, length, map, Option, Some, None, inl, inr, refl, sym, ap, subst, ◌∙◌, arith}
-use Rattle.std.specs.Prelude.{slice_get, Contains, ◌==◌, if◌then◌else◌}
+use Rattle.std.proofs.Common.{◌≡◌, ◌<◌, ℕ, zero, suc, List, [], ◌∷◌, length, map, Option, Some, inl, refl, sym, ap, subst, ◌∙◌, arith}
+use Rattle.std.specs.Prelude.{slice_get, ◌==◌, if◌then◌else◌}
 use Rattle.std.specs.List.{flat_map}
 use Rattle.std.specs.Option.{option_map, option_and_then}
-use Rattle.std.proofs.lemmas.List.{length-map, append-nil}
+use Rattle.std.proofs.lemmas.List.{length-map}
 use Rattle.il_base.specs.declared.ids.TypeId.{TypeId}
 use Rattle.il_base.specs.declared.sig.Sig.{Sig}
 use Rattle.world_model.specs.declared.known.Known.TheVariants.{Good}
@@ -36,9 +36,9 @@ use Rattle.merged_references.proofs.Merges.{after_is, premises}
 use Rattle.merged_signatures.proofs.Agreeing.{good_token}
 use Rattle.merged_signatures.proofs.Merges.{world, Has, has}
 use Rattle.marked_merge_rules.specs.Reads.{AllThere}
-use Rattle.merged_uses.proofs.Leaves.{Leaf, alone, generic, leaves, All, inst_head, def_leaf}
+use Rattle.merged_uses.proofs.Leaves.{alone, All, def_leaf}
 use Rattle.merged_uses.proofs.Owners.{Shape, a_prim, a_definition, an_instance, prim_out, def_out, inst_out, prim_owner, def_owner, inst_owner}
-use Rattle.merged_uses.proofs.Made.{Fact, made_reads, leaf_type, leaf_met, inst_met}
+use Rattle.merged_uses.proofs.Made.{made_reads, leaf_type, leaf_met, inst_met}
 use Rattle.merged_uses.proofs.Sound.{Ok}
 use Rattle.merged_uses.proofs.Facts.{def_defined, prim_there, leaf_home, named_token, leaf_fact, prim_defined_is}
 

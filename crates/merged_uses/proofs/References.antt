@@ -1,22 +1,17 @@
 -- Rows of references to members that a merge writes, and what they name.
-use Rattle.std.proofs.Common.{◌≡◌, ◌<◌, ◌≤◌, ℕ, zero, suc, ◌+◌, Bool, true, false, nat_eq, List, [], ◌∷◌, length, map, Option, Some, None, refl, sym, ap, subst, ◌∙◌, ◌&&◌, arith}
+use Rattle.std.proofs.Common.{◌≡◌, ◌<◌, ℕ, suc, Bool, true, nat_eq, List, [], ◌∷◌, length, Option, Some, refl, sym, ap, ◌∙◌, ◌&&◌, arith}
 use Rattle.std.specs.Prelude.{slice_get, ◌==◌, if◌then◌else◌}
 use Rattle.std.specs.List.{flat_map}
 use Rattle.std.specs.Option.{option_and_then}
 use Rattle.std.specs.Cmp.{first_so, second_so}
 use Rattle.std.proofs.lemmas.Bool.{eq-eqb, eqb-true, and_from}
-use Rattle.std.proofs.lemmas.List.{length-map}
 use Rattle.il_base.specs.declared.ids.MethodId.{MethodId}
 use Rattle.il_base.specs.declared.ids.FieldId.{FieldId}
 use Rattle.il_base.specs.declared.sig.Sig.{Sig}
 use Rattle.il_base.specs.declared.sig.MethodSig.{MethodSig}
-use Rattle.il_base.specs.declared.table.TheConstants.{FIELD, METHOD_DEF, MEMBER_REF, METHOD_SPEC}
-use Rattle.world_model.specs.declared.known.Known.{Known}
+use Rattle.il_base.specs.declared.table.TheConstants.{FIELD, METHOD_DEF, MEMBER_REF}
 use Rattle.world_model.specs.declared.known.Known.TheVariants.{Good}
 use Rattle.world_model.specs.declared.expr.TypeExpr.{TypeExpr}
-use Rattle.world_model.specs.declared.expr.MethodUse.{MethodUse}
-use Rattle.world_model.specs.declared.expr.FieldUse.{FieldUse}
-use Rattle.world_model.specs.declared.expr.MemberSig.{MemberSig}
 use Rattle.world_model.specs.declared.expr.MemberSig.TheVariants as member
 use Rattle.world_model.specs.declared.members.MemberRefRow.{MemberRefRow}
 use Rattle.world_model.specs.declared.record.AsmRec.{AsmRec}
@@ -29,11 +24,10 @@ use Rattle.link_rules.specs.declared.member_type.MethodType.{MethodType}
 use Rattle.link_rules.specs.Signatures.{names_at, token_type, method_type}
 use Rattle.link_rules.specs.Members.{methods_in, fields_in, find_method, find_field, method_use, field_use, method_in_parent, field_in_parent, method_ref_use, field_ref_use, ref_use_at, def_use_at, generic_method}
 use Rattle.mark_rules.specs.Naming.{field_def_at, field_ref_at, field_named}
-use Rattle.merge_rules.specs.Order.{Met}
 use Rattle.merge_rules.specs.Refs.{MemberKey, a_method, a_field, an_absent, same_member, members_of_met, member_refs, member_ref_row, member_ref_rows, row_token, member_token}
 use Rattle.merge_rules.specs.Restricted.{output_of}
 use Rattle.type_laws.proofs.Within.{In}
-use Rattle.merged_world_rules.specs.Merge.{Merge, IsMerge, before, after, output}
+use Rattle.merged_world_rules.specs.Merge.{Merge, IsMerge, after, output}
 use Rattle.merged_references.specs.Written.{HasReferenceRows}
 use Rattle.merged_references.proofs.Lists.{Placed, has_place, single_at, contains}
 use Rattle.merged_references.proofs.Tokens.{token_table, token_index}

@@ -1,24 +1,19 @@
 -- A reference to a kept method finds it in the output, in the type that the parent names.
-use Rattle.std.proofs.Common.{◌≡◌, ◌<◌, ◌≤◌, ℕ, zero, suc, ◌+◌, Bool, true, false, nat_lt, nat_eq, List, [], ◌∷◌, length, map, Option, Some, None, inl, inr, refl, sym, ap, subst, ◌∙◌, arith}
+use Rattle.std.proofs.Common.{◌≡◌, ◌<◌, ℕ, zero, suc, ◌+◌, Bool, true, false, nat_lt, nat_eq, List, [], ◌∷◌, length, map, Option, Some, None, refl, sym, ap, subst, ◌∙◌, arith}
 use Rattle.std.specs.Prelude.{IsTrue, slice_get, if◌then◌else◌}
-use Rattle.std.specs.List.{filter}
 use Rattle.std.specs.Option.{option_map, option_and_then}
 use Rattle.il_base.specs.declared.ids.TypeId.{TypeId}
 use Rattle.world_model.specs.declared.known.Known.{Known}
 use Rattle.world_model.specs.declared.known.Known.TheVariants.{Good, Bad}
 use Rattle.world_model.specs.declared.known.BadKind.TheVariants.{Outside}
 use Rattle.world_model.specs.declared.expr.TypeExpr.{TypeExpr}
-use Rattle.world_model.specs.declared.expr.TypeExpr.TheVariants as expr
-use Rattle.world_model.specs.declared.expr.MethodUse.{MethodUse}
 use Rattle.world_model.specs.declared.members.MethodDefRow.{MethodDefRow}
 use Rattle.world_model.specs.declared.record.AsmRec.{AsmRec}
-use Rattle.world_model.specs.Exprs as exprs
 use Rattle.world_model.specs.Exprs.{levels}
 use Rattle.world_model.specs.Worlds.{known_map, types_in, rows_before}
 use Rattle.link_rules.specs.declared.row_at.RowAt.{RowAt}
 use Rattle.link_rules.specs.declared.member_type.MethodType.{MethodType}
-use Rattle.link_rules.specs.Signatures.{subst_method}
-use Rattle.link_rules.specs.Members.{type_home, owner_of, args_of, base_of, bases_from, type_count, with_bases, open_parent, is_compiler_controlled, methods_in, Found, found_in, or_next, search, closed, method_of_type, find_method, most_levels, method_use}
+use Rattle.link_rules.specs.Members.{type_home, owner_of, args_of, base_of, bases_from, type_count, open_parent, is_compiler_controlled, methods_in, Found, found_in, or_next, search, closed, method_of_type, find_method, most_levels, method_use}
 use Rattle.link_rules.specs.Cycles.{home_of}
 use Rattle.type_rules.specs.Rows.{methods_of_type}
 use Rattle.type_rules.specs.Slots.{method_row_at, type_of_row}
@@ -28,7 +23,7 @@ use Rattle.merge_rules.specs.Restricted.{put_rva}
 use Rattle.change_rules.specs.Change.{Keep}
 use Rattle.change_rules.specs.Moves.{move_type, move_expr}
 use Rattle.change_laws.proofs.Exprs.{move_prim, move_def, move_inst}
-use Rattle.world_change_rules.specs.Places.{type_number, method_number, keeps_type_row, keeps_method_row}
+use Rattle.world_change_rules.specs.Places.{method_number, keeps_type_row, keeps_method_row}
 use Rattle.world_change_rules.specs.Rows.{move_method_type}
 use Rattle.query_laws.specs.Laws.{first_at}
 use Rattle.query_laws.proofs.Runs.{first_moved}
@@ -49,7 +44,7 @@ use Rattle.merged_rows_move.proofs.Whole.{members, signatures}
 use Rattle.merged_uses.specs.Laws.{Reads}
 use Rattle.merged_uses.proofs.Owners.{Shape, a_prim, a_definition, an_instance, prim_owner, def_owner, inst_owner, closed_again}
 use Rattle.merged_uses.proofs.Signed.{method_apart, method_put, none_stands, levels_moved}
-use Rattle.merged_uses.proofs.Matches.{first_passes, same_tests, fits, method_is, Fits, fits_from, to_fits}
+use Rattle.merged_uses.proofs.Matches.{same_tests, fits, method_is, Fits, fits_from, to_fits}
 
 -- ---- a search whose first type has the method
 

@@ -1,14 +1,12 @@
 -- Signatures of methods: their equality, and that they are apart after a move where they were before.
 use Rattle.std.proofs.Common.{◌≡◌, ℕ, zero, suc, Bool, true, false, nat_eq, ◌&&◌, List, [], ◌∷◌, map, refl, sym, ap, subst, ◌∙◌}
-use Rattle.std.specs.Bool.{Decides}
 use Rattle.std.specs.Cmp.{first_so, second_so}
 use Rattle.std.proofs.lemmas.Bool.{eq-eqb, eqb-true, and_from}
 use Rattle.world_model.specs.declared.expr.TypeExpr.{TypeExpr, ind-TypeExpr, roll-TypeExpr}
 use Rattle.world_model.specs.declared.expr.TypeExpr.TheOpen.{TypeExpr-F}
 use Rattle.world_model.specs.declared.expr.TypeExpr.TheVariants as expr
-use Rattle.world_model.specs.Exprs as exprs
-use Rattle.world_model.specs.Exprs.{arg_or, levels, deepest, same_bool, same_expr, same_exprs}
-use Rattle.world_model.proofs.ExprLayers.{levels_prim, levels_def, levels_inst, levels_array, levels_by_ref, levels_var, levels_mvar, levels_mod}
+use Rattle.world_model.specs.Exprs.{levels, deepest, same_bool, same_expr, same_exprs}
+use Rattle.world_model.proofs.ExprLayers.{levels_def, levels_inst, levels_array, levels_by_ref, levels_mod}
 use Rattle.world_model.proofs.SameExpr.{same_only, same_self, all_decide}
 use Rattle.link_rules.specs.declared.member_type.MethodType.{MethodType}
 use Rattle.link_rules.specs.Signatures.{subst_method, same_method_type}

@@ -1,8 +1,7 @@
 -- What the types that tokens and signatures of inputs name, and bases, are made of: definitions that stand in their tables.
 use Rattle.std.proofs.Common.{◌≡◌, ◌<◌, ℕ, suc, Bool, true, false, List, [], ◌∷◌, length, map, Option, Some, None, ◌⊎◌, inl, inr, refl, sym, ap, subst, ◌∙◌}
 use Rattle.std.specs.Prelude.{slice_get, ◌==◌, if◌then◌else◌}
-use Rattle.std.specs.List.{list_all}
-use Rattle.std.specs.Option.{option_map, option_and_then}
+use Rattle.std.specs.Option.{option_and_then}
 use Rattle.il_base.specs.declared.ids.TypeId.{TypeId}
 use Rattle.il_base.specs.declared.sig.Sig.{Sig, fold-roll-Sig, ind-Sig, roll-Sig}
 use Rattle.il_base.specs.declared.sig.Sig.TheFolds.{map-Sig}
@@ -12,14 +11,13 @@ use Rattle.world_model.specs.declared.known.Known.TheVariants.{Good, Bad}
 use Rattle.world_model.specs.declared.known.BadKind.TheVariants.{Unresolved}
 use Rattle.world_model.specs.declared.expr.TypeExpr.{TypeExpr}
 use Rattle.world_model.specs.declared.expr.TypeExpr.TheVariants as expr
-use Rattle.world_model.specs.declared.types.TypeDefRow.{TypeDefRow}
 use Rattle.world_model.specs.declared.types.TypeSpecRow.{TypeSpecRow}
 use Rattle.world_model.specs.declared.record.AsmRec.{AsmRec}
 use Rattle.world_model.specs.Tokens.{table_of, index_in}
 use Rattle.world_model.specs.Worlds as worlds
 use Rattle.world_model.specs.Worlds.{known_map, known_then, known_or, all_known, type_id, prim_type, named_in, definition_of, definition_named, found_or_named, modifier_named, sig_layer, sig_expr}
 use Rattle.link_rules.specs.declared.row_at.RowAt.{RowAt}
-use Rattle.link_rules.specs.Types.{at_row, definition_at, added_by}
+use Rattle.link_rules.specs.Types.{definition_at, added_by}
 use Rattle.link_rules.specs.Signatures.{prim_at, definition_expr, named_type, names_at, spec_type_at, token_type}
 use Rattle.merged_references.proofs.Found.{Names, Added, added_names, token_names}
 use Rattle.merged_signatures.proofs.Reading.{good_map, good_then}

@@ -1,5 +1,5 @@
 -- Tokens of methods that a merge writes name the moved methods, a MethodSpec token with its moved arguments.
-use Rattle.std.proofs.Common.{◌≡◌, ◌<◌, ◌≤◌, ℕ, zero, suc, ◌+◌, Bool, true, false, nat_eq, List, [], ◌∷◌, ◌++◌, length, map, Option, Some, None, inl, inr, refl, sym, ap, subst, ◌∙◌, ◌&&◌, arith}
+use Rattle.std.proofs.Common.{◌≡◌, ◌<◌, ℕ, zero, suc, Bool, true, false, nat_eq, List, [], ◌∷◌, length, map, Option, Some, None, inl, refl, sym, ap, subst, ◌∙◌, ◌&&◌, arith}
 use Rattle.std.specs.Prelude.{Contains, slice_get, ◌==◌, if◌then◌else◌}
 use Rattle.std.specs.List.{flat_map}
 use Rattle.std.specs.Option.{option_map, option_and_then}
@@ -7,7 +7,6 @@ use Rattle.std.specs.Cmp.{first_so, second_so}
 use Rattle.std.proofs.lemmas.Bool.{eq-eqb, eqb-true, and_from}
 use Rattle.std.proofs.lemmas.List.{length-map}
 use Rattle.il_base.specs.declared.ids.TypeId.{TypeId}
-use Rattle.il_base.specs.declared.ids.MethodId.{MethodId}
 use Rattle.il_base.specs.declared.sig.Sig.{Sig}
 use Rattle.il_base.specs.declared.table.TheConstants.{METHOD_DEF, MEMBER_REF, METHOD_SPEC}
 use Rattle.world_model.specs.declared.known.Known.{Known}
@@ -25,7 +24,7 @@ use Rattle.world_model.specs.Worlds.{known_map, known_then, all_known, row_below
 use Rattle.world_model.proofs.SameExpr.{same_only, same_self}
 use Rattle.link_rules.specs.declared.row_at.RowAt.{RowAt}
 use Rattle.link_rules.specs.Signatures.{names_at}
-use Rattle.link_rules.specs.Members.{type_home, methods_in, instantiated, arguments_of, method_spec_use, ref_use_at, def_use_at, generic_method}
+use Rattle.link_rules.specs.Members.{methods_in, instantiated, arguments_of, method_spec_use, ref_use_at, def_use_at, generic_method}
 use Rattle.link_rules.specs.Cycles.{listed}
 use Rattle.mark_rules.specs.Naming.{spec_use_at, method_named}
 use Rattle.merge_rules.specs.Keys.{TypeKey, named, spec, same_type, MethodKey, own_method, found_method, absent_method, same_method, same_method_sig, InstanceKey, same_instance, same_sigs, good, method_key_of, method_key, instance_by, instance_key, world_sig, world_sigs}
@@ -34,7 +33,7 @@ use Rattle.merge_rules.specs.Refs.{types_of_sig, types_of_sigs, types_of_method,
 use Rattle.merge_rules.specs.Moved.{token_or_none, moved_callee}
 use Rattle.merge_rules.specs.Restricted.{output_of}
 use Rattle.change_rules.specs.Change.{Keep}
-use Rattle.change_rules.specs.Moves.{move_expr, move_exprs, move_use}
+use Rattle.change_rules.specs.Moves.{move_exprs, move_use}
 use Rattle.type_laws.proofs.Within.{In, in_front, in_behind, flat_in}
 use Rattle.key_codes.proofs.SameSig.{sig_decides, sigs_decide, method_sig_decides}
 use Rattle.merged_world_rules.specs.Merge.{Merge, IsMerge, before, after, output}

@@ -1,11 +1,10 @@
 -- What a token of an input that names a method is: a row of its own, or a reference.
-use Rattle.std.proofs.Common.{◌≡◌, ◌<◌, ◌+◌, ℕ, suc, Bool, true, false, nat_lt, List, [], Option, Some, None, refl, sym, ap, subst, ◌∙◌}
+use Rattle.std.proofs.Common.{◌≡◌, ◌<◌, ◌+◌, ℕ, suc, Bool, true, false, nat_lt, List, [], Option, Some, None, refl, sym, subst}
 use Rattle.std.specs.Prelude.{slice_get, ◌==◌, if◌then◌else◌}
 use Rattle.std.specs.List.{position_from}
-use Rattle.std.specs.Option.{option_map, option_and_then}
+use Rattle.std.specs.Option.{option_and_then}
 use Rattle.std.proofs.lemmas.Bool.{ltb-true}
 use Rattle.il_base.specs.declared.table.TheConstants.{METHOD_DEF, MEMBER_REF}
-use Rattle.world_model.specs.declared.known.Known.{Known}
 use Rattle.world_model.specs.declared.known.Known.TheVariants.{Good, Bad}
 use Rattle.world_model.specs.declared.known.BadKind.TheVariants.{Unresolved, Outside}
 use Rattle.world_model.specs.declared.expr.TypeExpr.{TypeExpr}
@@ -17,12 +16,10 @@ use Rattle.world_model.specs.declared.record.AsmRec.{AsmRec}
 use Rattle.world_model.specs.Tokens.{table_of, index_in}
 use Rattle.world_model.specs.Exprs.{levels}
 use Rattle.world_model.specs.Worlds.{known_then, rows_before, row_below}
-use Rattle.link_rules.specs.declared.row_at.RowAt.{RowAt}
 use Rattle.link_rules.specs.declared.member_type.MethodType.{MethodType}
 use Rattle.link_rules.specs.Types.{at_row}
 use Rattle.link_rules.specs.Signatures.{names_at, token_type, method_type}
 use Rattle.link_rules.specs.Members.{methods_in, Found, find_method, most_levels, method_use, own_type, owns_method, own_member, method_def_use, is_field_sig, parent_of, method_in_parent, method_ref_use, ref_use_at, def_use_at, generic_method}
-use Rattle.type_rules.specs.Slots.{type_of_method}
 use Rattle.merged_signatures.proofs.Reading.{good_then}
 use Rattle.merged_uses.proofs.Own.{map_from}
 

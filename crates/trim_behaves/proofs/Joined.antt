@@ -24,7 +24,7 @@ use Rattle.world_change_rules.specs.Places.{keeps_method_row, keeps_field_row}
 use Rattle.marked_laws.specs.Flags.{HasMarks}
 use Rattle.closed_laws.specs.Laws.{OnlyMarks}
 use Rattle.merged_record.specs.Laws.{InputsAreRecords, ReferencesStand, NamesAll}
-use Rattle.merged_owners.specs.Laws.{AreMarked, AreKept}
+use Rattle.merged_owners.specs.Laws.{AreMarked, AreKept, OwnersStay}
 use Rattle.merged_world_rules.specs.Merge.{Merge, IsMerge, before, after, output}
 use Rattle.merged_world_rules.specs.NewNumbers.{rho_of, back_of, places_of}
 use Rattle.merged_world_rules.specs.Kept.{HasFlags}
@@ -42,12 +42,13 @@ use Rattle.member_parents.specs.Laws.{AllNamed}
 use Rattle.added_names.specs.Laws.{NamesStay, MetThere, TokensRead, SignaturesRead}
 use Rattle.added_names.proofs.Homes.{sig_there}
 use Rattle.merged_back.specs.Premises.{ReadsFieldSignatures}
-use Rattle.merged_back.specs.Laws.{MarkedLinks, FieldSignaturesRead}
+use Rattle.merged_back.specs.Laws.{MarkedLinks, FieldsRead}
 use Rattle.merged_uses.specs.Laws as uses
 use Rattle.merged_uses.specs.Laws.{CalleesRead, FieldTokensRead, ImplsRead}
 use Rattle.merged_code.specs.Laws.{HaveHomes, MovesMethods}
 use Rattle.merged_fields.specs.Laws.{MovesFields}
 use Rattle.flagged_marks.specs.Laws.{FlagsFollow}
+use Rattle.kept_parts.specs.Laws.{PartsStayed, CoreStaysPlain}
 use Rattle.trim_moves.specs.Laws.{keep_by, kept_by, IsFlagged, FlagsSay, BasesAreGood, InterfacesAreGood, LeftIsRecord}
 use Rattle.trim_runs.specs.Laws.{OutputStands, OutputReads}
 use Rattle.trim_runs.specs.Entry.{EntryMoves, ProgramsRun}
@@ -86,6 +87,7 @@ pub record Laws : Type 1 where
   -- what is met
   pub mets : MetsAreKept
   pub members : MembersAreKept
+  pub owners : OwnersStay
   pub core : NamesStay
   pub there : MetThere
   -- what is left refers to rows, and links
@@ -97,13 +99,13 @@ pub record Laws : Type 1 where
   -- what tokens and signatures name
   pub tokens : TokensRead
   pub signatures : SignaturesRead
-  pub field_signatures : FieldSignaturesRead
+  pub field_signatures : FieldsRead
   pub callees : CalleesRead
   pub field_tokens : FieldTokensRead
   pub impls : ImplsRead
   -- flags
-  pub parts : PartsStayAll
-  pub plain : CoreIsPlainAll
+  pub parts : PartsStayed
+  pub plain : CoreStaysPlain
   pub follow : FlagsFollow
   pub flags : FlagsSay
   pub bases : BasesAreGood
@@ -121,6 +123,9 @@ pub record Laws : Type 1 where
 module _ (l : Laws) (m : Merge) (entry : Option RowAt) (roots : List Root) (holds : Fact → Bool) (k : ℕ) (t : IsTrimmed m entry roots holds k) where
   merge : IsMerge m
   merge = t.merge.merge
+
+  inputs_are : InputsAreRecords (before m)
+  inputs_are a rec lt e = merge.records a rec (an_input m.inputs t.merge.files a rec lt e)
 
   mets : KeepsAllMet m
   mets = l.mets m entry roots t.merge
@@ -150,7 +155,7 @@ module _ (l : Laws) (m : Merge) (entry : Option RowAt) (roots : List Root) (hold
   homes = λ a rec s e t there lt h c. sig_there (before m) a rec there s e t h (contained (types_of_sig (world_sig (before m) a rec s)) t c)
 
   marks : HasMarks (before m) entry roots (flags_of m holds) × OnlyMarks (before m) entry roots (flags_of m holds)
-  marks = l.follow m entry roots holds t.merge t.facts (l.parts m entry roots t.merge core) (l.plain m entry roots t.merge)
+  marks = l.follow m entry roots holds t.merge t.facts (l.parts m entry roots t.merge core) (l.plain m)
 
   flagged : IsFlagged m entry roots holds
   flagged = record { merge = t.merge; facts = t.facts; marks = marks.0 }
@@ -177,7 +182,18 @@ module _ (l : Laws) (m : Merge) (entry : Option RowAt) (roots : List Root) (hold
   links = l.links m entry roots (keep_by m holds) (kept_by m holds) t.merge flags (record { tokens = tokens; bases = bases; interfaces = interfaces; methods = signatures; fields = field_signatures })
 
   reads : uses.Reads m (keep_by m holds) (kept_by m holds)
-  reads = record { merge = merge; flags = flags; rows = rows; there = there; members = members; methods = signatures; fields = field_signatures }
+  reads = record {
+    merge = merge;
+    flags = flags;
+    rows = rows;
+    there = there;
+    members = members;
+    homes = λ a rec s e there lt h t c. sig_there (before m) a rec there s e t h (contained (types_of_sig (world_sig (before m) a rec s)) t c);
+    methods = signatures;
+    fields = field_signatures;
+    owners = l.owners (before m) entry roots m.kept inputs_are t.merge.marked t.merge.all;
+    left = left_record;
+  }
 
   callees : ReadsCallees m
   callees = l.callees m (keep_by m holds) (kept_by m holds) reads
@@ -202,9 +218,6 @@ module _ (l : Laws) (m : Merge) (entry : Option RowAt) (roots : List Root) (hold
 
   abbrev Marked : Option RowAt → Type 0
   Marked e = AreMarked (before m) e roots m.kept × AreKept (before m) e roots m.kept × IsFirstFlaw (before m) e (Marks (before m) e roots) None
-
-  inputs_are : InputsAreRecords (before m)
-  inputs_are a rec lt e = merge.records a rec (an_input m.inputs t.merge.files a rec lt e)
 
   some_type : 1 ≤ length m.left.type_def
   some_type =

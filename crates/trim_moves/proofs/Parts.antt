@@ -68,7 +68,7 @@ module _ (m : Merge) (entry : Option RowAt) (roots : List Root) (holds : Fact â†
       let p : Part = interface_part recs at rec here row in
       let within : In p (parts_of_impl recs at) = interface_in recs at rec here row is in
       let n = names_type recs entry roots m.kept flagged.merge.marked flagged.merge.good (impl_item recs at) at rec (impl_row_of recs at rec here row is) kept here lt (token_of INTERFACE_IMPL (suc at.row)) 0 row.interface
-          (contains (parts_of_impl recs at) p within) in
+      (contains (parts_of_impl recs at) p within) in
       let marks = flag_is m entry roots holds flagged (impl_item recs at) at (impl_row_of recs at rec here row is) refl âˆ™ kept in
       record {
         typ = n.0;

@@ -195,9 +195,17 @@ module _ (m : Merge) (roots : List Root) (k : ℕ) (merge : IsMarkedMerge m (Som
   pub entry_moved : index_in METHOD_DEF m.left.entry ≡ Some ((rho_of m).method k)
   entry_moved = ap (index_in METHOD_DEF) (entry_is ∙ moved) ∙ row_named place low ∙ ap Some (sym new_number_is)
 
+  pub entry_below : (rho_of m).method k < length m.left.method_def
+  entry_below =
+      let lt = rank_below methods_in recs number_method m.kept (number_at methods_in recs at) (input_below methods_in recs at is_row input) entry_kept in
+      let counted = methods_counted m is in
+      let new = new_number_is in
+      omega (arith, lt, counted, new)
+
 pub entry_moves : EntryMoves
 entry_moves m entry roots k merge e =
-    entry_moved m roots k (subst (λ (o : Option RowAt). IsMarkedMerge m o roots) e.is merge) e.first e.there e.names e.below
+    let marked = subst (λ (o : Option RowAt). IsMarkedMerge m o roots) e.is merge in
+    (entry_moved m roots k marked e.first e.there e.names e.below, entry_below m roots k marked e.first e.there e.names e.below)
 
 -- ---- the program
 
@@ -218,7 +226,7 @@ module _ (law : LeftIsRecord) (m : Merge) (entry : Option RowAt) (roots : List R
 
   pub program_runs : (bytes : List ℕ) (n : ℕ) → run_from (queries_of (after m)) (entry_number m.left) bytes n ≡ move_outcome (rho_of m) (run_from (queries_of (before m)) k bytes n)
   program_runs bytes n =
-      ap (λ (o : Option ℕ). run_from (queries_of (after m)) (unwrap_or o 0) bytes n) (entry_moves m entry roots k flagged.merge e)
+      ap (λ (o : Option ℕ). run_from (queries_of (after m)) (unwrap_or o 0) bytes n) (entry_moves m entry roots k flagged.merge e).0
       ∙ runs_alike law m entry roots holds flagged only names stands reads k entry_flag bytes n
 
 pub programs_run : LeftIsRecord → ProgramsRun

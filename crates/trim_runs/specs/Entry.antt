@@ -25,10 +25,11 @@ pub record IsEntry (m : Merge) (entry : Option RowAt) (k : ℕ) : Type 0 where
   pub below : k < length first.method_def
   pub is : entry ≡ Some (at_row 0 k)
 
--- The output's entry token names it under its new number.
+-- The output's entry token names it under its new number, a method of the output.
 abbrev pub EntryMoves : Type 0
 EntryMoves =
-    (m : Merge) (entry : Option RowAt) (roots : List Root) (k : ℕ) → IsMarkedMerge m entry roots → IsEntry m entry k → index_in METHOD_DEF m.left.entry ≡ Some ((rho_of m).method k)
+    (m : Merge) (entry : Option RowAt) (roots : List Root) (k : ℕ) → IsMarkedMerge m entry roots → IsEntry m entry k
+    → (index_in METHOD_DEF m.left.entry ≡ Some ((rho_of m).method k)) × (rho_of m).method k < length m.left.method_def
 
 -- the method that a program begins with, as run_rules/specs/Runs has it
 abbrev pub entry_number : AsmRec → ℕ
