@@ -25,10 +25,10 @@ use Rattle.merge_rules.specs.Attributes.{met_by_attributes}
 use Rattle.merge_rules.specs.Restricted.{output_of}
 use Rattle.merged_world_rules.specs.Merge.{Merge, IsMerge, before, output}
 use Rattle.merged_record.specs.Laws.{OwnersAreKept}
-use Rattle.merged_record.proofs.Lists.{OfInput, first_in, to_flat, to_filter}
+use Rattle.merged_record.proofs.Lists.{OfInput, first_in, to_flat}
 use Rattle.merged_record.proofs.Owned.{to_kept}
 use Rattle.merged_loads.proofs.Flawless.{to_option}
-use Rattle.merged_links.proofs.Cycles.{from_in}
+use Rattle.merged_links.proofs.Cycles.{to_in, from_in, in_kept}
 use Rattle.merged_places.proofs.Rows.{place_within, same_some}
 use Rattle.merged_rows_move.proofs.Members.{fields_at}
 use Rattle.merged_back.proofs.Rows.{run_by}
@@ -110,5 +110,5 @@ module _ (m : Merge) (is : IsMerge m) (owners : OwnersAreKept (before m) m.kept)
         inside =
             in_type x
             (to_flat (met_field_row recs) (those recs m.kept (field_item recs) (fields_of_type recs own)) x
-            (record { item = at; there = to_filter (λ y. m.kept (field_item recs y)) (fields_of_type recs own) at among keeps; inside = in_row }));
+            (record { item = at; there = from_in (those recs m.kept (field_item recs) (fields_of_type recs own)) at (in_kept (λ y. m.kept (field_item recs y)) (fields_of_type recs own) at keeps (to_in (fields_of_type recs own) at among)); inside = in_row }));
       }))
