@@ -36,7 +36,7 @@ use Rattle.merged_signatures.proofs.Reading.{good_map}
 use Rattle.merged_back.proofs.Homes.{typ, stands_keeps, stays_stands}
 use Rattle.merged_back.proofs.Rows.{KeptRow, kept_row, lower, in_run, of_run, one_run, numbered_at, numbered_from}
 
-mapped_in : {A B : Type 0} (f : A → B) (xs : List A) (x : A) → In x xs → In (f x) (map f xs)
+pub mapped_in : {A B : Type 0} (f : A → B) (xs : List A) (x : A) → In x xs → In (f x) (map f xs)
 mapped_in f [] x h = absurd h
 mapped_in f (y ∷ xs) x (inl e) = inl (ap f e)
 mapped_in f (y ∷ xs) x (inr h) = inr (mapped_in f xs x h)

@@ -76,7 +76,7 @@ short_take zero xs = (omega arith, omega arith)
 short_take (suc n) [] = (omega arith, omega arith)
 short_take (suc n) (x ∷ xs) = let s = short_take n xs in let a = s.0 in let b = s.1 in (omega (arith, a), omega (arith, b))
 
-run_by : {R : Type 0} (first end k : ℕ) (rows : List R) → first ≤ suc k → suc k < end → k < length rows → In k (run_places first end rows)
+pub run_by : {R : Type 0} (first end k : ℕ) (rows : List R) → first ≤ suc k → suc k < end → k < length rows → In k (run_places first end rows)
 run_by first end k rows from to low =
     let rest : length (drop (first - 1) rows) ≡ length rows - (first - 1) = length-drop (first - 1) rows in
     let d : k - (first - 1) < length (run_of first end rows) = long_take (end - first) (drop (first - 1) rows) (k - (first - 1)) (less first from) (omega (arith, rest, from, low)) in
