@@ -1,6 +1,6 @@
 -- The types that a signature of an input names, where it has a reading, are rows of the world.
-use Rattle.std.proofs.Common.{◌≡◌, ◌<◌, ℕ, zero, suc, ◌+◌, ◌-◌, List, [], ◌∷◌, ◌++◌, length, map, nat_lt, Bool, true, false, Option, Some, None, ◌⊎◌, inl, inr, refl, sym, ap, subst, ◌∙◌, ◌||◌}
-use Rattle.std.specs.Prelude.{slice_get, position, ◌==◌, if◌then◌else◌}
+use Rattle.std.proofs.Common.{◌≡◌, ℕ, zero, suc, ◌-◌, List, [], ◌∷◌, ◌++◌, length, map, Bool, true, false, Option, Some, None, inl, inr, refl, sym, ap, subst, ◌∙◌}
+use Rattle.std.specs.Prelude.{slice_get, ◌==◌, if◌then◌else◌}
 use Rattle.std.specs.List.{flat_map, list_any}
 use Rattle.std.specs.Option.{option_map, option_and_then}
 use Rattle.std.proofs.lemmas.Bool.{ltb-true, or_left, or_right, eq-eqb}
@@ -120,8 +120,7 @@ module _ (recs : List AsmRec) where
         let t : TypeId = type_id recs at.asm at.row in
         (t, number_is (TypeExpr-F.Def t) (expr.Def t) (out_is (TypeExpr-F.Def t) (expr.Def t) (expr.rolls-Def t)), l)
     definition_by at (Some n) e l =
-        let p = prim_there at n e in
-        (
+        let p = prim_there at n e in (
           p.0,
           number_is (TypeExpr-F.Prim n) (expr.Prim n) (out_is (TypeExpr-F.Prim n) (expr.Prim n) (expr.rolls-Prim n)) ∙ ap (λ (o : Option TypeId). elim o as (λ o. ℕ) [ Some t ↦ suc t.0 | None ↦ 0 ]) p.1,
           prim_low recs n p.0 p.1,
