@@ -1,7 +1,7 @@
 -- Kept rows by their places among the kept ones, and rows in runs (II.22.37).
-use Rattle.std.proofs.Common.{◌≡◌, ◌<◌, ◌≤◌, ℕ, zero, suc, ◌+◌, ◌-◌, Bool, true, false, nat_le, nat_lt, List, [], ◌∷◌, length, map, Option, Some, None, inl, inr, refl, sym, ap, subst, ◌∙◌, arith}
-use Rattle.std.specs.Prelude.{slice_get, take, drop, ◌&&◌}
-use Rattle.std.specs.List.{filter, position_from, range_with_len}
+use Rattle.std.proofs.Common.{◌≡◌, ◌<◌, ◌≤◌, ℕ, zero, suc, ◌+◌, ◌-◌, Bool, true, false, nat_le, nat_lt, List, [], ◌∷◌, length, map, Some, inl, inr, refl, sym, ap, subst, ◌∙◌, arith}
+use Rattle.std.specs.Prelude.{slice_get, take, drop}
+use Rattle.std.specs.List.{position_from, range_with_len}
 use Rattle.std.proofs.lemmas.Bool.{lt-ltb, le-ltb, le-leb, leb-true, ltb-true, cases_lt, and_parts, and_from, and_right}
 use Rattle.std.proofs.lemmas.List.{length-drop}
 use Rattle.il_base.specs.declared.ids.Item.{Item}
@@ -16,7 +16,7 @@ use Rattle.merge_rules.specs.Numbers.{Kept}
 use Rattle.merged_world_rules.specs.Numbering.{in_inputs, number_at}
 use Rattle.merged_places.proofs.Ranks.{rank, rank_rises}
 use Rattle.merged_places.proofs.Rows.{IsThere, place_has}
-use Rattle.merged_places.proofs.Kept.{IsInput, keeps, those, kept_numbers, kept_at}
+use Rattle.merged_places.proofs.Kept.{keeps, those, kept_numbers, kept_at}
 use Rattle.merged_rows_move.proofs.Owners.{at_place, place_is_rank}
 
 -- ---- a kept row by its place
