@@ -203,10 +203,13 @@ module _ (recs : List AsmRec) where
           let key : instance_by recs a rec row ≡ Some i =
           ap (λ (o : Option MethodKey). option_and_then (λ m. option_map (λ (args : List Sig). record { method = m; args = world_sigs recs a rec args }) (good row.instantiation)) o) (key_is row.method g.from s g.is)
           ∙ ap (λ (z : Known (List Sig)). option_map (λ (args : List Sig). record { method = k; args = world_sigs recs a rec args }) (good z)) y.is in
-          let uses : Contains (of_method_use (instantiated g.from x.from)) (marked (item.Typ t)) = subst (λ (v : MethodUse). Contains (of_method_use v) (marked (item.Typ t))) (sym x.gives) c in
-          (i, key, owner_or_arg (instantiated g.from x.from) t (Contains (types_of_met recs (met_instance i)) t) uses
-          (λ d. Contains-append_left (types_of_method recs k) (types_of_sigs (world_sigs recs a rec y.from)) t (generic_has row.method g.from t g.is d core))
-          (λ o. Contains-append_right (types_of_method recs k) (types_of_sigs (world_sigs recs a rec y.from)) t (args_have y.from x.from o.expr t y.gives o.there o.inside)))
+          let uses : Contains (of_method_use (instantiated g.from x.from)) (marked (item.Typ t)) = subst (λ (v : MethodUse). Contains (of_method_use v) (marked (item.Typ t))) (sym x.gives) c in (
+            i,
+            key,
+            owner_or_arg (instantiated g.from x.from) t (Contains (types_of_met recs (met_instance i)) t) uses
+                (λ d. Contains-append_left (types_of_method recs k) (types_of_sigs (world_sigs recs a rec y.from)) t (generic_has row.method g.from t g.is d core))
+                (λ o. Contains-append_right (types_of_method recs k) (types_of_sigs (world_sigs recs a rec y.from)) t (args_have y.from x.from o.expr t y.gives o.there o.inside)),
+          )
 
       spec_by : (token : ℕ) (o : Option MethodSpecRow) (u : MethodUse) (t : TypeId) → option_and_then (slice_get rec.method_spec) (index_in table.METHOD_SPEC token) ≡ o → spec_use_at recs a rec o ≡ Good u
           → Contains (of_method_use u) (marked (item.Typ t)) → IsCore recs t → (i : InstanceKey) × (option_and_then (instance_by recs a rec) o ≡ Some i) × Contains (types_of_met recs (met_instance i)) t
@@ -264,8 +267,8 @@ module _ (recs : List AsmRec) where
         elim (head_or (marked (item.Field u.field)) (of_expr u.owner) (marked (item.Typ t)) c) [
           | inl e ↦ absurd (cc)
           | inr d ↦ record {
-              met = met_field k;
-              there = to_map met_field (listed (field_key recs a rec token)) k (to_listed (field_key recs a rec token) k (field_key_is token u h));
-              has = field_has token u t h (type_in u.owner t d) core;
-            }
+            met = met_field k;
+            there = to_map met_field (listed (field_key recs a rec token)) k (to_listed (field_key recs a rec token) k (field_key_is token u h));
+            has = field_has token u t h (type_in u.owner t d) core;
+          }
         ]

@@ -149,7 +149,7 @@ module _ (inputs : List AsmRec) where
         ]
 
     -- each is one of the table's
-    IsCoreSig : Sig → Type 0
+    abbrev IsCoreSig : Sig → Type 0
     IsCoreSig s = (c : CoreSig) × (sig_of c ≡ s)
 
     params_core : (ps : CoreParams) (s : Sig) → Contains (params_of ps) s → IsCoreSig s

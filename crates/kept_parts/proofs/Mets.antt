@@ -157,8 +157,7 @@ module _ (recs : List AsmRec) (kept : Kept) where
           let w = owners.methods at (method_listed at rec input lt keeps) in
           let row : TypeDefRow = w.row in
           let is : slice_get rec.type_def w.place ≡ Some row = subst (λ (r : AsmRec). slice_get r.type_def w.place ≡ Some row) (same_rec w.rec w.there) w.is in
-          let t : RowAt = at_row at.asm w.place in
-          (
+          let t : RowAt = at_row at.asm w.place in (
             t,
             type_listed t rec input (place_within rec.type_def w.place row is) w.kept,
             to_option (λ (r : AsmRec). flat_map (λ (y : TypeDefRow). map (at_row at.asm) (run_places y.method_list_first y.method_list_end r.method_def)) (listed (slice_get r.type_def w.place))) (rec_at recs t) rec at input.there
@@ -192,8 +191,7 @@ module _ (recs : List AsmRec) (kept : Kept) where
           let w = owners.fields at (field_listed at rec input lt keeps) in
           let row : TypeDefRow = w.row in
           let is : slice_get rec.type_def w.place ≡ Some row = subst (λ (r : AsmRec). slice_get r.type_def w.place ≡ Some row) (same_rec w.rec w.there) w.is in
-          let t : RowAt = at_row at.asm w.place in
-          (
+          let t : RowAt = at_row at.asm w.place in (
             t,
             type_listed t rec input (place_within rec.type_def w.place row is) w.kept,
             to_option (λ (r : AsmRec). flat_map (λ (y : TypeDefRow). map (at_row at.asm) (run_places y.field_list_first y.field_list_end r.field)) (listed (slice_get r.type_def w.place))) (rec_at recs t) rec at input.there
@@ -221,8 +219,7 @@ module _ (recs : List AsmRec) (kept : Kept) where
           let is : slice_get rec.property_map w.place ≡ Some row = subst (λ (r : AsmRec). slice_get r.property_map w.place ≡ Some row) (same_rec w.rec w.there) w.is in
           let k = class_there at.asm row.parent (class_token recs kept at.asm row.parent) refl w.kept in
           let token : ℕ = token_of table.TYPE_DEF (suc k.0) in
-          let t : RowAt = at_row at.asm k.0 in
-          (
+          let t : RowAt = at_row at.asm k.0 in (
             t,
             k.2,
             to_option (λ (r : AsmRec). map (at_row at.asm) (flat_map (property_places_by r token) r.property_map)) (rec_at recs t) rec at input.there
@@ -254,8 +251,7 @@ module _ (recs : List AsmRec) (kept : Kept) where
           let is : slice_get rec.event_map w.place ≡ Some row = subst (λ (r : AsmRec). slice_get r.event_map w.place ≡ Some row) (same_rec w.rec w.there) w.is in
           let k = class_there at.asm row.parent (class_token recs kept at.asm row.parent) refl w.kept in
           let token : ℕ = token_of table.TYPE_DEF (suc k.0) in
-          let t : RowAt = at_row at.asm k.0 in
-          (
+          let t : RowAt = at_row at.asm k.0 in (
             t,
             k.2,
             to_option (λ (r : AsmRec). map (at_row at.asm) (flat_map (event_places_by r token) r.event_map)) (rec_at recs t) rec at input.there

@@ -1,5 +1,5 @@
 -- Where exactly what is marked is kept, the type around a kept type is kept, as a marked type marks it (II.22.32).
-use Rattle.std.proofs.Common.{◌≡◌, ◌<◌, ◌≤◌, ℕ, suc, List, [], ◌∷◌, ◌++◌, length, map, Bool, true, Option, Some, None, ◌⊎◌, inl, inr, refl, sym, ap, subst, ◌∙◌, arith}
+use Rattle.std.proofs.Common.{◌≡◌, ◌<◌, ◌≤◌, ℕ, suc, List, [], length, map, true, Option, Some, None, ◌⊎◌, inl, inr, refl, sym, ap, subst, ◌∙◌, arith}
 use Rattle.std.specs.Prelude.{slice_get}
 use Rattle.std.specs.List.{Contains, flat_map}
 use Rattle.std.specs.Option.{is_some}
@@ -29,7 +29,7 @@ use Rattle.mark_rules.specs.Roots.{waiting_facts}
 use Rattle.mark_rules.specs.Marking.{row_needs, item_needs, one, marking, Marks}
 use Rattle.merged_world_rules.specs.Merge.{Merge, before}
 use Rattle.marked_merge_rules.specs.Merges.{IsMarkedMerge}
-use Rattle.merged_record.proofs.Lists.{first_in, to_flat}
+use Rattle.merged_record.proofs.Lists.{first_in}
 use Rattle.merged_record.proofs.Tokens.{index_row}
 use Rattle.merged_loads.proofs.Flawless.{to_option, own_home}
 use Rattle.merged_links.proofs.Enclosers.{encloses, type_there}

@@ -1,8 +1,7 @@
 -- The value types in the fields of the place of a kept type are places of those in its own fields (II.22.37).
-use Rattle.std.proofs.Common.{◌≡◌, ◌<◌, ◌≤◌, ℕ, suc, ◌+◌, Bool, true, false, List, [], ◌∷◌, length, map, Option, Some, None, ◌⊎◌, inl, inr, refl, sym, ap, subst, ◌∙◌, arith}
+use Rattle.std.proofs.Common.{◌≡◌, ◌≤◌, ℕ, Bool, true, false, List, [], Some, inl, inr, refl, sym, ap, subst, ◌∙◌, arith}
 use Rattle.std.specs.Prelude.{IsTrue, Contains, slice_get, if◌then◌else◌}
 use Rattle.std.specs.List.{flat_map}
-use Rattle.std.proofs.lemmas.Bool.{cases_lt}
 use Rattle.world_model.specs.declared.known.Known.{Known}
 use Rattle.world_model.specs.declared.known.Known.TheVariants.{Good, Bad}
 use Rattle.world_model.specs.declared.expr.TypeExpr.{TypeExpr}
@@ -13,7 +12,7 @@ use Rattle.world_model.specs.Worlds.{types_in, known_then, known_map, sig_expr}
 use Rattle.link_rules.specs.declared.row_at.RowAt.{RowAt}
 use Rattle.link_rules.specs.Types.{at_row}
 use Rattle.link_rules.specs.Signatures.{names_at}
-use Rattle.link_rules.specs.Members.{good_type, run_of, fields_in, is_in_run}
+use Rattle.link_rules.specs.Members.{good_type, run_of, fields_in}
 use Rattle.link_rules.specs.Cycles.{listed, is_value_type, is_static_field, values_in, values_in_field, values_in_row, field_values}
 use Rattle.type_laws.proofs.Within.{In, in_listed, listed_in, in_flat, flat_in}
 use Rattle.merge_rules.specs.Rows.{run_at}
@@ -32,17 +31,16 @@ use Rattle.merged_places.proofs.Ranks.{rank}
 use Rattle.merged_places.proofs.Rows.{IsThere, place_within, place_has, same_some}
 use Rattle.merged_places.proofs.Kept.{keeps}
 use Rattle.merged_places.proofs.Worlds.{left_core, after_left, after_core, left_fields}
-use Rattle.merged_places.proofs.Moving.{Stays}
-use Rattle.merged_places.proofs.Situations.{place, situation, Input, Core, Gone}
-use Rattle.merged_places.proofs.Tables.{number_type, number_field, type_kind, type_left, field_left, those_at}
+use Rattle.merged_places.proofs.Situations.{situation, Input}
+use Rattle.merged_places.proofs.Tables.{number_type, type_kind, type_left, field_left, those_at}
 use Rattle.merged_rows_move.specs.Premises.{ReadsTokens, HasGoodBases}
 use Rattle.merged_rows_move.proofs.Members.{record_of}
 use Rattle.merged_rows_move.proofs.RowsOf.{field_like}
 use Rattle.merged_signatures.proofs.Reading.{good_map}
 use Rattle.merged_back.specs.Premises.{ReadsFieldSignatures}
 use Rattle.merged_back.proofs.Homes.{stands, stands_there, stands_stays, place_is}
-use Rattle.merged_back.proofs.Rows.{KeptRow, InRun, run_item, item_run}
-use Rattle.merged_back.proofs.Values.{From, value_back, values_from}
+use Rattle.merged_back.proofs.Rows.{KeptRow, run_item, item_run}
+use Rattle.merged_back.proofs.Values.{value_back, values_from}
 use Rattle.merged_back.proofs.MemberKinds.{field_member}
 
 some_run : (internal : Bool) (o : Output) (at : RowAt) (rec : AsmRec) (t : TypeDefRow) → 1 ≤ (moved_type_row internal o at rec t).field_list_first

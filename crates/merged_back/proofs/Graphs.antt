@@ -1,9 +1,8 @@
 -- The bases and interfaces of the place of a kept type are places of those that it has (II.22.37, II.22.23).
-use Rattle.std.proofs.Common.{◌≡◌, ℕ, suc, List, [], ◌∷◌, ◌++◌, map, Bool, true, false, Option, Some, None, inl, inr, refl, sym, ap, subst, ◌∙◌}
-use Rattle.std.specs.Prelude.{IsTrue, Contains, slice_get, ◌||◌, if◌then◌else◌}
-use Rattle.std.specs.List.{list_any, flat_map}
+use Rattle.std.proofs.Common.{◌≡◌, ℕ, suc, List, [], ◌∷◌, Bool, true, false, Option, Some, None, inl, inr, refl, sym, ap, subst, ◌∙◌}
+use Rattle.std.specs.Prelude.{IsTrue, slice_get, if◌then◌else◌}
+use Rattle.std.specs.List.{flat_map}
 use Rattle.std.specs.Option.{option_map, option_and_then}
-use Rattle.il_base.specs.declared.ids.TypeId.{TypeId}
 use Rattle.il_base.specs.declared.table.TheConstants.{TYPE_DEF}
 use Rattle.world_model.specs.declared.expr.TypeExpr.{TypeExpr, out-TypeExpr}
 use Rattle.world_model.specs.declared.expr.TypeExpr.TheOpen.{TypeExpr-F}
@@ -15,7 +14,7 @@ use Rattle.link_rules.specs.Types.{at_row}
 use Rattle.link_rules.specs.Members.{type_home, owner_in, owner_of, base_at}
 use Rattle.link_rules.specs.Cycles.{listed, home_of, interface_of, interfaces_in, interfaces_at, base_rows, interface_rows}
 use Rattle.type_rules.specs.Rows.{each_from}
-use Rattle.type_laws.proofs.Within.{In, in_front, in_behind, in_parts, in_listed, listed_in, in_map, in_flat, flat_in}
+use Rattle.type_laws.proofs.Within.{In, in_front, in_behind, in_parts, in_map, in_flat, flat_in}
 use Rattle.type_laws.proofs.Upwards.{base_step, step_base, interface_step, step_interface}
 use Rattle.change_rules.specs.Change.{Keep, Undone}
 use Rattle.change_rules.specs.Moves.{move_type, move_expr}
@@ -29,7 +28,7 @@ use Rattle.merged_links.proofs.Cycles.{to_in, from_in}
 use Rattle.merged_rows_move.specs.Premises.{ReadsTokens, HasGoodBases, HasGoodInterfaces}
 use Rattle.merged_rows_move.proofs.Core.{core_moves}
 use Rattle.merged_rows_move.proofs.Whole.{bases, interfaces}
-use Rattle.merged_back.proofs.Homes.{stands, stands_keeps, Led, led_back}
+use Rattle.merged_back.proofs.Homes.{stands, stands_keeps, led_back}
 
 -- ---- options
 

@@ -1,10 +1,8 @@
 -- What stands in the output's world is what stays of the inputs' world: each of its types is the place of one type.
 use Rattle.std.proofs.Common.{◌≡◌, ◌<◌, ◌≤◌, ℕ, suc, ◌+◌, ◌-◌, Bool, true, false, nat_lt, List, length, Option, Some, None, ◌⊎◌, inl, inr, refl, sym, ap, subst, ◌∙◌, arith}
-use Rattle.std.specs.Prelude.{IsTrue, slice_get, nat_le, ◌&&◌, unwrap_or, if◌then◌else◌}
+use Rattle.std.specs.Prelude.{IsTrue, nat_le, ◌&&◌, unwrap_or, if◌then◌else◌}
 use Rattle.std.specs.Option.{is_some, option_map, option_and_then}
 use Rattle.std.proofs.lemmas.Bool.{and_parts, and_from, leb-true, cases_lt}
-use Rattle.il_base.specs.declared.ids.TypeId.{TypeId}
-use Rattle.world_model.specs.declared.record.AsmRec.{AsmRec}
 use Rattle.world_model.specs.Worlds.{types_in}
 use Rattle.link_rules.specs.declared.row_at.RowAt.{RowAt}
 use Rattle.link_rules.specs.Cycles.{same_row}
@@ -13,13 +11,13 @@ use Rattle.merge_rules.specs.Numbers.{kept_types, new_row}
 use Rattle.change_rules.specs.Change.{Keep}
 use Rattle.world_change_rules.specs.Places.{type_numbered, keeps_type_row}
 use Rattle.merged_world_rules.specs.Merge.{Merge, IsMerge, before, after}
-use Rattle.merged_world_rules.specs.Numbering.{in_inputs, in_all, number_at, has_row, core_to, other_number, new_number}
+use Rattle.merged_world_rules.specs.Numbering.{in_inputs, in_all, has_row, other_number, new_number}
 use Rattle.merged_world_rules.specs.NewNumbers.{type_core, rho_of, places_of}
 use Rattle.merged_world_rules.specs.Kept.{HasFlags}
 use Rattle.merged_places.proofs.Rows.{IsThere, place_within, same_some, row_itself, rows_one, home_there, home_number, home_below, input_below, core_number}
-use Rattle.merged_places.proofs.Kept.{IsKept, kept_at, those}
+use Rattle.merged_places.proofs.Kept.{kept_at, those}
 use Rattle.merged_places.proofs.Numbers.{new_of, new_none, new_row_at}
-use Rattle.merged_places.proofs.Moving.{Kind, Stays, place_of, after_all, homes_move}
+use Rattle.merged_places.proofs.Moving.{Stays, place_of, after_all, homes_move}
 use Rattle.merged_places.proofs.Situations.{place, place_there, there_has, has_there}
 use Rattle.merged_places.proofs.Tables.{number_type, type_kind}
 use Rattle.merged_places.proofs.Whole.{there_row, type_stays, stay_apart}

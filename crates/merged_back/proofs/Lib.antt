@@ -9,4 +9,7 @@ pub mod Fresh
 pub mod Renamed
 pub mod TypeKeys
 pub mod Enclosers
+pub mod SignatureHomes
+pub mod FieldMets
+pub mod FieldReads
 pub mod Whole

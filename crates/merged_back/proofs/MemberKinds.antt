@@ -1,11 +1,9 @@
 -- Fields and methods of what is left that are there twice come from such of an input.
-use Rattle.std.proofs.Common.{◌≡◌, ◌<◌, ℕ, suc, Bool, true, List, [], ◌∷◌, length, map, Some, refl, sym, ap, ◌∙◌, nat_eq, ◌&&◌}
+use Rattle.std.proofs.Common.{◌≡◌, ◌<◌, ℕ, suc, Bool, true, List, [], ◌∷◌, length, map, Some, refl, ap, nat_eq, ◌&&◌}
 use Rattle.std.specs.List.{filter}
 use Rattle.std.specs.Prelude.{IsTrue, slice_get}
 use Rattle.std.specs.Cmp.Lexicographic.{pointwise}
-use Rattle.std.proofs.lemmas.Bool.{and_parts}
 use Rattle.il_base.specs.declared.table.TheConstants.{FIELD, METHOD_DEF}
-use Rattle.world_model.specs.declared.known.Known.{Known}
 use Rattle.world_model.specs.declared.expr.TypeExpr.{TypeExpr}
 use Rattle.world_model.specs.declared.types.TypeDefRow.{TypeDefRow}
 use Rattle.world_model.specs.declared.members.FieldRow.{FieldRow}
@@ -30,7 +28,7 @@ use Rattle.world_change_rules.specs.Places.{keeps_type_row, keeps_method_row, ke
 use Rattle.world_change_rules.specs.Rows.{move_method_type}
 use Rattle.merged_world_rules.specs.Merge.{Merge, IsMerge, before, after, output}
 use Rattle.merged_world_rules.specs.Numbering.{number_at}
-use Rattle.merged_world_rules.specs.NewNumbers.{rho_of, back_of, places_of}
+use Rattle.merged_world_rules.specs.NewNumbers.{rho_of, back_of}
 use Rattle.merged_world_rules.specs.Kept.{HasFlags}
 use Rattle.merged_links.specs.Repeats.{KeysBack, field_keys, method_keys}
 use Rattle.merged_places.proofs.Ranks.{rank}

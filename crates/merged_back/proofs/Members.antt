@@ -1,5 +1,5 @@
 -- Two members of what is left that are the same come from two of an input that are (II.22.15, II.22.26): for fields and methods alike.
-use Rattle.std.proofs.Common.{◌≡◌, ◌<◌, ◌≤◌, ℕ, suc, ◌+◌, Bool, true, false, nat_eq, List, [], ◌∷◌, length, map, Option, Some, None, inl, inr, refl, sym, ap, subst, ◌∙◌, arith}
+use Rattle.std.proofs.Common.{◌≡◌, ◌<◌, ℕ, suc, ◌+◌, Bool, true, false, nat_eq, List, [], ◌∷◌, length, map, Option, Some, None, inl, inr, refl, sym, ap, subst, ◌∙◌, arith}
 use Rattle.std.specs.Prelude.{IsTrue, slice_get, ◌&&◌, if◌then◌else◌}
 use Rattle.std.specs.List.{filter, position_from}
 use Rattle.std.proofs.lemmas.Bool.{eqb-true, eq-eqb, and_parts, and_from}
@@ -31,12 +31,12 @@ use Rattle.merged_places.proofs.Tables.{number_type, type_kind}
 use Rattle.merged_places.proofs.Moving.{Kind, place_kept}
 use Rattle.merged_places.proofs.Situations.{place, place_there}
 use Rattle.merged_rows_move.proofs.Members.{record_of}
-use Rattle.merged_rows_move.proofs.Owners.{First, first_is}
+use Rattle.merged_rows_move.proofs.Owners.{first_is}
 use Rattle.merged_signatures.proofs.Reading.{good_map}
 use Rattle.merged_back.proofs.Homes.{typ, stands_keeps, stays_stands}
 use Rattle.merged_back.proofs.Rows.{KeptRow, kept_row, lower, in_run, of_run, one_run, numbered_at, numbered_from}
 
-mapped_in : {A B : Type 0} (f : A → B) (xs : List A) (x : A) → In x xs → In (f x) (map f xs)
+pub mapped_in : {A B : Type 0} (f : A → B) (xs : List A) (x : A) → In x xs → In (f x) (map f xs)
 mapped_in f [] x h = absurd h
 mapped_in f (y ∷ xs) x (inl e) = inl (ap f e)
 mapped_in f (y ∷ xs) x (inr h) = inr (mapped_in f xs x h)

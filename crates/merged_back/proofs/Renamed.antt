@@ -1,19 +1,18 @@
 -- Kept top-level types have different full names in the output, but for two of one input that keep their own.
-use Rattle.std.proofs.Common.{◌≡◌, ◌<◌, ◌≤◌, ◌^◌, ℕ, zero, suc, ◌+◌, Bool, true, false, cond, nat_eq, List, [], ◌∷◌, ◌++◌, length, Option, Some, None, ◌⊎◌, inl, inr, refl, sym, ap, subst, ◌∙◌, arith, length-append}
-use Rattle.std.specs.Prelude.{slice_get, take, find, not, ◌==◌, ◌&&◌, ◌||◌, if◌then◌else◌}
+use Rattle.std.proofs.Common.{◌≡◌, ◌<◌, ◌≤◌, ◌^◌, ℕ, zero, suc, ◌+◌, Bool, true, false, cond, List, [], ◌∷◌, ◌++◌, length, Option, Some, None, ◌⊎◌, inl, inr, refl, sym, ap, ◌∙◌, arith, length-append}
+use Rattle.std.specs.Prelude.{slice_get, take, find, not, ◌==◌, if◌then◌else◌}
 use Rattle.std.specs.List.{list_any, filter}
 use Rattle.std.specs.Option.{is_some}
-use Rattle.std.proofs.lemmas.Bool.{and_from, and_parts, or_parts, ne_eqb, true≢false, cases_eq}
+use Rattle.std.proofs.lemmas.Bool.{and_from, or_parts, ne_eqb, true≢false, cases_eq}
 use Rattle.std.proofs.lemmas.List.{append-nil, append_assoc}
 use Rattle.world_model.specs.declared.record.AsmRec.{AsmRec}
 use Rattle.world_model.specs.Core.{same_name}
 use Rattle.link_rules.specs.declared.row_at.RowAt.{RowAt}
-use Rattle.link_rules.specs.Cycles.{same_row}
 use Rattle.type_rules.specs.Texts.{full_name_of}
-use Rattle.merge_rules.specs.Names.{NewName, is_top_level, old_name, namespace_of, has_name, fresh_name, named_by, is_rival, rival, names_from, new_names}
+use Rattle.merge_rules.specs.Names.{NewName, is_top_level, old_name, namespace_of, fresh_name, named_by, is_rival, rival, names_from, new_names}
 use Rattle.merge_rules.specs.Moved.{is_renamed}
 use Rattle.merged_places.proofs.Rows.{row_itself, rows_one, same_some}
-use Rattle.merged_back.proofs.Fresh.{name_is, is_name, is_free}
+use Rattle.merged_back.proofs.Fresh.{is_name, is_free}
 
 -- ---- what a search finds
 

@@ -1,7 +1,7 @@
 -- Kept rows by their places among the kept ones, and rows in runs (II.22.37).
-use Rattle.std.proofs.Common.{◌≡◌, ◌<◌, ◌≤◌, ℕ, zero, suc, ◌+◌, ◌-◌, Bool, true, false, nat_le, nat_lt, List, [], ◌∷◌, length, map, Option, Some, None, inl, inr, refl, sym, ap, subst, ◌∙◌, arith}
-use Rattle.std.specs.Prelude.{slice_get, take, drop, ◌&&◌}
-use Rattle.std.specs.List.{filter, position_from, range_with_len}
+use Rattle.std.proofs.Common.{◌≡◌, ◌<◌, ◌≤◌, ℕ, zero, suc, ◌+◌, ◌-◌, Bool, true, false, nat_le, nat_lt, List, [], ◌∷◌, length, map, Some, inl, inr, refl, sym, ap, subst, ◌∙◌, arith}
+use Rattle.std.specs.Prelude.{slice_get, take, drop}
+use Rattle.std.specs.List.{position_from, range_with_len}
 use Rattle.std.proofs.lemmas.Bool.{lt-ltb, le-ltb, le-leb, leb-true, ltb-true, cases_lt, and_parts, and_from, and_right}
 use Rattle.std.proofs.lemmas.List.{length-drop}
 use Rattle.il_base.specs.declared.ids.Item.{Item}
@@ -16,7 +16,7 @@ use Rattle.merge_rules.specs.Numbers.{Kept}
 use Rattle.merged_world_rules.specs.Numbering.{in_inputs, number_at}
 use Rattle.merged_places.proofs.Ranks.{rank, rank_rises}
 use Rattle.merged_places.proofs.Rows.{IsThere, place_has}
-use Rattle.merged_places.proofs.Kept.{IsInput, keeps, those, kept_numbers, kept_at}
+use Rattle.merged_places.proofs.Kept.{keeps, those, kept_numbers, kept_at}
 use Rattle.merged_rows_move.proofs.Owners.{at_place, place_is_rank}
 
 -- ---- a kept row by its place
@@ -76,7 +76,7 @@ short_take zero xs = (omega arith, omega arith)
 short_take (suc n) [] = (omega arith, omega arith)
 short_take (suc n) (x ∷ xs) = let s = short_take n xs in let a = s.0 in let b = s.1 in (omega (arith, a), omega (arith, b))
 
-run_by : {R : Type 0} (first end k : ℕ) (rows : List R) → first ≤ suc k → suc k < end → k < length rows → In k (run_places first end rows)
+pub run_by : {R : Type 0} (first end k : ℕ) (rows : List R) → first ≤ suc k → suc k < end → k < length rows → In k (run_places first end rows)
 run_by first end k rows from to low =
     let rest : length (drop (first - 1) rows) ≡ length rows - (first - 1) = length-drop (first - 1) rows in
     let d : k - (first - 1) < length (run_of first end rows) = long_take (end - first) (drop (first - 1) rows) (k - (first - 1)) (less first from) (omega (arith, rest, from, low)) in

@@ -1,5 +1,5 @@
 -- Two types of what is left that have one name and one encloser come from two of an input that do (II.22.37).
-use Rattle.std.proofs.Common.{◌≡◌, ◌<◌, ◌≤◌, ◌^◌, ℕ, suc, ◌+◌, Bool, true, false, nat_eq, List, [], ◌∷◌, length, map, Option, Some, None, ◌⊎◌, inl, inr, refl, sym, ap, subst, ◌∙◌, arith}
+use Rattle.std.proofs.Common.{◌≡◌, ◌<◌, ◌^◌, ℕ, suc, ◌+◌, Bool, true, false, List, length, map, Option, Some, None, inl, inr, refl, sym, ap, ◌∙◌, arith}
 use Rattle.std.specs.Prelude.{slice_get, find, ◌&&◌, ◌||◌}
 use Rattle.std.specs.List.{list_any}
 use Rattle.std.specs.Option.{option_map, option_and_then}
@@ -7,26 +7,26 @@ use Rattle.std.proofs.lemmas.Bool.{eqb-true, eq-eqb, and_parts, and_from, cases_
 use Rattle.il_base.specs.declared.table.TheConstants.{TYPE_DEF}
 use Rattle.world_model.specs.declared.types.TypeDefRow.{TypeDefRow}
 use Rattle.world_model.specs.declared.record.AsmRec.{AsmRec}
-use Rattle.world_model.specs.Records.{rows_in, table_sizes}
+use Rattle.world_model.specs.Records.{table_sizes}
 use Rattle.world_model.specs.Core.{same_name}
 use Rattle.world_model.specs.Worlds.{types_in}
 use Rattle.link_rules.specs.declared.row_at.RowAt.{RowAt}
 use Rattle.link_rules.specs.Types.{at_row, encloser, same_place}
 use Rattle.link_rules.specs.Cycles.{listed}
-use Rattle.link_rules.specs.Faults.{same_key, TypeKey, same_type_key, type_key}
-use Rattle.type_rules.specs.Rows.{rec_at, type_row_at}
+use Rattle.link_rules.specs.Faults.{same_key, same_type_key, type_key}
+use Rattle.type_rules.specs.Rows.{type_row_at}
 use Rattle.type_rules.specs.Texts.{full_name, full_name_of}
 use Rattle.merge_rules.specs.Numbers.{kept_types}
 use Rattle.merge_rules.specs.Names.{NewName, is_top_level, flat, old_name, namespace_of, new_names}
 use Rattle.merge_rules.specs.Refs.{first_or}
 use Rattle.merge_rules.specs.Moved.{is_renamed, written_name, moved_type_row}
 use Rattle.merge_rules.specs.Restricted.{output_of}
-use Rattle.merged_world_rules.specs.Merge.{Merge, IsMerge, before, after, output}
+use Rattle.merged_world_rules.specs.Merge.{Merge, IsMerge, before, output}
 use Rattle.merged_world_rules.specs.Numbering.{number_at}
 use Rattle.merged_links.specs.Repeats.{Twice, KeysBack, type_keys}
 use Rattle.merged_places.proofs.Ranks.{rank, rank_kept, rank_rises}
-use Rattle.merged_places.proofs.Rows.{IsThere, place_within, place_has, same_some, one_by_number}
-use Rattle.merged_places.proofs.Kept.{keeps, those}
+use Rattle.merged_places.proofs.Rows.{place_within, place_has, same_some, one_by_number}
+use Rattle.merged_places.proofs.Kept.{keeps}
 use Rattle.merged_places.proofs.Worlds.{before_input}
 use Rattle.merged_places.proofs.Moving.{place_kept}
 use Rattle.merged_places.proofs.Situations.{place_there, Input}
@@ -34,7 +34,7 @@ use Rattle.merged_places.proofs.Tables.{number_type, type_kind, type_left, types
 use Rattle.merged_rows_move.proofs.Nesting.{encloser_moved, encloser_input}
 use Rattle.merged_back.specs.Premises.{KeepsEnclosers}
 use Rattle.merged_back.proofs.Fresh.{name_is, is_name}
-use Rattle.merged_back.proofs.Renamed.{Keep, keeps as keep_names, nested_keeps, written_full}
+use Rattle.merged_back.proofs.Renamed.{keeps as keep_names, nested_keeps, written_full}
 use Rattle.merged_back.proofs.Rows.{KeptRow, kept_row, lower, numbered_at, numbered_from}
 
 place_same : (x y : Option ℕ) → same_place x y ≡ true → x ≡ y

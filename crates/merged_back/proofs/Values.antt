@@ -1,8 +1,8 @@
 -- The value types in a moved type are places of those in the type (II.13).
-use Rattle.std.proofs.Common.{◌≡◌, ℕ, List, [], ◌∷◌, ◌++◌, map, Bool, true, false, Option, Some, None, ◌⊎◌, inl, inr, refl, sym, ap, subst, ◌∙◌}
+use Rattle.std.proofs.Common.{◌≡◌, ℕ, List, [], ◌∷◌, map, Bool, true, false, Option, Some, None, ◌⊎◌, inl, inr, refl, sym, ap, subst, ◌∙◌}
 use Rattle.std.specs.Prelude.{IsTrue, ◌&&◌, ◌||◌, not, if◌then◌else◌}
 use Rattle.std.specs.List.{list_any, flat_map}
-use Rattle.std.specs.Option.{option_map, option_and_then}
+use Rattle.std.specs.Option.{option_and_then}
 use Rattle.std.proofs.lemmas.Bool.{and_parts, and_from, or_cases, or_left, or_right}
 use Rattle.il_base.specs.declared.ids.TypeId.{TypeId}
 use Rattle.core_table.specs.declared.tokens.TheConstants.{VALUE_TYPE, ENUM}
@@ -13,7 +13,7 @@ use Rattle.world_model.specs.declared.record.AsmRec.{AsmRec}
 use Rattle.link_rules.specs.declared.row_at.RowAt.{RowAt}
 use Rattle.link_rules.specs.Members.{type_home, base_at}
 use Rattle.link_rules.specs.Cycles.{listed, home_of, is_core_row_at, extends_core, is_value_type, value_row, value_rows, instance_rows, values_layer, values_in}
-use Rattle.type_laws.proofs.Within.{In, in_front, in_behind, in_parts, in_flat, flat_in}
+use Rattle.type_laws.proofs.Within.{In, in_front, in_behind, in_parts}
 use Rattle.change_rules.specs.Change.{Keep, Undone}
 use Rattle.change_rules.specs.Moves.{move_type, move_expr, move_exprs}
 use Rattle.change_laws.proofs.Exprs.{moved_in, move_rolled, With, plain_parts}
@@ -23,8 +23,8 @@ use Rattle.merged_world_rules.specs.NewNumbers.{rho_of, back_of, places_of}
 use Rattle.merged_world_rules.specs.Kept.{HasFlags}
 use Rattle.merged_rows_move.specs.Premises.{ReadsTokens, HasGoodBases}
 use Rattle.merged_rows_move.proofs.Whole.{bases, marks}
-use Rattle.merged_back.proofs.Homes.{stands, stands_keeps, Led, led_back}
-use Rattle.merged_back.proofs.Graphs.{mapped_some, then_some, Comes, home_comes}
+use Rattle.merged_back.proofs.Homes.{stands, stands_keeps, led_back}
+use Rattle.merged_back.proofs.Graphs.{mapped_some, then_some, home_comes}
 
 -- ---- tests
 

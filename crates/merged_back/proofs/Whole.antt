@@ -1,7 +1,6 @@
 -- What is left of inputs that link leads back to them, so it links.
-use Rattle.std.proofs.Common.{◌≡◌, ◌<◌, ℕ, suc, List, [], ◌∷◌, length, Bool, None, refl, sym, ap, ◌∙◌, arith}
-use Rattle.std.specs.Prelude.{IsTrue, slice_get}
-use Rattle.world_model.specs.declared.record.AsmRec.{AsmRec}
+use Rattle.std.proofs.Common.{◌≡◌, ◌<◌, ℕ, [], ◌∷◌, length, Bool, None, sym, ◌∙◌, arith}
+use Rattle.std.specs.Prelude.{IsTrue}
 use Rattle.world_model.specs.Worlds.{types_in}
 use Rattle.link_rules.specs.declared.row_at.RowAt.{RowAt}
 use Rattle.link_rules.specs.Faults.{same_type_key}
@@ -12,14 +11,13 @@ use Rattle.merged_world_rules.specs.NewNumbers.{rho_of, back_of, places_of}
 use Rattle.merged_world_rules.specs.Kept.{HasFlags}
 use Rattle.merged_links.specs.Cycles.{IsType, TypesLead, StandsFor}
 use Rattle.merged_links.specs.Repeats.{KeysBack, type_keys}
-use Rattle.merged_links.specs.Joined.{LeadsBack}
 use Rattle.merged_links.proofs.Joined.{links_stay}
 use Rattle.merged_places.proofs.Worlds.{before_input}
 use Rattle.merged_places.proofs.Tables.{number_type, types_counted}
 use Rattle.merged_places.proofs.Whole.{undone_of}
 use Rattle.merged_back.specs.Laws.{Reads}
 use Rattle.merged_back.proofs.Homes.{stands, stands_there, stays_stands, places_one, place_is}
-use Rattle.merged_back.proofs.Rows.{KeptRow, kept_row}
+use Rattle.merged_back.proofs.Rows.{kept_row}
 use Rattle.merged_back.proofs.Graphs.{bases_lead, interfaces_lead}
 use Rattle.merged_back.proofs.FieldValues.{values_lead}
 use Rattle.merged_back.proofs.Members.{kept_stands}

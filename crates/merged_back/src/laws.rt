@@ -1,4 +1,7 @@
-ghost use Rattle.merged_back.specs.Laws.{EnclosersStay, LeftLinks, MarkedLinks};
+ghost use Rattle.merged_back.specs.Laws.{EnclosersStay, FieldsRead, LeftLinks, MarkedLinks};
+
+use merged_owners::laws::owners_stay;
+use merged_standing::laws::reference_rows_stand;
 
 /// A law: what a merge leaves of inputs that link links, where what it reads is what they read, moved, and types go with those around
 /// them. It does nothing.
@@ -10,6 +13,15 @@ pub fn left_links()
 pub fn enclosers_stay()
     ensures { EnclosersStay }
 {}
+
+/// A law: there, a kept field's signature names in the output what it named, moved, if all that the output refers to is there. It does
+/// nothing.
+pub fn fields_read()
+    ensures { FieldsRead }
+{
+    owners_stay();
+    reference_rows_stand();
+}
 
 /// A law: so what a merge leaves that keeps exactly what is marked links. It does nothing.
 pub fn marked_links()

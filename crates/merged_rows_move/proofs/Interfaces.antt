@@ -232,7 +232,7 @@ module _ (m : Merge) (is : IsMerge m) (k : Keep) (kept : RowAt → Bool) (flags 
         → only_interface (after m) (good_type (token_type (after m) 0 m.left (moved_type (output m) at.asm h.there.rec row.interface)))
         ≡ map (move_expr (rho_of m)) (only_interface (before m) (good_type (token_type (before m) at.asm h.there.rec row.interface)))
     face_row i row f mine stays =
-        let g = good at.asm i h.there.rec row h.there.here f h.earlier stays in
+        let g = good at.asm i at.row h.there.rec row h.there.here f h.earlier mine h.keeps_it stays in
         ap (λ (t : Known TypeExpr). only_interface (after m) (good_type t)) (reads at.asm h.there.rec row.interface g.typ h.there.here h.earlier (impl_met i row f mine stays (some_interface g.typ g.reads (row.interface == 0) refl)) g.reads)
         ∙ only_moved g.typ g.stays ∙ sym (ap (λ (t : Known TypeExpr). map (move_expr (rho_of m)) (only_interface (before m) (good_type t))) g.reads)
       where

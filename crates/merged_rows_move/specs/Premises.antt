@@ -10,7 +10,7 @@ use Rattle.world_model.specs.declared.members.MethodDefRow.{MethodDefRow}
 use Rattle.world_model.specs.declared.members.MethodImplRow.{MethodImplRow}
 use Rattle.world_model.specs.declared.record.AsmRec.{AsmRec}
 use Rattle.world_model.specs.Records.{IsRecord}
-use Rattle.world_model.specs.Tokens.{index_in}
+use Rattle.world_model.specs.Tokens.{token_of, index_in}
 use Rattle.world_model.specs.Worlds.{known_then, known_map}
 use Rattle.link_rules.specs.declared.row_at.RowAt.{RowAt}
 use Rattle.link_rules.specs.Types.{at_row, encloser}
@@ -50,16 +50,17 @@ HasGoodBases m =
     (at : RowAt) (rec : AsmRec) (t : TypeDefRow) → slice_get (before m) at.asm ≡ Some rec → slice_get rec.type_def at.row ≡ Some t → suc at.asm < length (before m)
     → m.kept (type_item (before m) at) ≡ true → (t.extends == 0) ≡ false → (e : TypeExpr) × (token_type (before m) at.asm rec t.extends ≡ Good e)
 
--- the interface of a kept row has a reading, and is kept
+-- the interface of a kept row of a kept type has a reading, and is kept
 pub record GoodInterface (m : Merge) (k : Keep) (a : ℕ) (rec : AsmRec) (row : InterfaceImplRow) : Type 0 where
   pub typ : TypeExpr
   pub reads : token_type (before m) a rec row.interface ≡ Good typ
   pub stays : IsTrue (keeps_expr k typ)
 
+-- of rows whose class is kept: others aren't written
 abbrev pub HasGoodInterfaces : Merge → Keep → Type 0
 HasGoodInterfaces m k =
-    (a i : ℕ) (rec : AsmRec) (row : InterfaceImplRow) → slice_get (before m) a ≡ Some rec → slice_get rec.interface_impl i ≡ Some row → suc a < length (before m)
-    → m.kept (impl_item (before m) (at_row a i)) ≡ true → GoodInterface m k a rec row
+    (a i j : ℕ) (rec : AsmRec) (row : InterfaceImplRow) → slice_get (before m) a ≡ Some rec → slice_get rec.interface_impl i ≡ Some row → suc a < length (before m)
+    → (row.class == token_of TYPE_DEF (suc j)) ≡ true → m.kept (type_item (before m) (at_row a j)) ≡ true → m.kept (impl_item (before m) (at_row a i)) ≡ true → GoodInterface m k a rec row
 
 -- the declaration and the body that a MethodImpl row names, where both are there
 abbrev pub uses_of : List AsmRec → ℕ → AsmRec → MethodImplRow → List Impl

@@ -1,5 +1,6 @@
 -- The base of a kept type and the interface of a kept row have a reading, since nothing that is marked has a flaw.
-use Rattle.std.proofs.Common.{◌≡◌, ◌<◌, ℕ, suc, Bool, true, false, List, [], ◌∷◌, ◌++◌, length, Option, Some, None, inl, refl, sym, subst, ◌∙◌}
+use Rattle.std.proofs.Common.{◌≡◌, ◌<◌, ◌≤◌, ℕ, suc, Bool, true, false, List, [], ◌∷◌, ◌++◌, length, Option, Some, None, ◌⊎◌, inl, inr, refl, sym, subst, ◌∙◌}
+use Rattle.std.proofs.lemmas.Bool.{cases_lt}
 use Rattle.std.specs.Prelude.{IsTrue, slice_get, ◌==◌, if◌then◌else◌}
 use Rattle.std.specs.List.{flat_map}
 use Rattle.il_base.specs.declared.table.TheConstants.{TYPE_DEF, INTERFACE_IMPL}
@@ -10,6 +11,7 @@ use Rattle.world_model.specs.declared.types.TypeDefRow.{TypeDefRow}
 use Rattle.world_model.specs.declared.types.InterfaceImplRow.{InterfaceImplRow}
 use Rattle.world_model.specs.declared.record.AsmRec.{AsmRec}
 use Rattle.world_model.specs.Tokens.{token_of}
+use Rattle.world_model.specs.Worlds.{types_in, type_id}
 use Rattle.link_rules.specs.declared.row_at.RowAt.{RowAt}
 use Rattle.link_rules.specs.Types.{at_row}
 use Rattle.link_rules.specs.Signatures.{token_type}
@@ -21,16 +23,19 @@ use Rattle.mark_rules.specs.Facts.{Fact}
 use Rattle.mark_rules.specs.Places.{type_item, impl_item}
 use Rattle.mark_rules.specs.Naming.{Part, type_token_part}
 use Rattle.mark_rules.specs.Types.{extends_of, constraints_of, parts_of_type, parts_of_impl}
+use Rattle.marked_laws.specs.Flags.{OfClass}
 use Rattle.marked_laws.proofs.Places.{type_row_of, impl_row_of}
 use Rattle.marked_laws.proofs.Parts.{token_named, part_kept}
 use Rattle.marked_laws.proofs.Rows.{of_impl}
 use Rattle.merged_tokens.proofs.Parts.{names_type}
 use Rattle.merged_world_rules.specs.Merge.{Merge, before}
 use Rattle.merged_rows_move.specs.Premises.{GoodInterface, HasGoodInterfaces, HasGoodBases}
-use Rattle.merged_places.proofs.Rows.{place_within}
+use Rattle.merged_places.proofs.Rows.{IsThere}
+use Rattle.merged_rows_move.proofs.Members.{record_of}
+use Rattle.merged_rows_move.proofs.Nesting.{NamesRow, names_row_is, other_token}
 use Rattle.marked_merge_rules.specs.Merges.{IsMarkedMerge, flags_of}
 use Rattle.trim_moves.specs.Laws.{keep_by, IsFlagged}
-use Rattle.trim_moves.proofs.Flags.{flag_is, impl_row}
+use Rattle.trim_moves.proofs.Flags.{type_row, type_home_is, input_plain, flag_is}
 
 module _ (recs : List AsmRec) (at : RowAt) (rec : AsmRec) (here : slice_get recs at.asm ≡ Some rec) where
   abbrev base_part : TypeDefRow → Part
@@ -61,9 +66,38 @@ bases_good m entry roots merge at rec t here is lt kept some =
     (contains (parts_of_type recs at) (base_part recs at rec here t) (base_in recs at rec here t is some))
 
 module _ (m : Merge) (entry : Option RowAt) (roots : List Root) (holds : Fact → Bool) (flagged : IsFlagged m entry roots holds) where
-  interface_good : (at : RowAt) (rec : AsmRec) (row : InterfaceImplRow) → slice_get (before m) at.asm ≡ Some rec → slice_get rec.interface_impl at.row ≡ Some row → suc at.asm < length (before m)
-      → m.kept (impl_item (before m) at) ≡ true → GoodInterface m (keep_by m holds) at.asm rec row
-  interface_good at rec row here is lt kept =
+  -- the class of a row is a row of types
+  class_low : (rec : AsmRec) (row : InterfaceImplRow) (j : ℕ) → NamesRow rec row.class → (row.class == token_of TYPE_DEF (suc j)) ≡ true → (j < length rec.type_def) ⊎ (length rec.type_def ≤ j) → j < length rec.type_def
+  class_low rec row j n mine (inl lt) = lt
+  class_low rec row j n mine (inr past) =
+      let other : (row.class == token_of TYPE_DEF (suc j)) ≡ false = other_token rec row.class n j past in
+      let bad : true ≡ false = sym mine ∙ other in
+      absurd (cc)
+
+  class_there : (at : RowAt) (rec : AsmRec) (row : InterfaceImplRow) (j : ℕ) → slice_get (before m) at.asm ≡ Some rec → slice_get rec.interface_impl at.row ≡ Some row → suc at.asm < length (before m)
+      → (row.class == token_of TYPE_DEF (suc j)) ≡ true → IsThere types_in (before m) (at_row at.asm j)
+  class_there at rec row j here is lt mine =
+      let n = names_row_is rec row.class ((record_of m flagged.merge.merge at.asm rec here lt).tokens.interface_impls at.row row is).0 in
+      record { rec = rec; here = here; below = class_low rec row j n mine (cases_lt j (length rec.type_def)) }
+
+  of_class : (at : RowAt) (rec : AsmRec) (row : InterfaceImplRow) (j : ℕ) → slice_get (before m) at.asm ≡ Some rec → slice_get rec.interface_impl at.row ≡ Some row → suc at.asm < length (before m)
+      → (row.class == token_of TYPE_DEF (suc j)) ≡ true → m.kept (type_item (before m) (at_row at.asm j)) ≡ true → OfClass (before m) (flags_of m holds) at
+  of_class at rec row j here is lt mine kept =
+      let there = class_there at rec row j here is lt mine in
+      let home = type_home_is m (at_row at.asm j) there in
+      record {
+        rec = rec;
+        there = here;
+        row = row;
+        is = is;
+        class = j;
+        named = mine;
+        marks = flag_is m entry roots holds flagged (type_item (before m) (at_row at.asm j)) (at_row at.asm j) (type_row m (at_row at.asm j) there) (input_plain m (type_id (before m) at.asm j) (at_row at.asm j) home lt) ∙ kept;
+      }
+
+  interface_good : (at : RowAt) (rec : AsmRec) (row : InterfaceImplRow) (j : ℕ) → slice_get (before m) at.asm ≡ Some rec → slice_get rec.interface_impl at.row ≡ Some row → suc at.asm < length (before m)
+      → (row.class == token_of TYPE_DEF (suc j)) ≡ true → m.kept (type_item (before m) (at_row at.asm j)) ≡ true → m.kept (impl_item (before m) at) ≡ true → GoodInterface m (keep_by m holds) at.asm rec row
+  interface_good at rec row j here is lt mine class kept =
       let recs : List AsmRec = before m in
       let p : Part = interface_part recs at rec here row in
       let within : In p (parts_of_impl recs at) = interface_in recs at rec here row is in
@@ -74,9 +108,9 @@ module _ (m : Merge) (entry : Option RowAt) (roots : List Root) (holds : Fact �
         typ = n.0;
         reads = n.1;
         stays =
-            part_kept recs entry roots (flags_of m holds) flagged.marks (impl_item recs at) at (of_impl recs entry roots (flags_of m holds) flagged.marks at rec row marks here is) p n.0 within within
-            (token_named recs at.asm rec (token_of INTERFACE_IMPL (suc at.row)) 0 row.interface n.0 n.1);
+            part_kept recs entry roots (flags_of m holds) flagged.marks (impl_item recs at) at (of_impl recs entry roots (flags_of m holds) flagged.marks at rec row marks (of_class at rec row j here is lt mine class) here is) p n.0 within
+            within (token_named recs at.asm rec (token_of INTERFACE_IMPL (suc at.row)) 0 row.interface n.0 n.1);
       }
 
   pub interfaces_good : HasGoodInterfaces m (keep_by m holds)
-  interfaces_good a i rec row here is lt kept = interface_good (at_row a i) rec row here is lt kept
+  interfaces_good a i j rec row here is lt mine class kept = interface_good (at_row a i) rec row j here is lt mine class kept

@@ -36,8 +36,8 @@ add_rows-requires-clause-rows c =
     let made = c.as_slice-made.result.now in
     let there : slice_get recs c.loop-a.a ≡ Some c.index-all-a.result = subst (λ (rs : List AsmRec). slice_get rs c.loop-a.a ≡ Some c.index-all-a.result) c.as_slice-all.ensures (here_at c.as_slice-all.result.now c.loop-a.a c.index-all-a.result c.loop-a-test.true c.index-all-a.is) in
     let are : AreGroups (body_numbers recs c.loop-a.a c.index-all-a.result) (get_or made c.loop-a.a c.index-made-a.result) =
-        zip_at AreGroups (numbers_from recs 0 recs) made (subst (λ (gs : List Groups). AllZip AreGroups (numbers_from recs 0 recs) gs) (sym c.as_slice-made.ensures.value) c.requires.impls) c.loop-a.a
-        (body_numbers recs c.loop-a.a c.index-all-a.result) c.index-made-a.result (own_numbers recs c.loop-a.a c.index-all-a.result there) in
+    zip_at AreGroups (numbers_from recs 0 recs) made (subst (λ (gs : List Groups). AllZip AreGroups (numbers_from recs 0 recs) gs) (sym c.as_slice-made.ensures.value) c.requires.impls) c.loop-a.a
+    (body_numbers recs c.loop-a.a c.index-all-a.result) c.index-made-a.result (own_numbers recs c.loop-a.a c.index-all-a.result there) in
     let own : AreGroups (body_numbers recs c.loop-a.a c.index-all-a.result) c.index-made-a.result = subst (λ (g : Groups). AreGroups (body_numbers recs c.loop-a.a c.index-all-a.result) g) (sym c.index-made-a.is) are in
     subst (λ (n : ℕ). AreGroups (body_numbers recs n c.index-all-a.result) c.index-made-a.result) (sym c.in_ok-asm.ensures) own
 
