@@ -1,11 +1,10 @@
 -- What a trim of files writes behaves as they do, by the laws on merges.
 use Rattle.std.proofs.Common.{◌≡◌, ◌≤◌, ◌<◌, ℕ, zero, suc, ◌+◌, Bool, true, false, List, [], ◌∷◌, length, map, Option, Some, None, nat_le, nat_lt, refl, sym, ap, subst, ◌∙◌, arith}
-use Rattle.std.specs.Prelude.{IsTrue, slice_get, unwrap_or}
+use Rattle.std.specs.Prelude.{IsTrue, slice_get, unwrap_or, if◌then◌else◌}
 use Rattle.std.specs.Option.{is_some, option_map}
 use Rattle.std.proofs.lemmas.Bool.{le-leb, lt-ltb, ltb-true}
 use Rattle.il_base.specs.declared.ids.Item.{Item}
 use Rattle.il_base.specs.declared.table.TheConstants.{METHOD_DEF}
-use Rattle.blob_grammar.specs.Laws.{AreBytes}
 use Rattle.cli_format.specs.declared.error.TablesError.{TablesError}
 use Rattle.cli_format.specs.Demand.{first_fault}
 use Rattle.record_format.specs.Record.{record_demands, record_at, HasRecord}
@@ -47,6 +46,7 @@ use Rattle.run_rules.specs.Runs.{FileRun, end_of, file_run, entry_of, world_run,
 use Rattle.run_rules.specs.Alike.{SamePlace, SameEnd, SameRun}
 use Rattle.program_trim.specs.declared.answers.ProgramTrim.{ProgramTrim}
 use Rattle.program_trim.specs.Trim.{IsKeptSet, TrimmedWorld}
+use Rattle.trim_core.specs.Taken.{Bytes}
 use Rattle.trim_core.specs.Behaves.{most_bytes, Behaves}
 use Rattle.trim_core.specs.Told.{entry_row}
 
@@ -68,10 +68,6 @@ all_read i None e = refl
 all_read i (Some (TablesError.Bad at)) e = absurd (cc)
 all_read i (Some (TablesError.Rows n)) e = absurd (cc)
 all_read i (Some TablesError.NoMemory) e = absurd (cc)
-
--- each is bytes
-abbrev pub Bytes : List (List ℕ) → Type 0
-Bytes files = (a : ℕ) (f : List ℕ) → slice_get files a ≡ Some f → AreBytes f
 
 each_of_file : (i : ℕ) (files : List (List ℕ)) → Bytes files → record_fault i files ≡ None → AreOfFiles (map record_at files)
 unfolding record_fault
@@ -98,10 +94,10 @@ module _ (files : List (List ℕ)) (sound : input_fault files ≡ None) where
 
 -- ---- the entry method
 
-record EntryOf (rec : AsmRec) : Type 0 where
-  k : ℕ
-  names : index_in METHOD_DEF rec.entry ≡ Some k
-  below : k < length rec.method_def
+pub record EntryOf (rec : AsmRec) : Type 0 where
+  pub k : ℕ
+  pub names : index_in METHOD_DEF rec.entry ≡ Some k
+  pub below : k < length rec.method_def
 
 entry_by : (rec : AsmRec) (o : Option ℕ) → index_in METHOD_DEF rec.entry ≡ o → is_some (row_below (length rec.method_def) o) ≡ true → EntryOf rec
 entry_by rec None e h = absurd (cc)

@@ -1,6 +1,7 @@
 -- What files were taken as, and what a trim of them is.
-use Rattle.std.proofs.Common.{◌≡◌, ℕ, suc, ◌≤◌, List, [], ◌∷◌, ◌++◌, length, take, Option, Some, None, Result, Ok, Err, refl, sym, ap, subst, ◌∙◌, arith, rules}
+use Rattle.std.proofs.Common.{◌≡◌, ℕ, zero, suc, ◌<◌, ◌≤◌, List, [], ◌∷◌, ◌++◌, length, take, Option, Some, None, Result, Ok, Err, refl, sym, ap, subst, ◌∙◌, arith, rules}
 use Rattle.std.specs.Option.{option_map}
+use Rattle.blob_grammar.specs.Laws.{AreBytes}
 use Rattle.record_format.specs.Record.{record_at}
 use Rattle.world_model.specs.declared.record.AsmRec.{AsmRec}
 use Rattle.world_model.specs.declared.world.World.{World}
@@ -20,10 +21,10 @@ use Rattle.trim_core.specs.declared.answers.Opts.{Opts}
 use Rattle.trim_core.specs.declared.answers.Refusal.{Refusal}
 use Rattle.trim_core.specs.declared.answers.Refusal.TheVariants as refusal
 use Rattle.trim_core.specs.declared.answers.Trimmed.{Trimmed}
-use Rattle.trim_core.specs.Taken.{IsTaken}
+use Rattle.trim_core.specs.Taken.{Bytes, IsTaken}
 use Rattle.trim_core.specs.Told.{or_refusal, input_refusal, roots_refusal, too_long, entry_row, RefusedBy}
 use Rattle.trim_core.specs.Trim.{TrimmedProgram, TrimsProgram, TrimsFiles, TrimsUnless}
-use Rattle.trim_core.proofs.Behaving.{Bytes, behaves}
+use Rattle.trim_core.proofs.Behaving.{behaves}
 
 -- ---- files that were taken
 
@@ -85,6 +86,16 @@ pub count_is : (files : List (List ℕ)) (w : World) (n : ℕ) (xs : List AsmRec
 count_is files w n xs t a b =
     a ∙ sym (length_records files) ∙ ap (λ (ys : List AsmRec). length ys) (sym (inputs_are files w t))
     ∙ ap (λ (ys : List AsmRec). length (take (length files) ys)) (sym b) ∙ ap (λ (m : ℕ). length (take m xs)) (sym a)
+
+-- ---- files are bytes
+
+pub no_bytes : (files : List (List ℕ)) → length files < 1 → Bytes files
+no_bytes [] few a f e = absurd (cc)
+no_bytes (g ∷ fs) few a f e = absurd (omega (arith, few))
+
+pub more_bytes : (f : List ℕ) (fs : List (List ℕ)) → AreBytes f → Bytes fs → Bytes (f ∷ fs)
+more_bytes f fs one more zero g e = let same : f ≡ g = cc in subst AreBytes same one
+more_bytes f fs one more (suc a) g e = more a g e
 
 -- ---- what a trim is
 

@@ -1,5 +1,6 @@
 -- What files were taken as.
-use Rattle.std.specs.Prelude.{◌≡◌, ℕ, List, None}
+use Rattle.std.specs.Prelude.{◌≡◌, ℕ, List, Some, None, slice_get}
+use Rattle.blob_grammar.specs.Laws.{AreBytes}
 use Rattle.world_model.specs.declared.world.World.{World}
 use Rattle.link_rules.specs.Linked.{world_of}
 use Rattle.inputs.specs.Files.{input_fault, records}
@@ -8,3 +9,7 @@ use Rattle.inputs.specs.Files.{input_fault, records}
 pub record IsTaken (files : List (List ℕ)) (w : World) : Type 0 where
   pub sound : input_fault files ≡ None
   pub world : w ≡ world_of (records files)
+
+-- each file is bytes
+abbrev pub Bytes : List (List ℕ) → Type 0
+Bytes files = (a : ℕ) (f : List ℕ) → slice_get files a ≡ Some f → AreBytes f

@@ -5,7 +5,8 @@ ghost use Rattle.link_rules.specs.Linked.{IsWorld};
 ghost use Rattle.flaw_laws.specs.There.{RowsThere};
 ghost use Rattle.inputs.specs.Files.{records};
 ghost use Rattle.trim_core.specs.Told.{entry_row};
-ghost use Rattle.trim_core.specs.Taken.{IsTaken};
+ghost use Rattle.blob_grammar.specs.Laws.{AreBytes};
+ghost use Rattle.trim_core.specs.Taken.{Bytes, IsTaken};
 ghost use Rattle.descriptor_roots.specs.Roots.{roots_of};
 ghost use Rattle.trim_core.specs.Trim.{TrimsProgram, TrimsFiles, list_if};
 
@@ -29,6 +30,26 @@ fn world_told(files: &Seq<Text>, world: &World)
     let _ = files;
     let _ = world;
     files_told();
+}
+
+/// What is read from memory are bytes. It does nothing.
+fn bytes_told(bytes: &[u8])
+    ensures { AreBytes bytes.now }
+{
+    let _ = bytes;
+}
+
+/// So are files.
+fn all_bytes_told(files: &[Text])
+    ensures { Bytes files.now }
+{
+    match files {
+        [] => (),
+        [file, rest @ ..] => {
+            bytes_told(file.as_slice());
+            all_bytes_told(rest);
+        }
+    }
 }
 
 /// The keep list where it is wanted, else nothing.
@@ -78,6 +99,7 @@ pub(crate) fn trim_program(
 {
     let _ = descriptors;
     world_told(files, world);
+    all_bytes_told(files.as_slice());
     trims_behave();
     files_merge();
     let entry = entry_row(inputs_of(files, world));
