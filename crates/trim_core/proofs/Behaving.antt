@@ -1,15 +1,13 @@
 -- What a trim of files writes behaves as they do, by the laws on merges.
 use Rattle.std.proofs.Common.{◌≡◌, ◌≤◌, ◌<◌, ℕ, zero, suc, ◌+◌, Bool, true, false, List, [], ◌∷◌, length, map, Option, Some, None, nat_le, nat_lt, refl, sym, ap, subst, ◌∙◌, arith}
-use Rattle.std.specs.Prelude.{IsTrue, slice_get, unwrap_or, if◌then◌else◌}
+use Rattle.std.specs.Prelude.{slice_get, unwrap_or, if◌then◌else◌}
 use Rattle.std.specs.Option.{is_some, option_map}
 use Rattle.std.proofs.lemmas.Bool.{le-leb, lt-ltb, ltb-true}
-use Rattle.il_base.specs.declared.ids.Item.{Item}
 use Rattle.il_base.specs.declared.table.TheConstants.{METHOD_DEF}
 use Rattle.cli_format.specs.declared.error.TablesError.{TablesError}
 use Rattle.cli_format.specs.Demand.{first_fault}
 use Rattle.record_format.specs.Record.{record_demands, record_at, HasRecord}
 use Rattle.world_model.specs.declared.record.AsmRec.{AsmRec}
-use Rattle.world_model.specs.declared.world.World.{World}
 use Rattle.world_model.specs.Tokens.{index_in}
 use Rattle.world_model.specs.Worlds.{row_below}
 use Rattle.descriptor_file.specs.declared.root.Root.{Root}
@@ -24,26 +22,21 @@ use Rattle.change_rules.specs.Change.{Rho}
 use Rattle.change_rules.specs.States.{move_end}
 use Rattle.lock_steps.specs.Laws.{move_outcome}
 use Rattle.inputs.specs.declared.error.InputError.{InputError}
-use Rattle.inputs.specs.Files.{or_fault, unless, count_fault, length_fault, bytes_of, sum_fault, limit_fault, unread_as, record_fault, linking_fault, entry_fault, input_fault, records, unlinked_as, names_method}
+use Rattle.inputs.specs.Files.{or_fault, unless, length_fault, bytes_of, limit_fault, unread_as, record_fault, linking_fault, entry_fault, input_fault, records, unlinked_as, names_method}
 use Rattle.mark_rules.specs.Facts.Fact.{marked}
 use Rattle.mark_rules.specs.Marking.{Marks}
-use Rattle.mark_rules.specs.Places.{row_of}
 use Rattle.mark_numbers.specs.Numbers.{is_there}
 use Rattle.merge_rules.specs.Numbers.{Kept}
-use Rattle.merge_rules.specs.Restricted.{restricted}
 use Rattle.merged_owners.specs.Laws.{AreMarked, AreKept}
-use Rattle.merged_loads.specs.Laws.{IsOfFile, AreOfFiles}
+use Rattle.merged_loads.specs.Laws.{AreOfFiles}
 use Rattle.merged_world_rules.specs.Merge.{Merge, IsMerge}
 use Rattle.merged_world_rules.specs.NewNumbers.{rho_of}
-use Rattle.marked_merge_rules.specs.Merges.{BeginsWithModule, IsMarkedMerge}
-use Rattle.trim_moves.specs.Laws.{NamesApart}
-use Rattle.trim_runs.specs.Entry.{IsEntry}
+use Rattle.marked_merge_rules.specs.Merges.{BeginsWithModule}
 use Rattle.trim_behaves.specs.Laws.{FilesMerge, merge_of}
 use Rattle.trim_behaves.specs.Behaves as law
 use Rattle.trim_behaves.specs.Behaves.{TrimsBehave}
-use Rattle.run_rules.specs.declared.answers.EndKind.{EndKind}
 use Rattle.run_rules.specs.Runs.{FileRun, end_of, file_run, entry_of, world_run, run_of_files}
-use Rattle.run_rules.specs.Alike.{SamePlace, SameEnd, SameRun}
+use Rattle.run_rules.specs.Alike.{SameEnd, SameRun}
 use Rattle.program_trim.specs.declared.answers.ProgramTrim.{ProgramTrim}
 use Rattle.program_trim.specs.Trim.{IsKeptSet, TrimmedWorld}
 use Rattle.trim_core.specs.Taken.{Bytes}

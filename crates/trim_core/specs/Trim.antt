@@ -7,7 +7,6 @@ use Rattle.inputs.specs.Files.{records}
 use Rattle.descriptor_file.specs.declared.root.Root.{Root}
 use Rattle.descriptor_roots.specs.Roots.{roots_of}
 use Rattle.marked_merge_rules.specs.Merges.{BeginsWithModule}
-use Rattle.program_trim.specs.declared.answers.ProgramTrim.{ProgramTrim}
 use Rattle.program_trim.specs.declared.answers.TrimFault.TheVariants as fault
 use Rattle.program_trim.specs.Trim.{TrimmedWorld, TrimsWorld}
 use Rattle.trim_core.specs.declared.answers.Opts.{Opts}

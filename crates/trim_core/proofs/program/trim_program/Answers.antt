@@ -1,4 +1,4 @@
-use Rattle.std.proofs.Common.{Option, List, ap, subst, ◌∙◌}
+use Rattle.std.proofs.Common.{Option, ap, subst, ◌∙◌}
 use Rattle.link_rules.specs.declared.row_at.RowAt.{RowAt}
 use Rattle.trim_core.specs.Taken.{Bytes}
 use Rattle.trim_core.specs.Told.{entry_row}
