@@ -64,14 +64,6 @@ without_spelling count first end rows runs few = (
   λ b. fails (λ row. run_fits count (first row)) rows b.1 b.2 b.3 (rw (b.0, b.4) refl),
 )
 
--- runs in a table without rows
-pub none_after : {A : Type 0} (count : ℕ) (first end : A → ℕ) (rows : List A) → AreRuns count first end rows → count ≡ 0 → runs_fit count first rows ≡ true
-none_after count first end rows runs none =
-    all_of (λ row. run_fits count (first row)) rows (λ k row e. fits_below count (first row) (omega (arith, runs.never_falls k row e, runs.within k row e, none)))
-
-pub all_below : {A : Type 0} (count : ℕ) (first : A → ℕ) (rows : List A) → Each (λ row. first row < 2 ^ 16) rows → runs_fit count first rows ≡ true
-all_below count first rows h = all_of (λ row. run_fits count (first row)) rows (λ k row e. fits_below count (first row) (h k row e))
-
 pub all_fit : {A : Type 0} (count : ℕ) (first : A → ℕ) (rows : List A) → Each (λ row. run_fits count (first row) ≡ true) rows → runs_fit count first rows ≡ true
 all_fit count first rows h = all_of (λ row. run_fits count (first row)) rows h
 

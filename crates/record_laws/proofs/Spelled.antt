@@ -1,8 +1,6 @@
--- The runs of a file's record, and those of a thin record, have a spelling.
-use Rattle.std.proofs.Common.{◌≡◌, ℕ, zero, suc, ◌^◌, ◌<◌, Bool, true, false, cond, ltb, List, [], ◌∷◌, length, None, refl, sym, ap₂, subst, ◌∙◌, arith}
+-- The runs of a file's record have a spelling.
+use Rattle.std.proofs.Common.{◌≡◌, ℕ, suc, ◌^◌, ◌<◌, Bool, true, false, cond, ltb, List, None, refl, sym, ap₂, subst, ◌∙◌, arith}
 use Rattle.std.specs.Prelude.{IsTrue, ◌&&◌}
-use Rattle.std.proofs.lemmas.Bool.{eqb-true, and_parts}
-use Rattle.std.proofs.lemmas.Option.{none-some, same_Some}
 use Rattle.il_base.specs.declared.table.TheConstants.{FIELD, METHOD_DEF, PARAM, EVENT, PROPERTY}
 use Rattle.blob_grammar.specs.Laws.{AreBytes}
 use Rattle.body_grammar.proofs.ReadNumbers.{bytes-drop, bytes-take}
@@ -15,10 +13,8 @@ use Rattle.cli_format.specs.Streams.{heap}
 use Rattle.cli_format.specs.Columns.{schema, columns_of}
 use Rattle.cli_format.specs.Tables.{rows_of, column_of, width, index_width, cell_place, cell_number}
 use Rattle.cli_format.specs.Metadata.{tables_stream}
-use Rattle.world_model.specs.declared.types.TypeDefRow.{TypeDefRow}
 use Rattle.world_model.specs.declared.record.AsmRec.{AsmRec}
-use Rattle.world_model.specs.Records.{table_sizes, rows_in, Each, IsRecord}
-use Rattle.world_model.specs.Thin.{no_rows, is_module_type, is_only_class, are_two_types, has_no_other_rows, is_thin}
+use Rattle.world_model.specs.Records.{rows_in}
 use Rattle.record_format.specs.Cells.{number_in, count_of, all_rows}
 use Rattle.record_format.specs.Types.{type_def_row}
 use Rattle.record_format.specs.Members.{method_def_row, event_map_row, property_map_row}
@@ -26,13 +22,11 @@ use Rattle.record_format.specs.Record.{record_demands, record_at, HasRecord}
 use Rattle.file_layout.specs.Runs.{run_fits, runs_fit, runs_have_spelling}
 use Rattle.record_laws.proofs.Rows.{each_row}
 use Rattle.record_laws.proofs.Record.{size_of}
-use Rattle.record_laws.proofs.Runs.{all_fit, all_below, none_after, number_below, fits_width}
+use Rattle.record_laws.proofs.Runs.{all_fit, number_below, fits_width}
 
 both : (a b : Bool) → a ≡ true → b ≡ true → (a && b) ≡ true
 both true b p q = q
 both false b p q = absurd cc
-
--- ---- the record of a file
 
 heap_bytes : (m : List ℕ) (name : StreamName) → AreBytes m → AreBytes (heap m name)
 unfolding heap
@@ -84,88 +78,3 @@ module _ (bs : List ℕ) (meets : first_fault (record_demands bs) ≡ None) (fit
 
 pub file_spelled : (bs : List ℕ) (r : AsmRec) → AreBytes bs → HasRecord bs r → IsTrue (runs_have_spelling r)
 file_spelled bs r fits h = subst (λ x. runs_have_spelling x ≡ true) (sym h.is) (spelled bs h.meets fits)
-
--- ---- thin records
-
-none_is : {A : Type 0} (rows : List A) → no_rows rows ≡ true → length rows ≡ 0
-none_is [] h = refl
-none_is (x ∷ xs) h = absurd cc
-
-module_first : (t : TypeDefRow) → is_module_type t ≡ true → t.method_list_first ≡ 1
-module_first t h =
-    let last = and_parts _ _ h in
-    let first = and_parts _ _ last.0 in
-    eqb-true t.method_list_first 1 first.1
-
-class_first : (r : AsmRec) (t : TypeDefRow) → is_only_class r t ≡ true → t.method_list_first ≡ 1
-class_first r t h =
-    let last = and_parts _ _ h in
-    let first = and_parts _ _ last.0 in
-    eqb-true t.method_list_first 1 first.1
-
-two_types : (r : AsmRec) (rows : List TypeDefRow) → are_two_types r rows ≡ true → Each (λ row. row.method_list_first < 2 ^ 16) rows
-two_types r [] h k row e = absurd cc
-two_types r (t ∷ []) h k row e = absurd cc
-two_types r (t ∷ u ∷ v ∷ ts) h k row e = absurd cc
-two_types r (t ∷ u ∷ []) h zero row e = subst (λ (x : TypeDefRow). x.method_list_first < 2 ^ 16) (same_Some t row e) (omega (arith, module_first t (and_parts (is_module_type t) (is_only_class r u) h).0))
-two_types r (t ∷ u ∷ []) h (suc zero) row e = subst (λ (x : TypeDefRow). x.method_list_first < 2 ^ 16) (same_Some u row e) (omega (arith, class_first r u (and_parts (is_module_type t) (is_only_class r u) h).1))
-two_types r (t ∷ u ∷ []) h (suc (suc k)) row e = absurd (none-some row e)
-
-record Empty (r : AsmRec) : Type 0 where
-  fields : length r.field ≡ 0
-  params : length r.param ≡ 0
-  events : length r.event ≡ 0
-  properties : length r.property ≡ 0
-
-empty_of : (r : AsmRec) → has_no_other_rows r ≡ true → Empty r
-unfolding has_no_other_rows
-empty_of r x =
-    let x30 = and_parts _ _ x in
-    let x29 = and_parts _ _ x30.0 in
-    let x28 = and_parts _ _ x29.0 in
-    let x27 = and_parts _ _ x28.0 in
-    let x26 = and_parts _ _ x27.0 in
-    let x25 = and_parts _ _ x26.0 in
-    let x24 = and_parts _ _ x25.0 in
-    let x23 = and_parts _ _ x24.0 in
-    let x22 = and_parts _ _ x23.0 in
-    let x21 = and_parts _ _ x22.0 in
-    let x20 = and_parts _ _ x21.0 in
-    let x19 = and_parts _ _ x20.0 in
-    let x18 = and_parts _ _ x19.0 in
-    let x17 = and_parts _ _ x18.0 in
-    let x16 = and_parts _ _ x17.0 in
-    let x15 = and_parts _ _ x16.0 in
-    let x14 = and_parts _ _ x15.0 in
-    let x13 = and_parts _ _ x14.0 in
-    let x12 = and_parts _ _ x13.0 in
-    let x11 = and_parts _ _ x12.0 in
-    let x10 = and_parts _ _ x11.0 in
-    let x9 = and_parts _ _ x10.0 in
-    let x8 = and_parts _ _ x9.0 in
-    let x7 = and_parts _ _ x8.0 in
-    let x6 = and_parts _ _ x7.0 in
-    let x5 = and_parts _ _ x6.0 in
-    let x4 = and_parts _ _ x5.0 in
-    let x3 = and_parts _ _ x4.0 in
-    let x2 = and_parts _ _ x3.0 in
-    record { fields = none_is r.field x2.0; params = none_is r.param x2.1; events = none_is r.event x11.1; properties = none_is r.property x13.1 }
-
-pub thin_spelled : (r : AsmRec) → IsRecord r → IsTrue (is_thin r) → IsTrue (runs_have_spelling r)
-unfolding is_thin runs_have_spelling table_sizes
-thin_spelled r h thin =
-    let s8 = and_parts _ _ thin in
-    let s7 = and_parts _ _ s8.0 in
-    let s6 = and_parts _ _ s7.0 in
-    let s5 = and_parts _ _ s6.0 in
-    let s4 = and_parts _ _ s5.0 in
-    let s3 = and_parts _ _ s4.0 in
-    let s2 = and_parts _ _ s3.0 in
-    let s1 = and_parts _ _ s2.0 in
-    let empty = empty_of r s1.0 in
-    both _ _ (both _ _ (both _ _ (both _ _
-    (none_after (rows_in r FIELD) (λ row. row.field_list_first) (λ row. row.field_list_end) r.type_def h.runs.fields empty.fields)
-    (all_below (rows_in r METHOD_DEF) (λ row. row.method_list_first) r.type_def (two_types r r.type_def s2.1)))
-    (none_after (rows_in r PARAM) (λ row. row.param_list_first) (λ row. row.param_list_end) r.method_def h.runs.params empty.params))
-    (none_after (rows_in r EVENT) (λ row. row.event_list_first) (λ row. row.event_list_end) r.event_map h.runs.events empty.events))
-    (none_after (rows_in r PROPERTY) (λ row. row.property_list_first) (λ row. row.property_list_end) r.property_map h.runs.properties empty.properties)

@@ -2,7 +2,6 @@ ghost use Rattle.std.specs.Prelude.{◌≡◌, ◌↔◌, ◌≤◌, ◌^◌, �
 ghost use Rattle.blob_grammar.specs.Laws.{AreBytes};
 ghost use Rattle.world_model.specs.declared.record.AsmRec.{AsmRec};
 ghost use Rattle.world_model.specs.Records.{IsRecord, AreRuns};
-ghost use Rattle.world_model.specs.Thin.{is_thin};
 ghost use Rattle.record_format.specs.Record.{HasRecord};
 ghost use Rattle.file_layout.specs.Runs.{runs_fit, runs_have_spelling, BeginsAfterAll};
 
@@ -17,8 +16,7 @@ pub fn runs_without_spelling<A>()
     ensures { (count : ℕ) (first end : A → ℕ) (rows : List A) → AreRuns count first end rows → count ≤ 2 ^ 20 → (runs_fit count first rows ≡ false) ↔ BeginsAfterAll count first rows }
 {}
 
-/// The runs of a file's record have a spelling, and so do those of a record that is thin.
+/// The runs of a file's record have a spelling (II.24.2.6).
 pub fn runs_with_spelling()
-    ensures of_file { (bs : List ℕ) (rec : AsmRec) → AreBytes bs → HasRecord bs rec → IsTrue (runs_have_spelling rec) }
-    ensures thin { (rec : AsmRec) → IsRecord rec → IsTrue (is_thin rec) → IsTrue (runs_have_spelling rec) }
+    ensures { (bs : List ℕ) (rec : AsmRec) → AreBytes bs → HasRecord bs rec → IsTrue (runs_have_spelling rec) }
 {}

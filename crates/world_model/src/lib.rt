@@ -1,10 +1,9 @@
 //! The data of a world: assemblies as records of their tables, and what references name once they are resolved.
 //! `specs/` defines what tokens and signatures name in a world, type expressions' substitution, levels and equality, and
-//! thin records with what their references name.
+//! what the rows of a record keep.
 #![tactic(auto)]
 
 mod assemblies;
-mod core_member;
 mod core_refs;
 mod expr;
 mod extras;
@@ -27,10 +26,7 @@ pub use assemblies::{
     AssemblyOsRow, AssemblyProcessorRow, AssemblyRefOsRow, AssemblyRefProcessorRow, AssemblyRefRow,
     AssemblyRow, ModuleRefRow,
 };
-pub use core_member::CoreMember;
-pub use core_refs::{
-    is_core_name, is_core_scope, is_system_type, is_type_token, prim_code, resolve_core_member,
-};
+pub use core_refs::{is_core_name, is_core_scope};
 pub use expr::{FieldUse, MemberSig, MethodUse, TypeExpr};
 pub use extras::{
     ConstantRow, CustomAttributeRow, DeclSecurityRow, FieldLayoutRow, FieldMarshalRow, FieldRvaRow,
