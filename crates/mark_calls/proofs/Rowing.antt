@@ -14,14 +14,11 @@ use Rattle.link_rules.specs.declared.row_at.RowAt.{RowAt}
 use Rattle.link_rules.specs.Signatures.{token_type}
 use Rattle.link_rules.specs.Members.{good_type}
 use Rattle.link_rules.specs.Cycles.{listed, home_of, only_interface, interface_of, interfaces_in, interfaces_at, interface_rows}
-use Rattle.type_rules.specs.Rows.{each_row}
 use Rattle.type_tables.specs.declared.groups.Groups.{Groups}
 use Rattle.type_tables.specs.Groups.{rows_with, AreGroups}
 use Rattle.type_tables.specs.Tables.{interface_classes}
 use Rattle.type_tables.proofs.Grouped.{flat_grouped}
-use Rattle.mark_rules.specs.Types.{row_for, rows_for}
-use Rattle.mark_parts.proofs.Grouped.{each_grouped}
-use Rattle.mark_calls.specs.Implied.{definition_in, named_row}
+use Rattle.mark_calls.specs.Implied.{definition_in}
 
 one_listed : {A B : Type 0} (f : A → List B) (o : Option A) (x : A) → o ≡ Some x → flat_map f (listed o) ≡ f x
 one_listed f o x e = rw e (append-nil (f x))
@@ -58,18 +55,3 @@ module _ (recs : List AsmRec) (at : RowAt) where
         ap (λ (r : List AsmRec). flat_map (λ k. option_map_or (definition_in r a rec) (slice_get rec.interface_impl k) []) ks) same
         ∙ ap (λ (n : ℕ). flat_map (λ k. option_map_or (definition_in recs n rec) (slice_get rec.interface_impl k) []) ks) place
         ∙ ap (flat_map (λ k. option_map_or (definition_in recs at.asm rec) (slice_get rec.interface_impl k) [])) (e ∙ ap (rows_with groups) t) ∙ by_rows
-
-module _ (recs : List AsmRec) (t j : RowAt) where
-  pub no_rows : slice_get recs t.asm ≡ None → rows_for recs t j ≡ []
-  unfolding rows_for
-  no_rows e = rw e refl
-
-  pub rows_grouped : (rec : AsmRec) → slice_get recs t.asm ≡ Some rec → (groups : Groups) → AreGroups (interface_classes rec) groups → (a : ℕ) → a ≡ t.asm → (token : ℕ) → token ≡ token_of TYPE_DEF (suc t.row) → (ks : List ℕ)
-      → ks ≡ rows_with groups token → flat_map (λ k. option_map_or (named_row recs a rec j k) (slice_get rec.interface_impl k) []) ks ≡ rows_for recs t j
-  unfolding rows_for
-  rows_grouped rec here groups are a place token e ks r =
-      let wanted : ℕ = token_of TYPE_DEF (suc t.row) in
-      ap (λ (n : ℕ). flat_map (λ k. option_map_or (named_row recs n rec j k) (slice_get rec.interface_impl k) []) ks) place
-      ∙ ap (flat_map (λ k. option_map_or (named_row recs t.asm rec j k) (slice_get rec.interface_impl k) [])) (r ∙ ap (rows_with groups) e)
-      ∙ each_grouped (λ (r : InterfaceImplRow). r.class) wanted (named_row recs t.asm rec j) (row_for recs t j rec) (λ k x. refl) rec.interface_impl groups are
-      ∙ sym (one_listed (λ (rec : AsmRec). each_row (row_for recs t j rec) rec.interface_impl) (slice_get recs t.asm) rec here)

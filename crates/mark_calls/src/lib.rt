@@ -1,6 +1,6 @@
-//! What virtual methods make necessary: the methods and declarations that a method overrides, the interface rows of a type,
-//! and what a virtual call may run. What goes in is a world with what is made of it (`mark_tables`), the slots of its methods
-//! (`virtual_calls`) and rows; what comes out are facts, as the rules of `mark_rules` list them.
+//! What virtual methods make necessary: the methods and declarations that a method overrides, and what a virtual call may
+//! run. What goes in is a world with what is made of it (`mark_tables`), the slots of its methods (`virtual_calls`) and rows;
+//! what comes out are facts, as the rules of `mark_rules` list them. `implied` has the interfaces that a type implies.
 #![tactic(auto)]
 
 pub mod class_calls;
@@ -8,5 +8,4 @@ pub mod declarations;
 pub mod found;
 pub mod implied;
 pub mod interface_calls;
-pub mod interface_rows;
 pub mod overrides;

@@ -1,4 +1,4 @@
--- What a marked row needs, kind by kind, and what two and three rows give.
+-- What a marked row needs, kind by kind.
 use Rattle.std.specs.Prelude.{List, ◌++◌}
 use Rattle.world_model.specs.declared.record.AsmRec.{AsmRec}
 use Rattle.link_rules.specs.declared.row_at.RowAt.{RowAt}
