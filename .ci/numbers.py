@@ -38,7 +38,7 @@ EXCEPTIONS = {
     "crates/user_strings/": "makes the tokens of texts (III.4.16)",
 }
 # The writer's oldest crates name tables and tokens by their numbers.
-OLD = re.compile(r"crates/written_\w+/|crates/world_model/specs/Thin\.antt")
+OLD = re.compile(r"crates/written_\w+/")
 SKIPPED = re.compile(r"^crates/\w+_tests/|/tests(?:/|\.rt$)|/specs/(?:Sample|Examples)\.antt$")
 
 

@@ -198,15 +198,16 @@ waiting_facts recs roots i = flat_map (waits_for recs i) roots
 
 -- ---- the start
 
+-- The first type of the primary assembly stands for its module, whatever its name is (II.22.37).
 abbrev pub module_facts : List AsmRec → List Fact
 module_facts recs =
-    flat_map (λ (rec : AsmRec). flat_map (λ (t : TypeDefRow). if is_module_type 0 t then marks_type recs (at_row 0 0) ∷ [] else []) (listed (slice_get rec.type_def 0))) (listed (slice_get recs 0))
+    flat_map (λ (rec : AsmRec). map (λ (t : TypeDefRow). marks_type recs (at_row 0 0)) (listed (slice_get rec.type_def 0))) (listed (slice_get recs 0))
 
 -- a method that no type's run has belongs to nobody, and is never marked
 abbrev pub entry_facts : List AsmRec → Option RowAt → List Fact
 entry_facts recs entry = flat_map (λ (at : RowAt). map (λ t. marks_method recs at) (listed (type_of_method recs at))) (listed entry)
 
--- the primary assembly, its `<Module>`, the entry method, and what descriptors keep
+-- the primary assembly, its first type, the entry method, and what descriptors keep
 unfoldable pub start_facts : List AsmRec → Option RowAt → List Root → List Fact
 start_facts recs entry roots =
     marked (item.Asm (record { 0 = 0 })) ∷ module_facts recs ++ entry_facts recs entry ++ flat_map (root_facts recs) roots

@@ -1,32 +1,19 @@
-//! The primary assembly, its `<Module>` and the entry method.
+//! The primary assembly, its first type and the entry method.
 
 ghost use Rattle.std.specs.Prelude.{◌≡◌, ◌++◌, OnOk};
 ghost use Rattle.mark_rules.specs.Roots.{module_facts, entry_facts};
 ghost use Rattle.mark_tables.specs.Assemblies.{all_of, IsMarker};
-ghost use Rattle.mark_starts.specs.First.{first_facts, method_facts, module_at};
+ghost use Rattle.mark_starts.specs.First.{first_facts, method_facts};
 
 use il_base::{AsmId, Item, NoMemory};
 use link_rules::RowAt;
 use mark_facts::facts::Facts;
 use mark_facts::kinds::Kind;
 use mark_tables::marker::Marker;
-use mark_whole::assemblies::is_module_type;
 use type_tables::methods::type_of_method;
-use world_model::{AsmRec, TypeDefRow};
+use world_model::AsmRec;
 
-/// Marks the first type of the primary assembly, if it is `<Module>`.
-#[tactic(auto, using(crate::proofs::Lists::none_more))]
-fn add_module_row(all: &[AsmRec], t: &TypeDefRow, facts: &mut Facts) -> Result<(), NoMemory>
-    ensures { OnOk result (facts.new ≡ facts.old ++ module_at all.now t.now) }
-{
-    let is_module = is_module_type(0, t);
-    if is_module {
-        return facts.mark_row(all, Kind::Type, RowAt { asm: 0, row: 0 });
-    }
-    Ok(())
-}
-
-/// Marks `<Module>` of the primary assembly, where it is the first type (II.22.37).
+/// Marks the first type of the primary assembly, which stands for its module (II.22.37).
 #[tactic(auto, using(crate::proofs::Lists::none_more))]
 pub fn add_module(all: &[AsmRec], facts: &mut Facts) -> Result<(), NoMemory>
     ensures { OnOk result (facts.new ≡ facts.old ++ module_facts all.now) }
@@ -34,10 +21,10 @@ pub fn add_module(all: &[AsmRec], facts: &mut Facts) -> Result<(), NoMemory>
     let Some(rec) = all.get(0) else {
         return Ok(());
     };
-    let Some(t) = rec.type_def.get(0) else {
-        return Ok(());
-    };
-    add_module_row(all, t, facts)
+    match rec.type_def.get(0) {
+        Some(_module) => facts.mark_row(all, Kind::Type, RowAt { asm: 0, row: 0 }),
+        None => Ok(()),
+    }
 }
 
 /// Marks a method that a type's run has.
@@ -69,7 +56,7 @@ pub fn add_entry(
     }
 }
 
-/// Puts the primary assembly, its `<Module>` and the entry method at the end.
+/// Puts the primary assembly, its first type and the entry method at the end.
 #[tactic(auto, using(crate::proofs::Lists::first_then, crate::proofs::Lists::two_put))]
 pub fn add_first(
     marker: &Marker<'_>,
