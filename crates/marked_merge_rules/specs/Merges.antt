@@ -1,16 +1,13 @@
 -- A merge that keeps exactly what is marked, of files that link, where nothing that is marked has a flaw, and the file of what is left
 -- passes no limit.
-use Rattle.std.specs.Prelude.{◌≡◌, ◌↔◌, List, Option, Some, None, Bool, true, false, not, ◌||◌, IsTrue, slice_get, if◌then◌else◌}
+use Rattle.std.specs.Prelude.{◌≡◌, ◌↔◌, List, Option, None, Bool, false, not, ◌||◌, IsTrue, if◌then◌else◌}
 use Rattle.std.specs.List.{list_any}
 use Rattle.std.specs.Option.{is_some}
 use Rattle.il_base.specs.declared.ids.Item.TheVariants as item
 use Rattle.descriptor_file.specs.declared.root.Root.{Root}
-use Rattle.world_model.specs.declared.types.TypeDefRow.{TypeDefRow}
-use Rattle.world_model.specs.declared.record.AsmRec.{AsmRec}
 use Rattle.link_rules.specs.declared.row_at.RowAt.{RowAt}
 use Rattle.link_rules.specs.Members.{type_home}
 use Rattle.link_rules.specs.Cycles.{listed}
-use Rattle.type_rules.specs.Rows.{is_module_type}
 use Rattle.mark_rules.specs.Facts.{Fact}
 use Rattle.mark_rules.specs.Facts.Fact.{marked}
 use Rattle.mark_rules.specs.Marking.{Marks}
@@ -23,12 +20,6 @@ use Rattle.merged_loads.specs.Laws.{AreOfFiles}
 use Rattle.merged_world_rules.specs.Merge.{Merge, IsMerge, before}
 use Rattle.merged_world_rules.specs.NewNumbers.{type_core}
 
--- The first type of an assembly is `<Module>` (II.22.37). Where that of the first input isn't, a kept type of that name can come to its place.
-pub record BeginsWithModule (rec : AsmRec) : Type 0 where
-  pub row : TypeDefRow
-  pub first : slice_get rec.type_def 0 ≡ Some row
-  pub is_module : is_module_type 0 row ≡ true
-
 pub record IsMarkedMerge (m : Merge) (entry : Option RowAt) (roots : List Root) : Type 0 where
   pub merge : IsMerge m
   pub files : AreOfFiles m.inputs
@@ -36,7 +27,6 @@ pub record IsMarkedMerge (m : Merge) (entry : Option RowAt) (roots : List Root) 
   pub all : AreKept (before m) entry roots m.kept
   pub good : IsFirstFlaw (before m) entry (Marks (before m) entry roots) None
   pub within : limit_of m.left ≡ None
-  pub begins : (first : AsmRec) → slice_get m.inputs 0 ≡ Some first → BeginsWithModule first
 
 -- ---- flags of facts
 

@@ -10,6 +10,5 @@ pub mod Places
 pub mod Texts
 pub mod Bodies
 pub mod Flags
-pub mod Modules
 pub mod Methods
 pub mod Whole

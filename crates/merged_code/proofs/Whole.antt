@@ -43,12 +43,12 @@ use Rattle.merged_rows_move.proofs.Whole.{marks, signatures}
 use Rattle.merged_standing.specs.Laws.{ReferenceRowsStand}
 use Rattle.merged_references.specs.Written.{HasReferenceRows}
 use Rattle.marked_merge_rules.specs.Merges.{IsMarkedMerge}
+use Rattle.merged_modules.proofs.Modules.{stay}
 use Rattle.merged_code.specs.Laws.{ReadsCode, MovesMethods}
 use Rattle.merged_code.proofs.Kept.{IsKept}
 use Rattle.merged_code.proofs.Flags.{seen_same, no_body_same, platform_same}
 use Rattle.merged_code.proofs.Flaws.{not_platform, not_interface_body, not_global}
 use Rattle.merged_code.proofs.Mets.{owner_is}
-use Rattle.merged_code.proofs.Modules.{later_not_global, not_first}
 use Rattle.merged_code.proofs.Bodies.{body_moves}
 use Rattle.merged_code.proofs.Methods.{typ, meth, two, owners, owner_kept, body_left, body_none, no_method, row_moves}
 
@@ -126,7 +126,8 @@ module _ (m : Merge) (entry : Option RowAt) (roots : List Root) (k : Keep) (kept
       global_off : is_global (after m) (type_of_method (after m) here) ≡ false
       global_off =
           ap (is_global (after m)) now_owner
-          ∙ later_not_global (after m) (new_type t) (ap (λ (x : RowAt). x.row == 0) type_place ∙ not_first m entry roots is t owner_there global_before)
+          ∙ ap (λ (x : RowAt). is_global (after m) (Some x)) type_place
+          ∙ stay m entry roots is t owner_there owner_early kept_owner global_before
 
       platform_off : is_platform row' ≡ false
       platform_off = platform_same rva (output m) at h.there.rec row ∙ not_platform m entry roots is at h.there.rec row kept_here

@@ -61,10 +61,11 @@ use Rattle.merged_places.proofs.Whole.{field_stays, there_row}
 use Rattle.merged_rows_move.proofs.RowsOf.{LikeField, field_like}
 use Rattle.merged_rows_move.proofs.Whole.{marks}
 use Rattle.marked_merge_rules.specs.Merges.{IsMarkedMerge}
+use Rattle.merged_modules.proofs.Modules.{stay}
 use Rattle.merged_fields.specs.Laws.{ReadsFieldSignatures, MovesFields}
 use Rattle.merged_fields.proofs.Bytes.{bytes_move}
 use Rattle.merged_fields.proofs.Owners.{owner_before, owner_there, owner_after, type_there, moved}
-use Rattle.merged_fields.proofs.Global.{not_global, left_not_global}
+use Rattle.merged_fields.proofs.Global.{not_global}
 use Rattle.merged_fields.proofs.Core.{core_field, core_definition}
 
 -- ---- a definition by what it is made of
@@ -155,13 +156,8 @@ module _ (m : Merge) (entry : Option RowAt) (roots : List Root) (k : Keep) (kept
     no_global : is_global (before m) (Some (at_row at.asm t.place_of)) ≡ false
     no_global = not_global m entry roots merge at h.there h.earlier h.keeps_it t.place_of (owner_before m is at h t.place_of t.row t.here t.owns t.keeps_it)
 
-    first_input : (first : AsmRec) × (slice_get m.inputs 0 ≡ Some first)
-    first_input = place_has m.inputs 0 is.some
-
     no_global_left : is_global (after m) (Some (at_row 0 new_type)) ≡ false
-    no_global_left =
-        left_not_global m entry roots merge first_input.0 first_input.1 (at_row at.asm t.place_of) there no_global (moved m is at h t.place_of t.row t.here t.owns t.keeps_it)
-        (owner_there m is at h t.place_of t.row t.here t.owns t.keeps_it)
+    no_global_left = stay m entry roots merge (at_row at.asm t.place_of) there h.earlier t.keeps_it no_global
 
     type_keeps : IsTrue (keeps_type_row k (before m) (at_row at.asm t.place_of))
     type_keeps =

@@ -1,20 +1,27 @@
--- `<Module>` of the first input is left of it.
-use Rattle.std.proofs.Common.{◌≡◌, ◌<◌, ◌≤◌, suc, List, [], ◌∷◌, ◌++◌, length, Bool, true, Option, Some, refl, sym, ap, subst, arith, eq-eqb}
-use Rattle.std.specs.Prelude.{slice_get, if◌then◌else◌}
+-- The first type of the first input is left of it.
+use Rattle.std.proofs.Common.{◌≡◌, ◌<◌, ◌≤◌, ℕ, suc, List, [], ◌∷◌, ◌++◌, length, map, Bool, true, Option, Some, None, refl, sym, ap, subst, arith, eq-eqb}
+use Rattle.std.specs.Prelude.{slice_get}
 use Rattle.std.specs.List.{Contains, flat_map, list_any}
 use Rattle.std.specs.Option.{is_some}
 use Rattle.std.proofs.lemmas.Bool.{or_right}
 use Rattle.std.proofs.lemmas.List.Elements.{Contains-append_left, Contains-append_right}
 use Rattle.il_base.specs.declared.ids.Item.TheVariants as item
+use Rattle.il_base.specs.declared.table.TheConstants.{TYPE_DEF}
+use Rattle.cli_format.specs.Demand.{first_fault}
+use Rattle.cli_format.specs.Image.{metadata_of}
+use Rattle.cli_format.specs.Tables.{rows_of}
+use Rattle.cli_format.specs.Metadata.{tables_stream}
 use Rattle.descriptor_file.specs.declared.root.Root.{Root}
 use Rattle.world_model.specs.declared.types.TypeDefRow.{TypeDefRow}
 use Rattle.world_model.specs.declared.record.AsmRec.{AsmRec}
 use Rattle.world_model.specs.Records.{table_sizes}
 use Rattle.world_model.specs.Worlds.{types_in}
+use Rattle.record_format.specs.Cells.{count_of}
+use Rattle.record_format.specs.Types.{type_def_row}
+use Rattle.record_format.specs.Record.{record_demands, record_at}
 use Rattle.link_rules.specs.declared.row_at.RowAt.{RowAt}
 use Rattle.link_rules.specs.Types.{at_row}
 use Rattle.link_rules.specs.Cycles.{listed}
-use Rattle.type_rules.specs.Rows.{is_module_type}
 use Rattle.mark_rules.specs.Facts.{Fact, start}
 use Rattle.mark_rules.specs.Facts.Fact.{marked}
 use Rattle.mark_rules.specs.Places.{row_of, marks_type, type_item}
@@ -26,22 +33,35 @@ use Rattle.merge_rules.specs.Restricted.{placed_methods, moved_methods, restrict
 use Rattle.merged_record.proofs.Lists.{first_in, below_length, map_some, OfInput}
 use Rattle.merged_record.proofs.Sizes.{left, types}
 use Rattle.merged_record.proofs.Owned.{to_kept}
+use Rattle.layout_laws.proofs.FileDemands.{singles, length_rows}
+use Rattle.merged_loads.specs.Laws.{IsOfFile}
 use Rattle.merged_loads.specs.Marked.{ModuleStays}
 use Rattle.merged_loads.proofs.TextsStand.{any_in}
 use Rattle.merged_loads.proofs.Flawless.{to_option, own_home}
 
+-- the record of a file has a type
+has_first : {A : Type 0} (xs : List A) → 1 ≤ length xs → (x : A) × (slice_get xs 0 ≡ Some x)
+has_first [] h = absurd (omega (arith, h))
+has_first (x ∷ xs) h = (x, refl)
+
+some_type : (bs : List ℕ) → first_fault (record_demands bs) ≡ None → 1 ≤ length (record_at bs).type_def
+unfolding record_at count_of
+some_type bs meets = omega (arith, length_rows (type_def_row (metadata_of bs)) (rows_of (tables_stream (metadata_of bs)) TYPE_DEF), (singles bs meets).2)
+
+pub has_module : (rec : AsmRec) → IsOfFile rec → (row : TypeDefRow) × (slice_get rec.type_def 0 ≡ Some row)
+has_module rec f = has_first rec.type_def (subst (λ (r : AsmRec). 1 ≤ length r.type_def) (sym f.has.is) (some_type f.file f.has.meets))
+
 has_some : {A : Type 0} (xs : List A) (x : A) → Contains xs x → 1 ≤ length xs
 has_some xs x c = let lt = c.1 in omega arith
 
-module _ (recs : List AsmRec) (entry : Option RowAt) (roots : List Root) (rec : AsmRec) (row : TypeDefRow) (first : slice_get recs 0 ≡ Some rec) (is : slice_get rec.type_def 0 ≡ Some row) (named : is_module_type 0 row ≡ true) where
+module _ (recs : List AsmRec) (entry : Option RowAt) (roots : List Root) (rec : AsmRec) (row : TypeDefRow) (first : slice_get recs 0 ≡ Some rec) (is : slice_get rec.type_def 0 ≡ Some row) where
   abbrev fact : Fact
   fact = marks_type recs (at_row 0 0)
 
   in_module : Contains (module_facts recs) fact
   in_module =
-      to_option (λ (r : AsmRec). flat_map (λ (t : TypeDefRow). if is_module_type 0 t then marks_type recs (at_row 0 0) ∷ [] else []) (listed (slice_get r.type_def 0))) (slice_get recs 0) rec fact first
-      (to_option (λ (t : TypeDefRow). if is_module_type 0 t then marks_type recs (at_row 0 0) ∷ [] else []) (slice_get rec.type_def 0) row fact is
-      (subst (λ (b : Bool). Contains (if b then marks_type recs (at_row 0 0) ∷ [] else []) fact) (sym named) (first_in fact [])))
+      to_option (λ (r : AsmRec). map (λ (t : TypeDefRow). marks_type recs (at_row 0 0)) (listed (slice_get r.type_def 0))) (slice_get recs 0) rec fact first
+      (subst (λ (o : Option TypeDefRow). Contains (map (λ (t : TypeDefRow). marks_type recs (at_row 0 0)) (listed o)) fact) (sym is) (first_in fact []))
 
   in_start : Contains (start_facts recs entry roots) fact
   unfolding start_facts
@@ -52,7 +72,7 @@ module _ (recs : List AsmRec) (entry : Option RowAt) (roots : List Root) (rec : 
   same_self : same_fact fact fact ≡ true
   same_self = eq-eqb _ _ refl
 
-  module_marked : Marks recs entry roots fact
+  pub module_marked : Marks recs entry roots fact
   unfolding marking given
   module_marked = start fact (or_right (is_core_fact recs fact) (list_any (same_fact fact) (start_facts recs entry roots)) (any_in (same_fact fact) (start_facts recs entry roots) fact in_start same_self))
 
@@ -73,9 +93,9 @@ module _ (internal : Bool) (o : Output) (primary : AsmRec) where
 
 pub module_stays : ModuleStays
 unfolding restricted output_of
-module_stays internal recs entry roots kept rec e within keeps first row there is named =
+module_stays internal recs entry roots kept rec e within keeps first row there is =
     let o : Output = output_of recs kept in
     let m = map_some (restricted_by internal o (placed_methods (moved_methods o))) (slice_get recs 0) rec e in
     let known : kept (type_item recs (at_row 0 0)) ≡ true =
-    keeps (type_item recs (at_row 0 0)) (ap (λ (x : Option RowAt). is_some x) (module_there recs entry roots first row there is named)) (module_marked recs entry roots first row there is named) in
+    keeps (type_item recs (at_row 0 0)) (ap (λ (x : Option RowAt). is_some x) (module_there recs entry roots first row there is)) (module_marked recs entry roots first row there is) in
     subst (λ (r : AsmRec). 1 ≤ length r.type_def) m.2 (some_left internal o m.0 (has_kept internal o m.0 first row there within is known))

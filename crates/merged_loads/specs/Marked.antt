@@ -7,7 +7,6 @@ use Rattle.world_model.specs.declared.types.TypeDefRow.{TypeDefRow}
 use Rattle.world_model.specs.declared.record.AsmRec.{AsmRec}
 use Rattle.world_model.specs.Records.{Each}
 use Rattle.link_rules.specs.declared.row_at.RowAt.{RowAt}
-use Rattle.type_rules.specs.Rows.{is_module_type}
 use Rattle.layout_laws.specs.OfFile.{IsKnown, HasReading}
 use Rattle.mark_rules.specs.Facts.Fact.{marked}
 use Rattle.mark_rules.specs.Marking.{Marks}
@@ -44,8 +43,8 @@ FieldTypesKept =
     (recs : List AsmRec) (entry : Option RowAt) (roots : List Root) (kept : Kept) → InputsAreRecords recs → AreMarked recs entry roots kept → AreKept recs entry roots kept
     → IsFirstFlaw recs entry (Marks recs entry roots) None → FieldTypesAreKept recs kept
 
--- `<Module>` of the first input is always needed (II.22.37)
+-- the first type of the first input is always needed (II.22.37)
 abbrev pub ModuleStays : Type 0
 ModuleStays =
     (internal : Bool) (recs : List AsmRec) (entry : Option RowAt) (roots : List Root) (kept : Kept) (left : AsmRec) → restricted internal recs kept ≡ Some left → 1 < length recs → AreKept recs entry roots kept
-    → (first : AsmRec) (row : TypeDefRow) → slice_get recs 0 ≡ Some first → slice_get first.type_def 0 ≡ Some row → is_module_type 0 row ≡ true → 1 ≤ length left.type_def
+    → (first : AsmRec) (row : TypeDefRow) → slice_get recs 0 ≡ Some first → slice_get first.type_def 0 ≡ Some row → 1 ≤ length left.type_def

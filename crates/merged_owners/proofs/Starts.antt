@@ -133,12 +133,14 @@ module _ (recs : List AsmRec) (records : InputsAreRecords recs) where
 
   -- ---- the start
 
+  module_by : (o : Option TypeDefRow) → Fine recs (map (λ (t : TypeDefRow). marks_type recs (at_row 0 0)) (listed o))
+  module_by None = all_none (OfFact recs)
+  module_by (Some t) = all_one (OfFact recs) (marks_type recs (at_row 0 0)) tt
+
   module_fine : Fine recs (module_facts recs)
   module_fine =
-      all_option (OfFact recs) (λ (rec : AsmRec). flat_map (λ (t : TypeDefRow). if is_module_type 0 t then marks_type recs (at_row 0 0) ∷ [] else []) (listed (slice_get rec.type_def 0))) (slice_get recs 0)
-      (λ rec there.
-      all_option (OfFact recs) (λ (t : TypeDefRow). if is_module_type 0 t then marks_type recs (at_row 0 0) ∷ [] else []) (slice_get rec.type_def 0)
-      (λ t e. all_if (OfFact recs) (is_module_type 0 t) (marks_type recs (at_row 0 0) ∷ []) (λ h. all_one (OfFact recs) (marks_type recs (at_row 0 0)) tt)))
+      all_option (OfFact recs) (λ (rec : AsmRec). map (λ (t : TypeDefRow). marks_type recs (at_row 0 0)) (listed (slice_get rec.type_def 0))) (slice_get recs 0)
+      (λ rec there. module_by (slice_get rec.type_def 0))
 
   entry_by : (at : RowAt) (o : Option RowAt) → type_of_method recs at ≡ o → Fine recs (map (λ t. marks_method recs at) (listed o))
   entry_by at None e = all_none (OfFact recs)

@@ -3,6 +3,7 @@ pub mod Sorting
 pub mod Tokens
 pub mod Runs
 pub mod Rows
+pub mod FirstNames
 pub mod Sizes
 pub mod Named
 pub mod Order

@@ -53,6 +53,7 @@ use Rattle.trim_moves.specs.Laws.{keep_by, kept_by, IsFlagged, FlagsSay, BasesAr
 use Rattle.trim_runs.specs.Laws.{OutputStands, OutputReads}
 use Rattle.trim_runs.specs.Entry.{EntryMoves, ProgramsRun}
 use Rattle.trim_behaves.specs.Behaves.{IsTrimmed, Behaves, TrimsBehave}
+use Rattle.trim_behaves.proofs.Numbers.{numbered}
 
 -- ---- inputs are the first assemblies of their world
 
@@ -247,6 +248,7 @@ module _ (l : Laws) (m : Merge) (entry : Option RowAt) (roots : List Root) (hold
         entry = (rho_of m).method k;
         names = e.0;
         below = e.1;
+        moved = numbered m;
         runs = l.runs m entry roots holds k flagged marks.1 t.apart stands output_reads t.begins;
       }
 

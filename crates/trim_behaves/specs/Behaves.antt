@@ -6,13 +6,16 @@ use Rattle.world_model.specs.Tokens.{index_in}
 use Rattle.record_format.specs.Record.{HasRecord}
 use Rattle.link_rules.specs.declared.row_at.RowAt.{RowAt}
 use Rattle.link_rules.specs.Linked.{link_fault_of}
+use Rattle.link_rules.specs.Members.{methods_in}
 use Rattle.step_rules.specs.Run.{run_from}
 use Rattle.view_rules.specs.Answers.{queries_of}
 use Rattle.mark_rules.specs.Facts.{Fact}
 use Rattle.record_layout.specs.Laid.{laid}
 use Rattle.record_writer.specs.CanWrite.{CanWrite}
 use Rattle.lock_steps.specs.Laws.{move_outcome}
+use Rattle.merge_rules.specs.Numbers.{kept_methods, new_row}
 use Rattle.merged_world_rules.specs.Merge.{Merge, before, after}
+use Rattle.merged_world_rules.specs.Numbering.{number_at}
 use Rattle.merged_world_rules.specs.NewNumbers.{rho_of}
 use Rattle.marked_merge_rules.specs.Merges.{IsMarkedMerge, AreFacts}
 use Rattle.trim_moves.specs.Laws.{NamesApart}
@@ -34,6 +37,8 @@ pub record Behaves (m : Merge) (k : ℕ) : Type 0 where
   pub entry : ℕ
   pub names : index_in METHOD_DEF m.left.entry ≡ Some entry
   pub below : entry < length m.left.method_def
+  -- a kept method has its row in the output as its new number
+  pub moved : (at : RowAt) (row : ℕ) → new_row (kept_methods (before m) m.kept) at ≡ Some row → (rho_of m).method (number_at methods_in (before m) at) ≡ row
   -- for any input and any number of steps, with new numbers
   pub runs : (bytes : List ℕ) (n : ℕ) → run_from (queries_of (after m)) (entry_number m.left) bytes n ≡ move_outcome (rho_of m) (run_from (queries_of (before m)) k bytes n)
 

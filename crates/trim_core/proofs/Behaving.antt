@@ -1,6 +1,6 @@
 -- What a trim of files writes behaves as they do, by the laws on merges.
 use Rattle.std.proofs.Common.{◌≡◌, ◌≤◌, ◌<◌, ℕ, zero, suc, ◌+◌, Bool, true, false, List, [], ◌∷◌, length, map, Option, Some, None, nat_le, nat_lt, refl, sym, ap, subst, ◌∙◌, arith}
-use Rattle.std.specs.Prelude.{slice_get, unwrap_or, if◌then◌else◌}
+use Rattle.std.specs.Prelude.{unwrap_or, if◌then◌else◌}
 use Rattle.std.specs.Option.{is_some, option_map}
 use Rattle.std.proofs.lemmas.Bool.{le-leb, lt-ltb, ltb-true}
 use Rattle.il_base.specs.declared.table.TheConstants.{METHOD_DEF}
@@ -31,7 +31,6 @@ use Rattle.merged_owners.specs.Laws.{AreMarked, AreKept}
 use Rattle.merged_loads.specs.Laws.{AreOfFiles}
 use Rattle.merged_world_rules.specs.Merge.{Merge, IsMerge}
 use Rattle.merged_world_rules.specs.NewNumbers.{rho_of}
-use Rattle.marked_merge_rules.specs.Merges.{BeginsWithModule}
 use Rattle.trim_behaves.specs.Laws.{FilesMerge, merge_of}
 use Rattle.trim_behaves.specs.Behaves as law
 use Rattle.trim_behaves.specs.Behaves.{TrimsBehave}
@@ -183,9 +182,9 @@ module _ (bytes : List ℕ) (left : AsmRec) (has : HasRecord bytes left) (links 
 module _ (behave : TrimsBehave) (merging : FilesMerge) where
   behaves_by : (files : List (List ℕ)) → input_fault files ≡ None → Bytes files → link_fault_of (records files) ≡ None → (roots : List Root) (internal : Bool) (t : ProgramTrim)
       → (trims : TrimmedWorld (assemblies (records files)) (entry_row (records files)) roots internal t)
-      → (first : AsmRec) → slice_get (records files) 0 ≡ Some first → BeginsWithModule first → Behaves files t.bytes trims.left
-  behaves_by [] sound bytes links roots internal t trims first there begins = absurd (cc)
-  behaves_by (f ∷ fs) sound bytes links roots internal t trims first there begins =
+      → 1 ≤ length files → Behaves files t.bytes trims.left trims.kept
+  behaves_by [] sound bytes links roots internal t trims some = absurd (omega (arith, some))
+  behaves_by (f ∷ fs) sound bytes links roots internal t trims some =
       let inputs : List AsmRec = records (f ∷ fs) in
       let recs : List AsmRec = assemblies (records (f ∷ fs)) in
       let entry : Option RowAt = entry_row (records (f ∷ fs)) in
@@ -202,7 +201,6 @@ module _ (behave : TrimsBehave) (merging : FilesMerge) where
           all = are_kept recs entry roots trims.kept trims.exact;
           good = trims.good;
           within = trims.within;
-          begins = λ r h. let same : first ≡ r = let x : Some first ≡ Some r = sym there ∙ h in cc in subst BeginsWithModule same begins;
         };
         facts = trims.facts;
         apart = record { seen = trims.unique.seen; exact = trims.unique.exact; none = trims.unique.first };
@@ -217,6 +215,7 @@ module _ (behave : TrimsBehave) (merging : FilesMerge) where
         links = b.links;
         taken = λ small. taken_again t.bytes left has b.links (record { k = b.entry; names = b.names; below = b.below }) small;
         number = (rho_of m).method;
+        moved = b.moved;
         runs = λ input n.
             let start : entry_of recs ≡ e.k = entry_first (record_at f) (records fs) ∙ ap (λ (o : Option ℕ). unwrap_or o 0) e.names in
             let one : SameRun (rho_of m).method (assemblies (left ∷ [])) recs (world_run (assemblies (left ∷ [])) input n) (world_run recs input n) =
@@ -231,6 +230,6 @@ module _ (behave : TrimsBehave) (merging : FilesMerge) where
   -- of the world that files were taken as
   pub behaves : (files : List (List ℕ)) → input_fault files ≡ None → Bytes files → link_fault_of (records files) ≡ None → (roots : List Root) (internal : Bool) (t : ProgramTrim)
       → (trims : TrimmedWorld (world_of (records files)).recs (entry_row (records files)) roots internal t)
-      → (first : AsmRec) → slice_get (records files) 0 ≡ Some first → BeginsWithModule first → Behaves files t.bytes trims.left
+      → 1 ≤ length files → Behaves files t.bytes trims.left trims.kept
   unfolding world_in
-  behaves files sound bytes links roots internal t trims first there begins = behaves_by files sound bytes links roots internal t trims first there begins
+  behaves files sound bytes links roots internal t trims some = behaves_by files sound bytes links roots internal t trims some

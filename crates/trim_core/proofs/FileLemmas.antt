@@ -111,7 +111,7 @@ module _ (files ds : List (List ℕ)) (w : World) (roots : List Root) (opts : Op
       let p : TrimmedProgram (world_of (records files)).recs (entry_row (records files)) (roots_of (records files) ds) opts t = moved (Ok t) h in
       record {
         program = p;
-        behaves = λ first there begins. behaves behave merging files taken.sound bytes (sound files w taken) (roots_of (records files) ds) opts.internalize (record { bytes = t.bytes; kept = p.list }) p.trims first there begins;
+        behaves = λ some. behaves behave merging files taken.sound bytes (sound files w taken) (roots_of (records files) ds) opts.internalize (record { bytes = t.bytes; kept = p.list }) p.trims some;
       }
   by_program (Err e) h = moved (Err e) h
 

@@ -1,8 +1,12 @@
 -- What is so of the bytes that a trim of files writes: they load as what is left, which links and runs as the files do.
-use Rattle.std.specs.Prelude.{◌≡◌, ◌≤◌, ℕ, List, [], ◌∷◌, length, None}
+use Rattle.std.specs.Prelude.{◌≡◌, ◌≤◌, ℕ, List, [], ◌∷◌, length, Some, None}
 use Rattle.world_model.specs.declared.record.AsmRec.{AsmRec}
 use Rattle.record_format.specs.Record.{HasRecord}
+use Rattle.link_rules.specs.declared.row_at.RowAt.{RowAt}
+use Rattle.link_rules.specs.Members.{methods_in}
 use Rattle.link_rules.specs.Linked.{assemblies, link_fault_of}
+use Rattle.merge_rules.specs.Numbers.{Kept, kept_methods, new_row}
+use Rattle.merged_world_rules.specs.Numbering.{number_at}
 use Rattle.inputs.specs.Files.{input_fault, records}
 use Rattle.run_rules.specs.Runs.{run_of_files}
 use Rattle.run_rules.specs.Alike.{SameRun}
@@ -11,12 +15,13 @@ use Rattle.run_rules.specs.Alike.{SameRun}
 abbrev pub most_bytes : ℕ
 most_bytes = 67108864
 
-pub record Behaves (files : List (List ℕ)) (bytes : List ℕ) (left : AsmRec) : Type 0 where
+pub record Behaves (files : List (List ℕ)) (bytes : List ℕ) (left : AsmRec) (kept : Kept) : Type 0 where
   pub loads : HasRecord bytes left
   pub links : link_fault_of (left ∷ []) ≡ None
   -- `exec` of them alone is refused by nothing, where they aren't more than a file that is read may have
   pub taken : length bytes ≤ most_bytes → input_fault (bytes ∷ []) ≡ None
-  -- the new numbers of methods
+  -- the new numbers of methods, from 0: a kept method's is its row among the kept ones, in the order of the files and of their rows
   pub number : ℕ → ℕ
+  pub moved : (at : RowAt) (row : ℕ) → new_row (kept_methods (assemblies (records files)) kept) at ≡ Some row → number (number_at methods_in (assemblies (records files)) at) ≡ row
   -- For any input and any number of steps its run prints what that of the files prints, and ends, throws, stops or goes on as it does.
   pub runs : (input : List ℕ) (n : ℕ) → SameRun number (assemblies (left ∷ [])) (assemblies (records files)) (run_of_files (bytes ∷ []) input n) (run_of_files files input n)

@@ -1,12 +1,11 @@
 -- What a trim of files gives, and when it refuses.
-use Rattle.std.specs.Prelude.{◌≡◌, ℕ, Bool, List, [], Option, Some, None, Result, Ok, Err, slice_get, if◌then◌else◌}
+use Rattle.std.specs.Prelude.{◌≡◌, ◌≤◌, ℕ, Bool, List, [], length, Option, Some, None, Result, Ok, Err, if◌then◌else◌}
 use Rattle.world_model.specs.declared.record.AsmRec.{AsmRec}
 use Rattle.link_rules.specs.declared.row_at.RowAt.{RowAt}
 use Rattle.link_rules.specs.Linked.{world_of}
 use Rattle.inputs.specs.Files.{records}
 use Rattle.descriptor_file.specs.declared.root.Root.{Root}
 use Rattle.descriptor_roots.specs.Roots.{roots_of}
-use Rattle.marked_merge_rules.specs.Merges.{BeginsWithModule}
 use Rattle.program_trim.specs.declared.answers.TrimFault.TheVariants as fault
 use Rattle.program_trim.specs.Trim.{TrimmedWorld, TrimsWorld}
 use Rattle.trim_core.specs.declared.answers.Opts.{Opts}
@@ -40,11 +39,10 @@ TrimsProgram recs entry roots opts (Err refusal) = ⊥
 
 -- ---- files
 
--- The trim is that of the world which the files make with the core library. What it wrote loads and runs as the files do, where the first
--- type of the first file is `<Module>`, as II.22.37 wants it.
+-- The trim is that of the world which the files make with the core library. What it wrote loads and runs as the files do, of which there is one at least.
 pub record TrimmedFiles (files descriptors : List (List ℕ)) (opts : Opts) (t : Trimmed) : Type 0 where
   pub program : TrimmedProgram (world_of (records files)).recs (entry_row (records files)) (roots_of (records files) descriptors) opts t
-  pub behaves : (first : AsmRec) → slice_get (records files) 0 ≡ Some first → BeginsWithModule first → Behaves files t.bytes program.trims.left
+  pub behaves : 1 ≤ length files → Behaves files t.bytes program.trims.left program.trims.kept
 
 abbrev pub TrimsFiles : List (List ℕ) → List (List ℕ) → Opts → Result Trimmed Refusal → Type 0
 TrimsFiles files descriptors opts (Ok t) = TrimmedFiles files descriptors opts t
