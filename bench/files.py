@@ -5,10 +5,10 @@
     files.py uncalled OUT         the example with a second method `F`, which nothing calls
     files.py mixed OUT            methods that are needed and that aren't, with rows and texts out of order, some of them twice
     files.py mixed_left OUT       what a trim leaves of it
-    files.py thin OUT             a thin file of about 1 MiB with 2047 methods, of which the entry needs every other one
+    files.py calls OUT            a file of about 1 MiB with 2047 static methods, of which the entry needs every other one
     files.py needed OUT           that file with the methods alone that the entry needs
     files.py text N OUT           the example with a text of N letters
-    files.py body N OUT           a thin file whose entry is a `ret` and behind it N instructions that are never run
+    files.py body N OUT           a file whose entry is a `ret` and behind it N instructions that are never run
     files.py large OUT            an assembly of about 4 MB with about half a million instructions in 16000 methods
     files.py shared OUT           200000 rows of one signature of 1 MiB and 50000 methods of one body of 100 kB, both bad at their ends
 
@@ -189,7 +189,7 @@ METHODS = 2047
 TEXTS = 1500
 
 
-def thin_method(metadata, k, next_token):
+def static_method(metadata, k, next_token):
     """Prints a text and a number, and calls the next method, if there is one."""
     numbers = Numbers(k)
     code = load_text(metadata, "text %d" % (k % TEXTS)) + PRINT_TEXT
@@ -223,7 +223,7 @@ def chain(every, step):
     numbers = range(1, METHODS + 1, every)
     for row, k in enumerate(numbers, 1):
         next_token = 0x06000000 | (row + step) if row + step <= len(numbers) else 0
-        rva = bodies.add(fat(thin_method(metadata, k, next_token), slots=0x11000000 | row))
+        rva = bodies.add(fat(static_method(metadata, k, next_token), slots=0x11000000 | row))
         metadata.row(0x06, rva, 0, STATIC, "Main" if k == 1 else "Method%d" % k, static_signature(VOID), 1)
     metadata.row(0x0A, (0x01, 2), "WriteLine", static_signature(VOID, STRING))
     metadata.row(0x0A, (0x01, 2), "WriteLine", static_signature(VOID, INT))
@@ -233,7 +233,7 @@ def chain(every, step):
     return image(bodies, metadata, 0x06000001)
 
 
-def thin():
+def calls():
     return chain(1, 2)
 
 
@@ -365,7 +365,7 @@ def shared():
     return image(bodies, metadata, 0x06000001)
 
 
-FILES = {f.__name__: f for f in (hello, uncalled, mixed, mixed_left, thin, needed, large, shared)}
+FILES = {f.__name__: f for f in (hello, uncalled, mixed, mixed_left, calls, needed, large, shared)}
 
 
 def main(words):

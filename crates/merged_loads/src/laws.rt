@@ -44,7 +44,7 @@ pub fn field_types_kept()
     ensures { FieldTypesKept }
 {}
 
-/// A law: a type is left of inputs, where the first type of the first one is `<Module>` and all that is marked is kept. It does nothing.
+/// A law: a type is left of inputs where all that is marked is kept, since the first type of the first one is. It does nothing.
 pub fn module_stays()
     ensures { ModuleStays }
 {}

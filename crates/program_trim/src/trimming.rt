@@ -114,10 +114,9 @@ fn trim_marked(
 /// the other inputs become internal.
 ///
 /// `Outside` and `Unresolved` come exactly where something needed is outside of the profile or names nothing, with the first place
-/// by assembly, token and offset; `Limit` 6 where the first such place is a body with more slots, instructions and sources than are
-/// followed. `Collision` comes exactly where nothing needed has such a flaw and a type that is public or shown has the full name of
-/// an earlier one of another assembly, and it is the first such type; `Limit` 5 and 7 exactly where the file that is left has more
-/// rows or bytes than it may have. `NoMemory` alone is free.
+/// by assembly, token and offset. `Collision` comes exactly where nothing needed has such a flaw and a type that is public or shown
+/// has the full name of an earlier one of another assembly, and it is the first such type; `Limit` 5 and 7 exactly where the file
+/// that is left has more rows or bytes than it may have. `NoMemory` alone is free.
 pub fn trim_world(
     alloc: Global,
     world: &World,
