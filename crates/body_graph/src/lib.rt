@@ -11,8 +11,6 @@ pub mod operands;
 mod places;
 pub mod signatures;
 mod steps;
-#[cfg(test)]
-mod tests;
 
 pub use graph::{Graph, GraphError};
 pub use places::Places;
