@@ -19,7 +19,7 @@ use Rattle.mark_rules.specs.BadItems.{is_global}
 use Rattle.merge_rules.specs.Moved.{moved_type_row}
 use Rattle.merged_record.proofs.FirstNames.{first_written}
 use Rattle.merged_loads.proofs.ModuleType.{has_module, module_marked}
-use Rattle.merged_places.proofs.Ranks.{rank, rank_kept, rank_rises}
+use Rattle.merged_places.proofs.Ranks.{rank, rank_is, rank_none, rank_kept, rank_rises}
 use Rattle.merged_places.proofs.Rows.{IsThere, place_within, place_has, there_home, one_by_number}
 use Rattle.merged_places.proofs.Kept.{keeps}
 use Rattle.merged_places.proofs.Worlds.{before_length, before_input, after_left}
@@ -90,12 +90,16 @@ module _ (m : Merge) (entry : Option RowAt) (roots : List Root) (is : IsMarkedMe
   first_flag : flag 0 ≡ true
   first_flag = subst (λ (n : ℕ). m.kept (number_type n) ≡ true) origin_number origin_kept
 
+  first_rank : rank flag 0 ≡ 0
+  first_rank = rank_is flag 0 ∙ rank_none flag 0
+
   same_name_left : is_global (after m) (Some (at_row 0 0)) ≡ is_global (before m) (Some (at_row 0 0))
   same_name_left =
       let f = first in
       let moved : TypeDefRow = moved_type_row m.internal (output m) (at_row 0 0) f.rec f.row in
       let left : slice_get m.left.type_def (rank flag (number_at types_in (before m) (at_row 0 0))) ≡ Some moved = type_left m is.merge (at_row 0 0) f.rec f.row origin_there an_input origin_kept f.there f.row_is in
-      let place : slice_get m.left.type_def 0 ≡ Some moved = ap (λ (n : ℕ). slice_get m.left.type_def (rank flag n)) (sym origin_number) ∙ left in
+      let place : slice_get m.left.type_def 0 ≡ Some moved =
+      ap (λ (n : ℕ). slice_get m.left.type_def n) (sym first_rank) ∙ ap (λ (n : ℕ). slice_get m.left.type_def (rank flag n)) (sym origin_number) ∙ left in
       global_is (after m) (at_row 0 0) m.left moved (after_left m) place
       ∙ ap (λ (name : List ℕ). same_name name (codes "<Module>") && same_name f.row.namespace []) (first_written (output m) (at_row 0 0) f.row.name refl)
       ∙ sym (global_is (before m) (at_row 0 0) f.rec f.row f.there f.row_is)
@@ -112,7 +116,7 @@ module _ (m : Merge) (entry : Option RowAt) (roots : List Root) (is : IsMarkedMe
   by_number t (suc n) there e not = later_not_global (after m) (at_row 0 (rank flag (suc n))) (after_first (suc n) (omega arith))
   by_number t zero there e not =
       let same : t ≡ at_row 0 0 = one_by_number types_in (before m) t (at_row 0 0) there origin_there (e ∙ sym origin_number) in
-      same_name_left ∙ ap (λ (x : RowAt). is_global (before m) (Some x)) (sym same) ∙ not
+      ap (λ (n : ℕ). is_global (after m) (Some (at_row 0 n))) first_rank ∙ same_name_left ∙ ap (λ (x : RowAt). is_global (before m) (Some x)) (sym same) ∙ not
 
 pub stay : ModulesStay
 stay m entry roots is t there lt kept not = by_number m entry roots is t (number_at types_in (before m) t) there refl not
