@@ -1,5 +1,5 @@
 -- The new number of a kept method is its row in the output.
-use Rattle.std.proofs.Common.{◌≡◌, ℕ, List, Option, Some, refl, sym, ap, subst, ◌∙◌}
+use Rattle.std.proofs.Common.{◌≡◌, ℕ, List, length, Option, Some, sym, ap, subst, ◌∙◌}
 use Rattle.std.specs.Prelude.{unwrap_or}
 use Rattle.std.specs.List.{Contains}
 use Rattle.std.specs.Option.{option_and_then}
@@ -13,8 +13,8 @@ use Rattle.merged_record.proofs.Lists.{place_in}
 use Rattle.merged_record.proofs.Rows.{from_kept}
 use Rattle.merged_record.proofs.Tokens.{position_is, row_is}
 use Rattle.merged_world_rules.specs.Merge.{Merge, before}
-use Rattle.merged_world_rules.specs.Numbering.{number_at, new_number}
-use Rattle.merged_world_rules.specs.NewNumbers.{rho_of}
+use Rattle.merged_world_rules.specs.Numbering.{in_inputs, in_all, number_at, other_number, new_number}
+use Rattle.merged_world_rules.specs.NewNumbers.{method_core, rho_of}
 use Rattle.merged_places.proofs.Rows.{IsThere, there_home}
 
 -- a row that has a new one is a row
@@ -26,8 +26,13 @@ is_there recs kept at k e =
     let row = from_kept methods_in (method_item recs) recs kept at inside in
     record { rec = row.rec; here = row.input.there; below = row.below }
 
+found : (rows : List RowAt) (o : Option RowAt) (at : RowAt) (k other : ℕ) → o ≡ Some at → new_row rows at ≡ Some k → unwrap_or (option_and_then (new_row rows) o) other ≡ k
+found rows o at k other e f = ap (λ (x : Option RowAt). unwrap_or (option_and_then (new_row rows) x) other) e ∙ ap (λ (x : Option ℕ). unwrap_or x other) f
+
 pub numbered : (m : Merge) (at : RowAt) (k : ℕ) → new_row (kept_methods (before m) m.kept) at ≡ Some k → (rho_of m).method (number_at methods_in (before m) at) ≡ k
 unfolding new_number
 numbered m at k e =
     let home : home_from methods_in 0 (before m) (number_at methods_in (before m) at) ≡ Some at = there_home methods_in (before m) at (is_there (before m) m.kept at k e) in
-    ap (λ (o : Option RowAt). unwrap_or (option_and_then (new_row (kept_methods (before m) m.kept)) o) _) home ∙ ap (λ (o : Option ℕ). unwrap_or o _) e
+    let rows : List RowAt = kept_methods (before m) m.kept in
+    let n : ℕ = number_at methods_in (before m) at in
+    found rows (home_from methods_in 0 (before m) n) at k (other_number method_core (length rows) (in_inputs methods_in (before m)) (in_all methods_in (before m)) n) home e
