@@ -12,8 +12,6 @@ mod mark;
 mod name;
 mod put;
 mod read;
-#[cfg(test)]
-mod tests;
 mod text;
 mod value;
 mod write;

@@ -28,6 +28,3 @@ pub use resolved::{Clause, ClauseKind, Code, Instruction, Use};
 pub use stack::Stack;
 pub use state::{Global, Init, Started, State};
 pub use value::Value;
-
-#[cfg(test)]
-mod tests;

@@ -11,8 +11,6 @@ mod names;
 mod record;
 mod rows;
 mod shape;
-#[cfg(test)]
-mod tests;
 mod text_methods;
 mod tokens;
 mod type_rows;

@@ -8,8 +8,6 @@ mod read;
 mod root;
 mod rules;
 mod state;
-#[cfg(test)]
-mod tests;
 mod token;
 mod values;
 

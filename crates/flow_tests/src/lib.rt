@@ -6,4 +6,6 @@ mod bodies;
 #[cfg(test)]
 mod build;
 #[cfg(test)]
+mod depths;
+#[cfg(test)]
 mod tests;

@@ -8,6 +8,3 @@ mod sections;
 
 pub use rvas::{CODE_RVA, image_length};
 pub use sections::{Parts, image};
-
-#[cfg(test)]
-mod tests;

@@ -17,6 +17,3 @@ mod walk;
 pub use cli_format::TablesError;
 pub use layout::{column_at, target};
 pub use tables::Tables;
-
-#[cfg(test)]
-mod tests;

@@ -12,6 +12,3 @@ mod stretches;
 
 pub use image::Image;
 pub use map::ImageMap;
-
-#[cfg(test)]
-mod tests;

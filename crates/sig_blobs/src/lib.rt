@@ -16,6 +16,3 @@ pub use read::{read_field, read_instance, read_locals, read_method, read_propert
 pub use write::{
     write_field, write_instance, write_locals, write_method, write_property, write_type,
 };
-
-#[cfg(test)]
-mod tests;

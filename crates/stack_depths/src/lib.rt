@@ -4,8 +4,6 @@
 
 mod exit;
 mod search;
-#[cfg(test)]
-mod tests;
 
 pub use exit::{Exit, Step, Way};
 pub use search::depths;

@@ -11,8 +11,6 @@ mod index;
 mod links;
 mod names;
 mod references;
-#[cfg(test)]
-mod tests;
 
 pub use assemblies::assembly_named;
 pub use index::TypeIndex;

@@ -8,8 +8,6 @@ mod full_name;
 mod names;
 mod nested;
 mod rows;
-#[cfg(test)]
-mod tests;
 mod texts;
 
 pub use names::TypeNames;

@@ -49,6 +49,3 @@ pub use types::{
     ModuleRow, NestedClassRow, TypeDefRow, TypeRefRow, TypeSpecRow,
 };
 pub use world::{FieldLink, Home, MethodLink, TypeLink, World};
-
-#[cfg(test)]
-mod tests;

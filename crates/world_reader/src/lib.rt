@@ -10,6 +10,3 @@ mod tables;
 
 pub use cli_format::TablesError as RecordError;
 pub use record::{read_record, row_place};
-
-#[cfg(test)]
-mod tests;

@@ -1,8 +1,8 @@
 ghost use Rattle.std.specs.Prelude.{◌≤◌, length};
 
-use super::*;
 use blob_grammar::laws;
 use il_base::Sig;
+use sig_blobs::*;
 use std::alloc::Global;
 use std::test::Fail;
 

@@ -1,10 +1,10 @@
 ghost use Rattle.std.specs.Prelude.{◌<◌, length};
 
-use super::*;
 use il_base::{BadAt, Operand};
 use std::alloc::{AllocError, Global};
 use std::test::*;
 use world_model::{AsmRec, BadKind, Known, MethodDefRow};
+use world_reader::*;
 
 /// Puts a part at a place, as far as the file goes.
 fn put(bytes: &mut Vec<u8>, at: usize, part: &[u8]) {

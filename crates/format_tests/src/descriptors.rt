@@ -1,4 +1,4 @@
-use super::*;
+use descriptor_file::*;
 use il_base::Seq;
 use std::alloc::Global;
 use std::test::Fail;

@@ -1,4 +1,4 @@
-use crate::{Heap, Obj, Value};
+use cil_values::{Heap, Obj, Value};
 use il_base::{Seq, TypeId};
 use std::test::Fail;
 use world_model::TypeExpr;

@@ -1,6 +1,6 @@
-use super::*;
 use cli_format::{NOT_IL_ONLY, NOT_PE, TRUNCATED};
 use il_base::BadAt;
+use pe_image::*;
 use std::alloc::{AllocError, Global};
 use std::test::Fail;
 

@@ -1,7 +1,4 @@
-use crate::kinds::{CoreKind, kind_of};
-use crate::names::CoreName;
-use crate::record::core;
-use crate::shape::CoreParams;
+use core_table::{CoreKind, CoreName, CoreParams, core, kind_of};
 use std::test::Fail;
 
 /// The record is made, with memory enough, and has the library's name, Object's row and the row of `Console.Read`.

@@ -1,9 +1,9 @@
-use super::*;
 use core_table::TYPE_COUNT;
 use il_base::{NoMemory, Seq, Sig, Text};
 use link_rules::RowAt;
 use std::alloc::Global;
 use std::test::Fail;
+use type_links::{TypeIndex, TypeName, assembly_named, type_links};
 use world_model::{
     AsmRec, AssemblyRefRow, AssemblyRow, BadKind, ExportedTypeRow, Known, NestedClassRow,
     TypeDefRow, TypeExpr, TypeLink, TypeRefRow, TypeSpecRow,

@@ -1,4 +1,4 @@
-use super::*;
+use stack_depths::{Exit, Step, Way, depths};
 use il_base::Seq;
 use std::alloc::Global;
 use std::test::Fail;

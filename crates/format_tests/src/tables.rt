@@ -1,6 +1,6 @@
-use super::*;
 use cli_format::{BAD_HEAP, BAD_STREAM, LIST_ORDER, ROW_OUT_OF_RANGE};
 use il_base::BadAt;
+use meta_tables::*;
 use std::alloc::Global;
 use std::test::Fail;
 

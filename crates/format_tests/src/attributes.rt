@@ -1,4 +1,4 @@
-use super::{
+use attr_blobs::{
     Arg, AttrError, AttrValue, EnumSize, NameRead, ParamKind, parse_name, read_attribute,
     write_attribute,
 };
