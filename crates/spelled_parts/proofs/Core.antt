@@ -1,13 +1,10 @@
 -- Signatures of the core library's members are primitives, and types of its own table; its methods have no bodies.
-use Rattle.std.proofs.Common.{◌≡◌, ◌↔◌, ℕ, ◌/◌, ◌<◌, List, [], ◌∷◌, ◌++◌, length, map, Bool, true, false, ◌&&◌, ◌⊎◌, inl, inr, refl, subst, arith, eqb-true}
+use Rattle.std.proofs.Common.{◌≡◌, ℕ, ◌/◌, List, [], ◌∷◌, map, Bool, true, false, ◌&&◌, inl, refl, arith, eqb-true}
 use Rattle.std.specs.Prelude.{All, ◌==◌}
-use Rattle.std.specs.List.{Contains, list_all}
+use Rattle.std.specs.List.{list_all}
 use Rattle.std.proofs.lemmas.Bool.{and_parts}
 use Rattle.std.proofs.lemmas.List.Elements.{All-nil}
 use Rattle.il_base.specs.declared.sig.Sig.{Sig}
-use Rattle.il_base.specs.declared.sig.Sig.TheVariants.{Named}
-use Rattle.il_base.specs.declared.sig.Sig.TheVariants as sig
-use Rattle.il_base.specs.declared.sig.MethodSig.{MethodSig}
 use Rattle.blob_grammar.specs.Signatures.{is_primitive, levels, IsType, IsMethod, IsProperty, IsField, AreLocals, IsInstance}
 use Rattle.blob_grammar.specs.Values.{FitsType, FitTypes, FitRow, FitsMethod, primitive, named, none, more}
 use Rattle.world_model.specs.declared.members.FieldRow.{FieldRow}
@@ -17,7 +14,6 @@ use Rattle.world_model.specs.declared.members.MethodSpecRow.{MethodSpecRow}
 use Rattle.world_model.specs.declared.members.StandAloneSigRow.{StandAloneSigRow}
 use Rattle.world_model.specs.declared.members.PropertyRow.{PropertyRow}
 use Rattle.world_model.specs.declared.types.TypeSpecRow.{TypeSpecRow}
-use Rattle.world_model.specs.declared.record.AsmRec.{AsmRec}
 use Rattle.core_table.specs.declared.shape.CoreField.{CoreField}
 use Rattle.core_table.specs.declared.shape.CoreMethod.{CoreMethod}
 use Rattle.core_table.specs.declared.shape.CoreParams.{CoreParams}
@@ -31,7 +27,7 @@ use Rattle.core_table.specs.Record.{sig_of, params_of, signature_of, field_row, 
 use Rattle.link_rules.specs.declared.core_type_name.CoreTypeName.{CoreTypeName}
 use Rattle.link_rules.specs.CoreNames.{core_with}
 use Rattle.row_writer.specs.CanWrite.{HasSpelling, HasMemberSpelling, CanWriteRows}
-use Rattle.record_writer.specs.CanWrite.{HasBody, CanWrite}
+use Rattle.record_writer.specs.CanWrite.{HasBody}
 use Rattle.spelled_parts.specs.Laws.{CoreIsSpelled}
 use Rattle.spelled_parts.proofs.Lists.{Every, all_none, all_more, all_join, all_map, all_by}
 use Rattle.spelled_parts.proofs.Recs.{Values}

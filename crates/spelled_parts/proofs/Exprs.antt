@@ -1,6 +1,6 @@
 -- Types whose numbers have a form, and the signatures that are made of them: one of at most 64 levels has a spelling but for what its
 -- tokens name.
-use Rattle.std.proofs.Common.{◌≡◌, ℕ, zero, suc, ◌+◌, ◌<◌, ◌≤◌, Bool, true, false, List, [], ◌∷◌, length, map, Option, Some, None, find, max, refl, sym, ap, subst, ◌∙◌, arith}
+use Rattle.std.proofs.Common.{◌≡◌, ℕ, zero, suc, ◌+◌, ◌≤◌, Bool, true, false, List, [], ◌∷◌, length, map, Option, Some, None, find, max, refl, sym, ap, subst, ◌∙◌, arith}
 use Rattle.std.proofs.Common as common
 use Rattle.std.specs.Prelude.{◌==◌, slice_get, if◌then◌else◌}
 use Rattle.std.specs.List.{list_all, range_with_len}
@@ -13,7 +13,7 @@ use Rattle.il_base.specs.declared.sig.Sig.TheFolds.{map-Sig}
 use Rattle.il_base.specs.declared.sig.Sig.TheOpen.{Sig-F}
 use Rattle.il_base.specs.declared.sig.Sig.TheVariants as sig
 use Rattle.il_base.specs.declared.table.TheConstants as table
-use Rattle.blob_grammar.specs.Signatures.{is_primitive, levels}
+use Rattle.blob_grammar.specs.Signatures.{is_primitive}
 use Rattle.blob_grammar.specs.Values.{FitsNumber}
 use Rattle.world_model.specs.declared.known.Known.{Known}
 use Rattle.world_model.specs.declared.known.Known.TheVariants.{Good, Bad}

@@ -1,5 +1,5 @@
 -- What has a reading in a file's record was read of bytes, which spell it.
-use Rattle.std.proofs.Common.{◌≡◌, ℕ, zero, suc, ◌+◌, ◌<◌, List, [], ◌∷◌, ◌++◌, length, take, drop, ◌-◌, Bool, true, false, nat_le, Option, Some, None, Result, Ok, Err, refl, sym, ap, subst, ◌∙◌, arith}
+use Rattle.std.proofs.Common.{◌≡◌, ℕ, zero, suc, ◌+◌, List, [], length, take, drop, ◌-◌, Bool, true, false, nat_le, Option, Some, None, Result, Ok, Err, refl, sym, subst, arith}
 use Rattle.std.specs.Prelude.{All, ◌==◌, ◌&&◌, unwrap_or, if◌then◌else◌}
 use Rattle.std.specs.Option.{option_map, option_and_then}
 use Rattle.std.proofs.lemmas.List.Elements.{All-nil, All-push}
@@ -13,7 +13,6 @@ use Rattle.blob_grammar.specs.Signatures.{levels, IsType, IsMethod, IsProperty, 
 use Rattle.blob_grammar.specs.Reading.{type_of_blob, method_of_blob, property_of_blob, field_of_blob, locals_of_blob, instance_of_blob}
 use Rattle.body_grammar.specs.declared.body.Fault.{Fault}
 use Rattle.body_grammar.specs.Bodies.{body_at}
-use Rattle.body_grammar.specs.BodySpelling.{IsSpelledBy}
 use Rattle.body_grammar.specs.BodySpelling as body
 use Rattle.body_grammar.proofs.ReadNumbers.{bytes-drop, bytes-take}
 use Rattle.cli_format.specs.declared.stream.StreamName.{StreamName}
@@ -24,7 +23,6 @@ use Rattle.cli_format.specs.declared.section.Section.{Section}
 use Rattle.cli_format.specs.Streams.{heap}
 use Rattle.world_model.specs.declared.known.Known.{Known}
 use Rattle.world_model.specs.declared.known.Known.TheVariants.{Good, Bad}
-use Rattle.world_model.specs.declared.expr.MemberSig.{MemberSig}
 use Rattle.world_model.specs.declared.expr.MemberSig.TheVariants as member
 use Rattle.world_model.specs.declared.members.FieldRow.{FieldRow}
 use Rattle.world_model.specs.declared.members.MethodDefRow.{MethodDefRow}
@@ -33,12 +31,11 @@ use Rattle.world_model.specs.declared.members.MethodSpecRow.{MethodSpecRow}
 use Rattle.world_model.specs.declared.members.StandAloneSigRow.{StandAloneSigRow}
 use Rattle.world_model.specs.declared.members.PropertyRow.{PropertyRow}
 use Rattle.world_model.specs.declared.types.TypeSpecRow.{TypeSpecRow}
-use Rattle.world_model.specs.declared.record.AsmRec.{AsmRec}
 use Rattle.record_format.specs.Cells.{number_in, blob_in, count_of, first_rows}
 use Rattle.record_format.specs.Parts.{known_of, known_map, begins_field, member_of_blob, body_of_reading, body_in, body_by}
 use Rattle.record_format.specs.Types.{type_spec_row}
 use Rattle.record_format.specs.Members.{field_row, method_def_row, member_ref_row, stand_alone_sig_row, property_row, method_spec_row}
-use Rattle.record_format.specs.Record.{record_at, HasRecord}
+use Rattle.record_format.specs.Record.{record_at}
 use Rattle.row_writer.specs.CanWrite.{HasSpelling, HasMemberSpelling, CanWriteRows}
 use Rattle.record_writer.specs.CanWrite.{HasBody, CanWrite}
 use Rattle.spelled_parts.specs.Laws.{FilesAreSpelled}

@@ -1,18 +1,15 @@
 -- What is left of records that have spellings has them, where each token in its signatures is of a type.
-use Rattle.std.proofs.Common.{◌≡◌, ◌↔◌, ℕ, zero, suc, List, [], ◌∷◌, ◌++◌, map, Bool, true, false, Option, Some, None, refl, sym, ap, subst}
-use Rattle.std.specs.Prelude.{All, slice_get, if◌then◌else◌}
-use Rattle.std.specs.List.{Contains, flat_map, list_any}
-use Rattle.std.specs.Option.{option_map}
+use Rattle.std.proofs.Common.{◌≡◌, ℕ, suc, List, [], ◌∷◌, ◌++◌, map, Bool, Some, refl, sym, subst}
+use Rattle.std.specs.Prelude.{All, slice_get}
+use Rattle.std.specs.List.{flat_map, list_any}
 use Rattle.std.proofs.lemmas.List.Elements.{All-nil, All-cons}
 use Rattle.il_base.specs.declared.sig.Sig.{Sig}
 use Rattle.il_base.specs.declared.sig.MethodSig.{MethodSig}
-use Rattle.il_base.specs.declared.body.Body.{Body}
 use Rattle.blob_grammar.specs.Signatures.{levels, IsType, IsMethod, IsProperty, IsField, AreLocals, IsInstance}
 use Rattle.world_model.specs.declared.known.Known.{Known}
 use Rattle.world_model.specs.declared.known.Known.TheVariants.{Good, Bad}
 use Rattle.world_model.specs.declared.expr.TypeExpr.{TypeExpr, out-TypeExpr}
 use Rattle.world_model.specs.declared.expr.TypeExpr.TheOpen.{TypeExpr-F}
-use Rattle.world_model.specs.declared.expr.MemberSig.{MemberSig}
 use Rattle.world_model.specs.declared.expr.MemberSig.TheVariants as member
 use Rattle.world_model.specs.declared.types.TypeSpecRow.{TypeSpecRow}
 use Rattle.world_model.specs.declared.members.FieldRow.{FieldRow}
@@ -28,7 +25,7 @@ use Rattle.file_layout.specs.Bodies.{rvas_behind}
 use Rattle.link_rules.specs.declared.row_at.RowAt.{RowAt}
 use Rattle.link_rules.specs.Cycles.{listed}
 use Rattle.type_rules.specs.Rows.{rec_at}
-use Rattle.row_writer.specs.CanWrite.{HasSpelling, HasMemberSpelling, CanWriteRows}
+use Rattle.row_writer.specs.CanWrite.{HasSpelling, HasMemberSpelling}
 use Rattle.record_writer.specs.CanWrite.{HasBody, CanWrite}
 use Rattle.merge_rules.specs.Numbers.{Kept, kept_methods, kept_fields, kept_properties}
 use Rattle.merge_rules.specs.Keys.{TypeKey, named, spec, MethodKey, own_method, found_method, absent_method, FieldKey, own_field, found_field, InstanceKey, same_sig, same_sigs, same_instance, made_sig, expr_key_in, expr_key, world_sig, world_method_sig}
@@ -37,14 +34,14 @@ use Rattle.merge_rules.specs.Refs.{Output, met_once, all_once, each_once, known_
 use Rattle.merge_rules.specs.Moved.{moved_sig, moved_method_sig, moved_field_row, moved_method_row, moved_property_row}
 use Rattle.merge_rules.specs.Restricted.{each_at, put_rva, with_rvas, bodies_of, placed_methods, moved_methods, restricted_by, output_of, restricted}
 use Rattle.merged_record.proofs.Lists.{first_in, later_in, place_in, map_some}
-use Rattle.spelled_parts.specs.Laws.{AreSpelled, FewParams, AreTypeTokens, tokens_in, tokens_of_method, tokens_of_member, known_tokens, SignaturesName, LeftIsSpelled}
+use Rattle.spelled_parts.specs.Laws.{AreTypeTokens, tokens_in, tokens_of_method, tokens_of_member, known_tokens, SignaturesName, LeftIsSpelled}
 use Rattle.spelled_parts.proofs.Lists.{Every, all_none, all_one, all_more, all_join, all_either, all_by, all_flat, all_option, all_map, all_listed}
 use Rattle.spelled_parts.proofs.Shapes.{Shape, RowShape, MethodShape, type_fits, row_fits, method_fits, property_fits}
 use Rattle.spelled_parts.proofs.Retokened.{world_shape, world_method_shape, new_shape, new_row_shape, new_method_shape}
 use Rattle.spelled_parts.proofs.Bodies.{has_body_stays}
 use Rattle.spelled_parts.proofs.Exprs.{made_shape}
 use Rattle.spelled_parts.proofs.Owners.{IsOwner}
-use Rattle.spelled_parts.proofs.Recs.{Values, IfGood, PropertyShape, HasShapes, shapes_of}
+use Rattle.spelled_parts.proofs.Recs.{Values, IfGood, PropertyShape, shapes_of}
 use Rattle.spelled_parts.proofs.Mets.{KeyShape, MethodKeyShape, FieldKeyShape, InstanceShape, MetShape, HaveShapes, mets_shape}
 
 -- ---- lists
@@ -65,7 +62,7 @@ module _ {A : Type 0} (P : A → Type 0) (same : A → A → Bool) where
       once_all (met_once same xs y) ys (all_either P (list_any (same y) xs) xs (xs ++ y ∷ []) h (all_join P xs (y ∷ []) h (all_one P y (k.each y (first_in y ys)))))
       (record { each = λ z c. k.each z (later_in y ys z c) })
 
-  each_all : (xs : List A) → Every P xs → Every P (each_once same xs)
+  pub each_all : (xs : List A) → Every P xs → Every P (each_once same xs)
   each_all xs h = once_all [] xs (all_none P) h
 
 -- rows at places
@@ -78,7 +75,7 @@ places_all P recs rows f places h =
     (λ rec there. all_listed P (f at rec) (slice_get (rows rec) at.row) (λ row is. h at rec row there is)))
 
 -- addresses are given to methods in order
-rvas_all : (P : MethodDefRow → Type 0) → ((rva : ℕ) (m : MethodDefRow) → P m → P (put_rva rva m)) → (rvas : List ℕ) (ms : List MethodDefRow) → Every P ms → Every P (with_rvas rvas ms)
+pub rvas_all : (P : MethodDefRow → Type 0) → ((rva : ℕ) (m : MethodDefRow) → P m → P (put_rva rva m)) → (rvas : List ℕ) (ms : List MethodDefRow) → Every P ms → Every P (with_rvas rvas ms)
 unfolding with_rvas
 rvas_all P put [] ms h = all_none P
 rvas_all P put (rva ∷ rvas) [] h = all_none P

@@ -1,6 +1,6 @@
 -- What the output refers to has its shape: tokens of kept rows and of attributes lead to rows of records that have spellings, and owners
 -- have at most 64 levels.
-use Rattle.std.proofs.Common.{◌≡◌, ℕ, zero, suc, List, [], ◌∷◌, ◌++◌, map, Bool, true, false, Option, Some, None, refl, sym, ap, subst, ◌∙◌}
+use Rattle.std.proofs.Common.{◌≡◌, ℕ, zero, suc, List, [], ◌∷◌, ◌++◌, map, Bool, true, false, Option, Some, None, refl, ap, subst}
 use Rattle.std.specs.Prelude.{slice_get, ◌==◌, ◌||◌, if◌then◌else◌}
 use Rattle.std.specs.List.{Contains, flat_map, filter}
 use Rattle.std.specs.Option.{option_map, option_and_then}
@@ -35,7 +35,6 @@ use Rattle.world_model.specs.declared.members.MethodSpecRow.{MethodSpecRow}
 use Rattle.world_model.specs.declared.members.PropertyRow.{PropertyRow}
 use Rattle.world_model.specs.declared.members.EventRow.{EventRow}
 use Rattle.world_model.specs.declared.members.StandAloneSigRow.{StandAloneSigRow}
-use Rattle.world_model.specs.declared.extras.CustomAttributeRow.{CustomAttributeRow}
 use Rattle.world_model.specs.declared.record.AsmRec.{AsmRec}
 use Rattle.world_model.specs.Tokens.{token_of, table_of, index_in}
 use Rattle.world_model.specs.Worlds.{known_then}
@@ -59,7 +58,7 @@ use Rattle.merge_rules.specs.Restricted.{output_of}
 use Rattle.merged_record.proofs.Lists.{and_then_some, map_some, from_all}
 use Rattle.merged_record.proofs.Sorting.{sorted_in}
 use Rattle.spelled_parts.specs.Laws.{FewParams}
-use Rattle.spelled_parts.proofs.Lists.{Every, all_none, all_one, all_join, all_either, all_flat, all_option, all_map, all_listed, all_each}
+use Rattle.spelled_parts.proofs.Lists.{Every, all_none, all_join, all_either, all_flat, all_option, all_map, all_listed, all_each}
 use Rattle.spelled_parts.proofs.Shapes.{Shape, RowShape, MethodShape}
 use Rattle.spelled_parts.proofs.Retokened.{world_shape, world_row_shape, world_method_shape}
 use Rattle.spelled_parts.proofs.Recs.{IfGood, MemberShape, HasShapes}

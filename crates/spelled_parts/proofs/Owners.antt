@@ -1,5 +1,5 @@
 -- The type in which a reference finds a member has numbers that have a form, and at most 64 levels.
-use Rattle.std.proofs.Common.{◌≡◌, ℕ, zero, suc, ◌+◌, ◌≤◌, List, [], ◌∷◌, length, map, Bool, true, false, nat_lt, Option, Some, None, refl, sym, ap, subst, ◌∙◌, ◌||◌, arith}
+use Rattle.std.proofs.Common.{◌≡◌, ℕ, zero, suc, ◌+◌, ◌≤◌, List, [], ◌∷◌, length, Bool, true, false, nat_lt, Option, Some, None, refl, ap, subst, ◌||◌, arith}
 use Rattle.std.specs.Prelude.{slice_get, ◌==◌, if◌then◌else◌}
 use Rattle.std.specs.List.{Contains, count_by, position_from}
 use Rattle.std.specs.Option.{option_map, option_and_then}
@@ -31,12 +31,12 @@ use Rattle.link_rules.specs.declared.row_at.RowAt.{RowAt}
 use Rattle.link_rules.specs.declared.member_type.MethodType.{MethodType}
 use Rattle.link_rules.specs.Types.{at_row}
 use Rattle.link_rules.specs.Signatures.{names_at, named_type, spec_type_at, token_type, method_type}
-use Rattle.link_rules.specs.Members.{type_home, array_type, owner_of, args_of, good_type, is_named, only_named, is_interface_row, base_in, base_at, base_of, bases_from, type_count, with_bases, Found, found_in, or_next, search, own_args, open_in, open_parent, closed, method_of_type, field_of_type, find_method, find_field, methods_in, fields_in, most_levels, method_use, field_use, is_field_sig, is_method_sig, parent_of, method_in_parent, field_in_parent, method_ref_use, field_ref_use, ref_use_at, def_use_at, generic_method, instantiated, arguments_of, method_spec_use, is_param_of, param_count, with_own_args, own_type, owns_method, owns_field, own_member, method_def_use, field_def_use}
+use Rattle.link_rules.specs.Members.{type_home, array_type, owner_of, args_of, good_type, is_named, only_named, is_interface_row, base_in, base_at, base_of, bases_from, type_count, with_bases, Found, found_in, or_next, search, open_in, open_parent, closed, method_of_type, field_of_type, find_method, find_field, methods_in, fields_in, most_levels, method_use, field_use, is_field_sig, is_method_sig, parent_of, method_in_parent, field_in_parent, method_ref_use, field_ref_use, ref_use_at, def_use_at, generic_method, instantiated, arguments_of, method_spec_use, is_param_of, param_count, with_own_args, own_type, owns_method, owns_field, own_member, method_def_use, field_def_use}
 use Rattle.mark_rules.specs.Naming.{spec_use_at, method_named, field_def_at, field_ref_at, field_named}
 use Rattle.merged_record.proofs.Lists.{first_in, later_in, and_then_some, map_some}
 use Rattle.spelled_parts.proofs.Lists.{Every, all_none, all_more}
 use Rattle.spelled_parts.proofs.Shapes.{Shape}
-use Rattle.spelled_parts.proofs.Exprs.{Fine, AreFine, def, put_fine, by_out, args_fine, own_fine, known_good, mapped_good, sig_fine, definition_fine, named_fine, in_fine}
+use Rattle.spelled_parts.proofs.Exprs.{Fine, def, put_fine, by_out, args_fine, own_fine, known_good, mapped_good, sig_fine, definition_fine, named_fine, in_fine}
 use Rattle.spelled_parts.specs.Laws.{FewParams}
 
 -- a type that a signature can be made of

@@ -1,5 +1,5 @@
 -- Signatures over the types of the world, and those of the output, are those of the inputs with other tokens.
-use Rattle.std.proofs.Common.{◌≡◌, ℕ, Bool, List, map, refl, sym, ap, subst, ◌∙◌}
+use Rattle.std.proofs.Common.{◌≡◌, ℕ, List, map, sym, ap, ◌∙◌}
 use Rattle.il_base.specs.declared.sig.MethodSig.{MethodSig}
 use Rattle.il_base.specs.declared.sig.Sig.{Sig, fold-roll-Sig, roll-Sig}
 use Rattle.il_base.specs.declared.sig.Sig.TheFolds.{map-Sig}
@@ -10,7 +10,7 @@ use Rattle.world_model.specs.declared.record.AsmRec.{AsmRec}
 use Rattle.blob_grammar.specs.Signatures.{levels}
 use Rattle.merge_rules.specs.Keys.{class_number, modifier_number, world_layer, world_sig, world_sigs, world_method_sig}
 use Rattle.merge_rules.specs.Refs.{Output, number_token, new_sig_layer, new_sig, new_method_sig}
-use Rattle.spelled_parts.proofs.Shapes.{Shape, Shapes, RowShape, MethodShape, Changes, changed, all_changed, row_changed}
+use Rattle.spelled_parts.proofs.Shapes.{Shape, RowShape, MethodShape, Changes, changed, row_changed}
 
 module _ (recs : List AsmRec) (a : ℕ) (rec : AsmRec) where
   world_is : (x : Sig-F Sig) (s : Sig) → roll-Sig x ≡ s → world_sig recs a rec s ≡ world_layer recs a rec (map-Sig Sig Sig (world_sig recs a rec) x)

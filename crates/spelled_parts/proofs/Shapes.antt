@@ -1,12 +1,12 @@
 -- Types that have a spelling but for what their tokens name; other tokens keep that.
-use Rattle.std.proofs.Common.{◌≡◌, ℕ, zero, suc, ◌<◌, Bool, true, false, List, [], ◌∷◌, ◌++◌, length, map, refl, sym, ap, subst, ◌∙◌, inl, inr, arith}
-use Rattle.std.specs.List.{Contains, flat_map}
+use Rattle.std.proofs.Common.{◌≡◌, ℕ, suc, Bool, true, List, [], ◌∷◌, ◌++◌, length, map, refl, sym, ap, subst, ◌∙◌, arith}
+use Rattle.std.specs.List.{flat_map}
 use Rattle.std.proofs.lemmas.List.{length-map}
 use Rattle.std.proofs.lemmas.List.Elements.{Contains-append_left, Contains-append_right}
 use Rattle.il_base.specs.declared.sig.MethodSig.{MethodSig}
 use Rattle.il_base.specs.declared.sig.Sig.{Sig, fold-Sig, fold-roll-Sig}
 use Rattle.il_base.specs.declared.sig.Sig.TheOpen.{Sig-F}
-use Rattle.il_base.specs.declared.sig.Sig.TheVariants.{Named, Array, ByRef, Inst, Var, MVar, Mod, Pinned, rolls-Prim, rolls-Named, rolls-Array, rolls-ByRef, rolls-Inst, rolls-Var, rolls-MVar, rolls-Mod, rolls-Pinned}
+use Rattle.il_base.specs.declared.sig.Sig.TheVariants.{Named, Array, ByRef, Inst, Var, MVar, Mod, Pinned, rolls-Named, rolls-Array, rolls-ByRef, rolls-Inst, rolls-Mod, rolls-Pinned}
 use Rattle.il_base.specs.declared.sig.Sig.TheVariants as sig
 use Rattle.blob_grammar.specs.Signatures.{is_primitive, levels}
 use Rattle.blob_grammar.specs.Values.{IsTypeToken, FitsNumber, FitsType, FitTypes, FitRow, FitsMethod, FitsProperty}

@@ -1,5 +1,5 @@
 -- Tokens of the output have 32 bits.
-use Rattle.std.proofs.Common.{◌≡◌, ℕ, suc, ◌+◌, ◌*◌, ◌%◌, ◌^◌, ◌<◌, Bool, true, false, List, [], ◌∷◌, map, Option, Some, None, refl, arith}
+use Rattle.std.proofs.Common.{◌≡◌, ℕ, ◌%◌, ◌^◌, ◌<◌, Bool, true, false, List, [], ◌∷◌, map, Option, Some, None, refl, arith}
 use Rattle.std.specs.Prelude.{◌==◌, slice_get, if◌then◌else◌}
 use Rattle.std.specs.Option.{option_and_then}
 use Rattle.il_base.specs.declared.ids.TypeId.{TypeId}
@@ -7,15 +7,12 @@ use Rattle.il_base.specs.declared.sig.Sig.{Sig}
 use Rattle.il_base.specs.declared.body.Form.{Form}
 use Rattle.il_base.specs.declared.body.Form.TheVariants as form
 use Rattle.il_base.specs.declared.table.TheConstants as table
-use Rattle.world_model.specs.declared.known.Known.{Known}
-use Rattle.world_model.specs.declared.known.Known.TheVariants.{Good, Bad}
-use Rattle.world_model.specs.declared.members.StandAloneSigRow.{StandAloneSigRow}
 use Rattle.world_model.specs.declared.record.AsmRec.{AsmRec}
 use Rattle.world_model.specs.Tokens.{table_of, index_in}
 use Rattle.link_rules.specs.Cycles.{listed}
 use Rattle.mark_rules.specs.Bodies.{is_field_token, is_method_token}
 use Rattle.merge_rules.specs.Keys.{TypeKey, named, spec, MethodKey, own_method, found_method, absent_method, FieldKey, own_field, found_field, InstanceKey, good, world_sigs, type_key, method_key, field_key, instance_key}
-use Rattle.merge_rules.specs.Refs.{Output, first_or, is_reference, row_token, kept_token, type_token, key_token, method_token, field_token, instance_token, locals_token}
+use Rattle.merge_rules.specs.Refs.{Output, first_or, is_reference, row_token, type_token, key_token, method_token, field_token, instance_token, locals_token}
 use Rattle.merge_rules.specs.Moved.{token_or_none, moved_type, moved_callee, moved_field, moved_any, texts_named, text_token, moved_text, moved_by_form, locals_row_token, moved_locals}
 
 abbrev pub IsSmall : ℕ → Type 0
