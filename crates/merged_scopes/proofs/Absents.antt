@@ -1,9 +1,10 @@
 -- Types that name nothing: the row that each stands for, and its scopes.
-use Rattle.std.proofs.Common.{◌≡◌, ◌<◌, ℕ, zero, suc, ◌+◌, ◌-◌, List, [], ◌∷◌, length, map, Bool, true, Option, Some, None, refl, sym, ap, subst, ◌∙◌, arith}
+use Rattle.std.proofs.Common.{◌≡◌, ◌<◌, ◌≤◌, ℕ, zero, suc, ◌+◌, ◌-◌, List, [], ◌∷◌, length, map, Bool, true, Option, Some, None, inl, inr, refl, sym, ap, subst, ◌∙◌, arith, length-append}
 use Rattle.std.specs.Prelude.{slice_get, if◌then◌else◌}
-use Rattle.std.specs.List.{Contains, range_with_len}
+use Rattle.std.specs.List.{Contains, flat_map, range_with_len}
 use Rattle.std.specs.Option.{is_some, option_map, option_and_then}
-use Rattle.std.proofs.lemmas.Bool.{le-leb}
+use Rattle.std.proofs.lemmas.Bool.{cases_lt, le-leb}
+use Rattle.std.proofs.lemmas.List.FromFn.{length-map-range_with_len}
 use Rattle.il_base.specs.declared.ids.TypeId.{TypeId}
 use Rattle.il_base.specs.declared.table.TheConstants.{TYPE_REF}
 use Rattle.world_model.specs.declared.assemblies.AssemblyRefRow.{AssemblyRefRow}
@@ -17,9 +18,10 @@ use Rattle.link_rules.specs.Members.{type_home}
 use Rattle.link_rules.specs.Cycles.{listed}
 use Rattle.type_rules.specs.Rows.{rec_at}
 use Rattle.type_laws.proofs.Places.{place_within}
-use Rattle.known_laws.proofs.Lists.{from_flat, from_map, and_then_some, map_some}
+use Rattle.known_laws.proofs.Lists.{none_in, head_or, from_flat, from_map, and_then_some, map_some}
 use Rattle.mark_rules.specs.Places.{type_item}
 use Rattle.merge_rules.specs.Absent.{bare, reference_rows, reference_at, definition_of, assembly_scope, reference_scope, reads_same, type_count, first_same, absent_type, absent_row}
+use Rattle.merge_rules.specs.Keys.{number_or}
 use Rattle.merge_rules.specs.Numbers.{Kept, inputs, rows_of_kind}
 use Rattle.merge_rules.specs.Refs.{outer_reference, scope_type_by, scope_type, scope_of, assemblies_of, first_or, own_scope}
 use Rattle.merged_record.proofs.Lists.{an_input, place_in, from_filter}
@@ -27,7 +29,7 @@ use Rattle.merged_record.proofs.Owned.{to_kept}
 use Rattle.merged_record.proofs.Tokens.{position_is}
 use Rattle.merged_references.proofs.Found.{definition_names}
 use Rattle.merged_owners.proofs.Homes.{position_some, own_home}
-use Rattle.merged_scopes.proofs.Chains.{AlwaysStays, same_rows, reads_itself, scope_reads, none_reads, stays_on}
+use Rattle.merged_scopes.proofs.Chains.{AlwaysStays, one_of, same_rows, reads_up, reads_itself, scope_reads, none_reads, stays_on}
 
 module _ (recs : List AsmRec) (Q : ℕ → Type 0) where
   -- over so many scopes references are compared
@@ -85,6 +87,50 @@ module _ (recs : List AsmRec) (Q : ℕ → Type 0) where
         itself = reads_itself recs most x p.item p.passes;
         stays = stays_on recs Q most x p.item p.passes stays;
       })
+
+  -- one that reads like itself has such a type
+
+  flat_long : {A B : Type 0} (g : A → List B) (xs : List A) (x : A) → Contains xs x → length (g x) ≤ length (flat_map g xs)
+  flat_long g [] x c = absurd (none_in x c)
+  flat_long {A} g (y ∷ xs) x c =
+      let both = length-append (g y) (flat_map g xs) in
+      elim (head_or y xs x c) [
+        | inl e ↦ subst (λ (z : A). length (g z) ≤ length (flat_map g (y ∷ xs))) e (omega (arith, both))
+        | inr d ↦ (let more = flat_long g xs x d in omega (arith, both, more))
+      ]
+
+  rows_long : (at : RowAt) (rec : AsmRec) → slice_get recs at.asm ≡ Some rec → Contains (reference_rows recs) at → length rec.type_ref ≤ most
+  rows_long at rec there c =
+      let g : ℕ × AsmRec → List RowAt = λ (x : ℕ × AsmRec). map (at_row x.0) (range_with_len 0 (length x.1.type_ref)) in
+      let x = from_flat g (inputs recs) at c in
+      let k = from_map (at_row x.item.0) (range_with_len 0 (length x.item.1.type_ref)) at x.inside in
+      let i = an_input recs x.item x.there in
+      let same : x.item.0 ≡ at.asm = ap (λ (r : RowAt). r.asm) k.2 in
+      let one : x.item.1 ≡ rec = one_of (slice_get recs at.asm) x.item.1 rec (ap (slice_get recs) (sym same) ∙ i.there) there in
+      let size = length-map-range_with_len (at_row x.item.0) 0 (length x.item.1.type_ref) in
+      let rows : length x.item.1.type_ref ≡ length rec.type_ref = ap (λ (r : AsmRec). length r.type_ref) one in
+      let long : length (map (at_row x.item.0) (range_with_len 0 (length x.item.1.type_ref))) ≤ most = flat_long g (inputs recs) x.item x.there in
+      omega (arith, size, rows, long)
+
+  reads_more : (m n : ℕ) (x : RowAt) → n ≤ m → reads_same recs n x x ≡ true → reads_same recs m x x ≡ true
+  reads_more zero n x le h = let z : n ≡ 0 = omega arith in subst (λ (k : ℕ). reads_same recs k x x ≡ true) z h
+  reads_more (suc m) n x le h =
+      elim (cases_lt n (suc m)) [
+        | inl lt ↦ reads_up recs m x x (reads_more m n x (omega arith) h)
+        | inr ge ↦ (let z : n ≡ suc m = omega arith in subst (λ (k : ℕ). reads_same recs k x x ≡ true) z h)
+      ]
+
+  first_there : (o : Option ℕ) → is_some o ≡ true → 1 ≤ number_or (option_map (λ k. record { 0 = type_count recs + k }) o) 0
+  first_there None h = absurd (cc)
+  first_there (Some k) h = omega arith
+
+  pub there_absent : (a : ℕ) (rec : AsmRec) (k : ℕ) → slice_get recs a ≡ Some rec → suc a < length recs → (row : TypeRefRow) × (slice_get rec.type_ref k ≡ Some row) → reads_same recs (length rec.type_ref) (at_row a k) (at_row a k) ≡ true
+      → 1 ≤ number_or (absent_type recs (at_row a k)) 0
+  unfolding absent_type
+  there_absent a rec k there input row h =
+      let at : RowAt = at_row a k in
+      let c = in_rows at rec row.0 input there row.1 in
+      first_there (first_same recs at) (position_some (reads_same recs most at) (reference_rows recs) at c (reads_more most (length rec.type_ref) at (rows_long at rec there c) h))
 
   -- ---- its scope
 

@@ -33,7 +33,8 @@ use Rattle.merge_rules.specs.Absent.{absent_type}
 use Rattle.merge_rules.specs.Numbers.{Kept}
 use Rattle.merge_rules.specs.Keys.{TypeKey, named, spec, numbered_key, spec_key, type_key, MethodKey, absent_method, good, number_of, number_or, absent_number, found_or, class_number, modifier_number, world_layer, world_sig, world_sigs, world_method_sig, method_key}
 use Rattle.merge_rules.specs.Order.{met_method}
-use Rattle.merge_rules.specs.Refs.{numbers_layer, numbers_in, types_of_sig, types_of_sigs, types_of_key, types_of_method_sig, types_of_method, types_of_met}
+use Rattle.merge_rules.specs.Refs.{numbers_layer, numbers_in}
+use Rattle.merged_scopes.specs.Numbers.{numbers_of_sigs, numbers_of_key, numbers_of_method_sig, numbers_of_method, numbers_of_met}
 use Rattle.merge_rules.specs.Rows.{all_rows, kept_row_token}
 use Rattle.merge_rules.specs.Attributes.{may_refer, may_name, may_have, good_sigs, may_be_parent, may_take, is_copied, is_in_input, absent_constructor, copied_constructor, constructor_key, Attribute, attribute_with, attribute_in, kept_attributes, met_by_attributes}
 use Rattle.merged_record.specs.Laws.{InputsAreRecords}
@@ -43,24 +44,21 @@ use Rattle.merged_record.proofs.Tokens.{of_coded}
 use Rattle.merged_owners.proofs.Every.{Every, all_none, all_one, all_more, all_join, all_flat, all_map, some_of}
 use Rattle.merged_tokens.proofs.Bodies.{no_spec}
 use Rattle.merged_standing.proofs.Low.{bound, IsLow, added_low}
-use Rattle.merged_scopes.proofs.Numbers.{Number, sig_types, of_layer, numbers_are, named_number, name_again, low_so, of_number}
+use Rattle.merged_scopes.proofs.Numbers.{of_layer, numbers_are, named_number, name_again, low_so}
 use Rattle.merged_scopes.proofs.Members.{method_reads}
 
-module _ (recs : List AsmRec) (P : TypeId → Type 0) (there_so : (t : TypeId) → t.0 < bound recs → P t) (array : (t : TypeId) → array_type recs ≡ Some t → IsLow recs t) where
-  abbrev IsNumber : ℕ → Type 0
-  IsNumber n = Number recs P there_so n
-
-  abbrev All : List TypeId → Type 0
-  All ts = Every P ts
+module _ (recs : List AsmRec) (P : ℕ → Type 0) (there_so : (t : TypeId) → t.0 < bound recs → P (suc t.0)) (array : (t : TypeId) → array_type recs ≡ Some t → IsLow recs t) where
+  abbrev All : List ℕ → Type 0
+  All ns = Every P ns
 
   -- ---- signatures of which each token is so
 
-  module _ (a : ℕ) (rec : AsmRec) (Token : ℕ → Type 0) (class : (token : ℕ) → Token token → IsNumber (class_number recs a rec token)) (modifier : (token : ℕ) → Token token → IsNumber (modifier_number recs a rec token)) where
+  module _ (a : ℕ) (rec : AsmRec) (Token : ℕ → Type 0) (class : (token : ℕ) → Token token → P (class_number recs a rec token)) (modifier : (token : ℕ) → Token token → P (modifier_number recs a rec token)) where
     abbrev world : Sig → Sig
     world = world_sig recs a rec
 
     abbrev Moves : Sig → Type 0
-    Moves s = Every Token (numbers_in s) → Every IsNumber (numbers_in (world s))
+    Moves s = Every Token (numbers_in s) → Every P (numbers_in (world s))
 
     abbrev Part : Type 0
     Part = (s : Sig) × Moves s
@@ -77,44 +75,44 @@ module _ (recs : List AsmRec) (P : TypeId → Type 0) (there_so : (t : TypeId) �
     right_of : (xs ys : List ℕ) → Every Token (xs ++ ys) → Every Token ys
     right_of xs ys h = record { each = λ y c. h.each y (Contains-append_right xs ys y c) }
 
-    args_move : (xs : List Part) → Every Token (flat_map (λ ns. ns) (map numbers_in (map (λ x. x.0) xs))) → Every IsNumber (flat_map (λ ns. ns) (map numbers_in (map world (map (λ x. x.0) xs))))
-    args_move [] h = all_none IsNumber
+    args_move : (xs : List Part) → Every Token (flat_map (λ ns. ns) (map numbers_in (map (λ x. x.0) xs))) → Every P (flat_map (λ ns. ns) (map numbers_in (map world (map (λ x. x.0) xs))))
+    args_move [] h = all_none P
     args_move (x ∷ xs) h =
         let ns : List ℕ = numbers_in x.0 in
         let more : List ℕ = flat_map (λ ms. ms) (map numbers_in (map (λ y. y.0) xs)) in
-        all_join IsNumber (numbers_in (world x.0)) (flat_map (λ ms. ms) (map numbers_in (map world (map (λ y. y.0) xs)))) (x.1 (left_of ns more h)) (args_move xs (right_of ns more h))
+        all_join P (numbers_in (world x.0)) (flat_map (λ ms. ms) (map numbers_in (map world (map (λ y. y.0) xs)))) (x.1 (left_of ns more h)) (args_move xs (right_of ns more h))
 
-    abbrev layer : (x : Sig-F Sig) (s : Sig) → roll-Sig x ≡ s → Every IsNumber (numbers_layer (map-Sig Sig (List ℕ) numbers_in x)) → Every IsNumber (numbers_in s)
+    abbrev layer : (x : Sig-F Sig) (s : Sig) → roll-Sig x ≡ s → Every P (numbers_layer (map-Sig Sig (List ℕ) numbers_in x)) → Every P (numbers_in s)
     layer = of_layer recs P there_so
 
-    layer_move : (y : Sig-F Part) → Every Token (numbers_layer (map-Sig Sig (List ℕ) numbers_in (map-Sig Part Sig (λ x. x.0) y))) → Every IsNumber (numbers_in (world_layer recs a rec (map-Sig Sig Sig world (map-Sig Part Sig (λ x. x.0) y))))
-    layer_move (Sig-F.Prim n) h = layer (Sig-F.Prim n) (sig.Prim n) (sig.rolls-Prim n) (all_none IsNumber)
+    layer_move : (y : Sig-F Part) → Every Token (numbers_layer (map-Sig Sig (List ℕ) numbers_in (map-Sig Part Sig (λ x. x.0) y))) → Every P (numbers_in (world_layer recs a rec (map-Sig Sig Sig world (map-Sig Part Sig (λ x. x.0) y))))
+    layer_move (Sig-F.Prim n) h = layer (Sig-F.Prim n) (sig.Prim n) (sig.rolls-Prim n) (all_none P)
     layer_move (Sig-F.Named v token) h =
-        let k : ℕ = class_number recs a rec token in layer (Sig-F.Named v k) (sig.Named v k) (sig.rolls-Named v k) (all_one IsNumber k (class token (first_of token [] h)))
+        let k : ℕ = class_number recs a rec token in layer (Sig-F.Named v k) (sig.Named v k) (sig.rolls-Named v k) (all_one P k (class token (first_of token [] h)))
     layer_move (Sig-F.Array x) h = layer (Sig-F.Array (world x.0)) (sig.Array (world x.0)) (sig.rolls-Array (world x.0)) (x.1 h)
     layer_move (Sig-F.ByRef x) h = layer (Sig-F.ByRef (world x.0)) (sig.ByRef (world x.0)) (sig.rolls-ByRef (world x.0)) (x.1 h)
     layer_move (Sig-F.Inst v token xs) h =
         let k : ℕ = class_number recs a rec token in
         let ss : List Sig = map world (map (λ x. x.0) xs) in
         let more : List ℕ = flat_map (λ ns. ns) (map numbers_in (map (λ x. x.0) xs)) in
-        layer (Sig-F.Inst v k ss) (sig.Inst v k ss) (sig.rolls-Inst v k ss) (all_more IsNumber k (flat_map (λ ns. ns) (map numbers_in ss)) (class token (first_of token more h)) (args_move xs (rest_of token more h)))
-    layer_move (Sig-F.Var n) h = layer (Sig-F.Var n) (sig.Var n) (sig.rolls-Var n) (all_none IsNumber)
-    layer_move (Sig-F.MVar n) h = layer (Sig-F.MVar n) (sig.MVar n) (sig.rolls-MVar n) (all_none IsNumber)
+        layer (Sig-F.Inst v k ss) (sig.Inst v k ss) (sig.rolls-Inst v k ss) (all_more P k (flat_map (λ ns. ns) (map numbers_in ss)) (class token (first_of token more h)) (args_move xs (rest_of token more h)))
+    layer_move (Sig-F.Var n) h = layer (Sig-F.Var n) (sig.Var n) (sig.rolls-Var n) (all_none P)
+    layer_move (Sig-F.MVar n) h = layer (Sig-F.MVar n) (sig.MVar n) (sig.rolls-MVar n) (all_none P)
     layer_move (Sig-F.Mod required token x) h =
         let k : ℕ = modifier_number recs a rec token in
         layer (Sig-F.Mod required k (world x.0)) (sig.Mod required k (world x.0)) (sig.rolls-Mod required k (world x.0))
-        (all_more IsNumber k (numbers_in (world x.0)) (modifier token (first_of token (numbers_in x.0) h)) (x.1 (rest_of token (numbers_in x.0) h)))
+        (all_more P k (numbers_in (world x.0)) (modifier token (first_of token (numbers_in x.0) h)) (x.1 (rest_of token (numbers_in x.0) h)))
     layer_move (Sig-F.Pinned x) h = layer (Sig-F.Pinned (world x.0)) (sig.Pinned (world x.0)) (sig.rolls-Pinned (world x.0)) (x.1 h)
 
     rolled : (y : Sig-F Part) → Moves (roll-Sig (map-Sig Part Sig (λ x. x.0) y))
     unfolding world_sig
     rolled y h =
         let x : Sig-F Sig = map-Sig Part Sig (λ x. x.0) y in
-        subst (λ (s : Sig). Every IsNumber (numbers_in s)) (sym (fold-roll-Sig Sig (world_layer recs a rec) x))
+        subst (λ (s : Sig). Every P (numbers_in s)) (sym (fold-roll-Sig Sig (world_layer recs a rec) x))
         (layer_move y (subst (Every Token) (numbers_are recs P there_so x (roll-Sig x) refl) h))
 
-    sig_moves : (s : Sig) → Every Token (numbers_in s) → All (types_of_sig (world s))
-    sig_moves s h = sig_types recs P there_so (world s) (ind-Sig Moves (λ x y is. subst (λ z. Moves (roll-Sig z)) is (rolled y)) s h)
+    sig_moves : (s : Sig) → Every Token (numbers_in s) → All (numbers_in (world s))
+    sig_moves s h = ind-Sig Moves (λ x y is. subst (λ z. Moves (roll-Sig z)) is (rolled y)) s h
 
   -- ---- an attribute that is copied
 
@@ -126,7 +124,7 @@ module _ (recs : List AsmRec) (P : TypeId → Type 0) (there_so : (t : TypeId) �
   every_sig test [] h = all_none (λ x. test x ≡ true)
   every_sig test (x ∷ xs) h = let p = and_parts (test x) (list_all test xs) h in all_more (λ y. test y ≡ true) x xs p.0 (every_sig test xs p.1)
 
-  module _ (a : ℕ) (rec : AsmRec) (there : slice_get recs a ≡ Some rec) (refers : (k : ℕ) (t : TypeId) → may_refer recs a rec (length rec.type_ref) k ≡ true → ref_definition recs a rec k ≡ None → absent_type recs (at_row a k) ≡ Some t → P t) where
+  module _ (a : ℕ) (rec : AsmRec) (there : slice_get recs a ≡ Some rec) (refers : (k : ℕ) → may_refer recs a rec (length rec.type_ref) k ≡ true → ref_definition recs a rec k ≡ None → P (number_or (absent_type recs (at_row a k)) 0)) where
     abbrev May : ℕ → Type 0
     May token = may_name recs a rec token ≡ true
 
@@ -150,13 +148,13 @@ module _ (recs : List AsmRec) (P : TypeId → Type 0) (there_so : (t : TypeId) �
         (ref_other token k table.TYPE_DEF e refl)
         ∙ ap (option_and_then (ref_definition recs a rec)) e
 
-    class_by : (token k : ℕ) (o : Option RowAt) → index_in table.TYPE_REF token ≡ Some k → may_refer recs a rec (length rec.type_ref) k ≡ true → ref_definition recs a rec k ≡ o → IsNumber (class_number recs a rec token)
+    class_by : (token k : ℕ) (o : Option RowAt) → index_in table.TYPE_REF token ≡ Some k → may_refer recs a rec (length rec.type_ref) k ≡ true → ref_definition recs a rec k ≡ o → P (class_number recs a rec token)
     unfolding class_number named_type
     class_by token k (Some at) e h f =
         let is : known_expr recs (definition_at recs a rec token) ≡ Good (definition_expr recs at) = ap (known_expr recs) (ref_names token k e ∙ f) in
         named_class token k (definition_expr recs at) e is
       where
-        named_class : (token k : ℕ) (e : TypeExpr) → index_in table.TYPE_REF token ≡ Some k → known_expr recs (definition_at recs a rec token) ≡ Good e → IsNumber (found_or (number_of recs (known_expr recs (definition_at recs a rec token))) (absent_number recs a token))
+        named_class : (token k : ℕ) (e : TypeExpr) → index_in table.TYPE_REF token ≡ Some k → known_expr recs (definition_at recs a rec token) ≡ Good e → P (found_or (number_of recs (known_expr recs (definition_at recs a rec token))) (absent_number recs a token))
         named_class token k e f h =
             let other = ref_other token k table.TYPE_SPEC f refl in
             named_number recs P there_so a rec there token e (name_again recs P there_so a rec there token e other h) h
@@ -165,42 +163,38 @@ module _ (recs : List AsmRec) (P : TypeId → Type 0) (there_so : (t : TypeId) �
         let zero_first : number_of recs (known_expr recs (definition_at recs a rec token)) ≡ 0 = ap (number_of recs) none in
         let here : absent_number recs a token ≡ number_or (absent_type recs (at_row a k)) 0 = ap (λ (o : Option ℕ). number_or (option_and_then (λ j. absent_type recs (at_row a j)) o) 0) e in
         let all : found_or (number_of recs (known_expr recs (definition_at recs a rec token))) (absent_number recs a token) ≡ number_or (absent_type recs (at_row a k)) 0 = (λ i. found_or (zero_first i) (here i)) in
-        subst IsNumber (sym all) (number_by (absent_type recs (at_row a k)) (λ t g. refers k t h f g))
-      where
-        number_by : (o : Option TypeId) → ((t : TypeId) → o ≡ Some t → P t) → IsNumber (number_or o 0)
-        number_by None g t n = absurd (omega (arith, n))
-        number_by (Some u) g t n = of_number recs P there_so u (g u refl) t n
+        subst P (sym all) (refers k h f)
 
-    class_may : (token : ℕ) → May token → IsNumber (class_number recs a rec token)
+    class_may : (token : ℕ) → May token → P (class_number recs a rec token)
     class_may token h =
         let k = some_of (may_refer recs a rec (length rec.type_ref)) (index_in table.TYPE_REF token) h in
         class_by token k.0 (ref_definition recs a rec k.0) k.1 k.2 refl
 
-    modifier_may : (token : ℕ) → May token → IsNumber (modifier_number recs a rec token)
+    modifier_may : (token : ℕ) → May token → P (modifier_number recs a rec token)
     modifier_may token h = by_added (added_by recs a rec token) refl
       where
-        by_added : (o : Option TypeId) → added_by recs a rec token ≡ o → IsNumber (number_or o (class_number recs a rec token))
+        by_added : (o : Option TypeId) → added_by recs a rec token ≡ o → P (number_or o (class_number recs a rec token))
         by_added None e = class_may token h
-        by_added (Some u) e = of_number recs P there_so u (low_so recs P there_so u (added_low recs a rec there token u e))
+        by_added (Some u) e = low_so recs P there_so u (added_low recs a rec there token u e)
 
-    sig_may : (s : Sig) → may_have recs a rec s ≡ true → All (types_of_sig (world_sig recs a rec s))
+    sig_may : (s : Sig) → may_have recs a rec s ≡ true → All (numbers_in (world_sig recs a rec s))
     sig_may s h = sig_moves a rec May class_may modifier_may s (every_passes (may_name recs a rec) (numbers_in s) h)
 
-    sigs_may : (ss : List Sig) → list_all (may_have recs a rec) ss ≡ true → All (types_of_sigs (world_sigs recs a rec ss))
+    sigs_may : (ss : List Sig) → list_all (may_have recs a rec) ss ≡ true → All (numbers_of_sigs (world_sigs recs a rec ss))
     sigs_may [] h = all_none P
     sigs_may (s ∷ ss) h =
         let p = and_parts (may_have recs a rec s) (list_all (may_have recs a rec) ss) h in
-        all_join P (types_of_sig (world_sig recs a rec s)) (types_of_sigs (world_sigs recs a rec ss)) (sig_may s p.0) (sigs_may ss p.1)
+        all_join P (numbers_in (world_sig recs a rec s)) (numbers_of_sigs (world_sigs recs a rec ss)) (sig_may s p.0) (sigs_may ss p.1)
 
     -- ---- its parent
 
-    numbered_may : (n : ℕ) (k : TypeKey) → IsNumber n → numbered_key n ≡ Some k → All (types_of_key k)
+    numbered_may : (n : ℕ) (k : TypeKey) → P n → numbered_key n ≡ Some k → All (numbers_of_key k)
     numbered_may zero k h g = absurd (cc)
     numbered_may (suc t) k h g =
         let same : named (record { 0 = t }) ≡ k = cc in
-        subst (λ (x : TypeKey). All (types_of_key x)) same (all_one P (record { 0 = t }) (h (record { 0 = t }) refl))
+        subst (λ (x : TypeKey). All (numbers_of_key x)) same (all_one P (suc t) h)
 
-    spec_may : (o : Option TypeSpecRow) (k : TypeKey) → list_any (may_have recs a rec) (good_sigs o) ≡ true → spec_key recs a rec o ≡ Some k → All (types_of_key k)
+    spec_may : (o : Option TypeSpecRow) (k : TypeKey) → list_any (may_have recs a rec) (good_sigs o) ≡ true → spec_key recs a rec o ≡ Some k → All (numbers_of_key k)
     spec_may None k h g = absurd (cc)
     spec_may (Some row) k h g = by_sig row.signature h g
       where
@@ -212,27 +206,27 @@ module _ (recs : List AsmRec) (P : TypeId → Type 0) (there_so : (t : TypeId) �
         only true e = refl
         only false e = absurd (cc)
 
-        by_sig : (s : Known Sig) → list_any (may_have recs a rec) (listed (good s) ++ []) ≡ true → good_key s ≡ Some k → All (types_of_key k)
+        by_sig : (s : Known Sig) → list_any (may_have recs a rec) (listed (good s) ++ []) ≡ true → good_key s ≡ Some k → All (numbers_of_key k)
         by_sig (Good s) h g =
             let same : spec (world_sig recs a rec s) ≡ k = cc in
-            subst (λ (x : TypeKey). All (types_of_key x)) same (sig_may s (only (may_have recs a rec s) h))
+            subst (λ (x : TypeKey). All (numbers_of_key x)) same (sig_may s (only (may_have recs a rec s) h))
         by_sig (Bad why) h g = absurd (cc)
 
     parent_by : (token : ℕ) (k : TypeKey) (b : Bool)
         → (if b then list_any (may_have recs a rec) (good_sigs (option_and_then (slice_get rec.type_spec) (index_in table.TYPE_SPEC token))) else may_name recs a rec token) ≡ true
-        → (if b then spec_key recs a rec (option_and_then (slice_get rec.type_spec) (index_in table.TYPE_SPEC token)) else numbered_key (class_number recs a rec token)) ≡ Some k → All (types_of_key k)
+        → (if b then spec_key recs a rec (option_and_then (slice_get rec.type_spec) (index_in table.TYPE_SPEC token)) else numbered_key (class_number recs a rec token)) ≡ Some k → All (numbers_of_key k)
     parent_by token k true h g = spec_may (option_and_then (slice_get rec.type_spec) (index_in table.TYPE_SPEC token)) k h g
     parent_by token k false h g = numbered_may (class_number recs a rec token) k (class_may token h) g
 
-    parent_may : (token : ℕ) (k : TypeKey) → may_be_parent recs a rec token ≡ true → type_key recs a rec token ≡ Some k → All (types_of_key k)
+    parent_may : (token : ℕ) (k : TypeKey) → may_be_parent recs a rec token ≡ true → type_key recs a rec token ≡ Some k → All (numbers_of_key k)
     unfolding type_key
     parent_may token k h g = parent_by token k (table_of token == table.TYPE_SPEC) h g
 
     -- ---- constructors
 
     copied_or : (row : MemberRefRow) (token : ℕ) (m : MethodKey) (o : Option MethodKey) → method_key recs a rec token ≡ o → (table_of token == table.METHOD_SPEC) ≡ false → is_copied recs a rec row ≡ true
-        → or_else o (absent_constructor recs a rec row) ≡ Some m → All (types_of_method recs m)
-    copied_or row token m (Some k) e s c h = let same : k ≡ m = cc in subst (λ (x : MethodKey). All (types_of_method recs x)) same (method_reads recs P there_so a rec there array token k s e)
+        → or_else o (absent_constructor recs a rec row) ≡ Some m → All (numbers_of_method recs m)
+    copied_or row token m (Some k) e s c h = let same : k ≡ m = cc in subst (λ (x : MethodKey). All (numbers_of_method recs x)) same (method_reads recs P there_so a rec there array token k s e)
     copied_or row token m None e s c h =
         let both = and_parts (may_be_parent recs a rec row.class) (list_any (may_take recs a rec) (listed (good (ref_sig row)))) c in
         let p = and_then_some (λ p. option_map (λ s. absent_method p row.name (world_method_sig recs a rec s)) (good (ref_sig row))) (type_key recs a rec row.class) m h in
@@ -240,41 +234,41 @@ module _ (recs : List AsmRec) (P : TypeId → Type 0) (there_so : (t : TypeId) �
         let t = some_of (may_take recs a rec) (good (ref_sig row)) both.1 in
         let same : t.0 ≡ q.0 = (let f = t.1 in let g = q.1 in cc) in
         let takes : list_all (may_have recs a rec) (q.0.ret ∷ q.0.params) ≡ true = subst (λ (x : MethodSig). may_take recs a rec x ≡ true) same t.2 in
-        subst (λ (x : MethodKey). All (types_of_method recs x)) q.2
-        (all_join P (types_of_key p.0) (types_of_method_sig (world_method_sig recs a rec q.0)) (parent_may row.class p.0 both.0 p.1) (sigs_may (q.0.ret ∷ q.0.params) takes))
+        subst (λ (x : MethodKey). All (numbers_of_method recs x)) q.2
+        (all_join P (numbers_of_key p.0) (numbers_of_method_sig (world_method_sig recs a rec q.0)) (parent_may row.class p.0 both.0 p.1) (sigs_may (q.0.ret ∷ q.0.params) takes))
 
     copied_by : (row : MemberRefRow) (token : ℕ) (m : MethodKey) (b : Bool) → is_copied recs a rec row ≡ b → (table_of token == table.METHOD_SPEC) ≡ false
-        → (if b then or_else (method_key recs a rec token) (absent_constructor recs a rec row) else None) ≡ Some m → All (types_of_method recs m)
+        → (if b then or_else (method_key recs a rec token) (absent_constructor recs a rec row) else None) ≡ Some m → All (numbers_of_method recs m)
     copied_by row token m true c s h = copied_or row token m (method_key recs a rec token) refl s c h
     copied_by row token m false c s h = absurd (cc)
 
     constructor_by : (token : ℕ) (m : MethodKey) (b : Bool) → (table_of token == table.METHOD_SPEC) ≡ false
-        → (if b then method_key recs a rec token else option_and_then (copied_constructor recs a rec token) (option_and_then (slice_get rec.member_ref) (index_in table.MEMBER_REF token))) ≡ Some m → All (types_of_method recs m)
+        → (if b then method_key recs a rec token else option_and_then (copied_constructor recs a rec token) (option_and_then (slice_get rec.member_ref) (index_in table.MEMBER_REF token))) ≡ Some m → All (numbers_of_method recs m)
     constructor_by token m true s h = method_reads recs P there_so a rec there array token m s h
     constructor_by token m false s h =
         let r = and_then_some (copied_constructor recs a rec token) (option_and_then (slice_get rec.member_ref) (index_in table.MEMBER_REF token)) m h in
         copied_by r.0 token m (is_copied recs a rec r.0) refl s r.2
 
-    pub constructor_fine : (token : ℕ) (m : MethodKey) → (table_of token == table.METHOD_SPEC) ≡ false → constructor_key recs a rec token ≡ Some m → All (types_of_method recs m)
+    pub constructor_fine : (token : ℕ) (m : MethodKey) → (table_of token == table.METHOD_SPEC) ≡ false → constructor_key recs a rec token ≡ Some m → All (numbers_of_method recs m)
     unfolding constructor_key
     constructor_fine token m s h = constructor_by token m (is_in_input recs a rec token) s h
 
   -- ---- all attributes
 
-  module _ (records : InputsAreRecords recs) (refers : (a : ℕ) (rec : AsmRec) → slice_get recs a ≡ Some rec → suc a < length recs → (k : ℕ) (t : TypeId) → may_refer recs a rec (length rec.type_ref) k ≡ true → ref_definition recs a rec k ≡ None
-      → absent_type recs (at_row a k) ≡ Some t → P t) (kept : Kept) where
-    attribute_fine : (x : Attribute) → Contains (kept_attributes recs kept) x → All (types_of_method recs x.ctor)
+  module _ (records : InputsAreRecords recs) (refers : (a : ℕ) (rec : AsmRec) → slice_get recs a ≡ Some rec → suc a < length recs → (k : ℕ) → may_refer recs a rec (length rec.type_ref) k ≡ true → ref_definition recs a rec k ≡ None
+      → P (number_or (absent_type recs (at_row a k)) 0)) (kept : Kept) where
+    attribute_fine : (x : Attribute) → Contains (kept_attributes recs kept) x → All (numbers_of_method recs x.ctor)
     unfolding kept_attributes
     attribute_fine x c =
         let r = from_all (λ rec. rec.custom_attribute) (attribute_in recs kept) recs x (sorted_in (λ (y : Attribute). coded_of HasCustomAttribute y.parent) (all_rows (λ rec. rec.custom_attribute) (attribute_in recs kept) recs) x c) in
         let is = (records r.asm r.rec r.input.within r.input.there).tokens.custom_attributes r.place r.row r.there in
         let s = no_spec (table_of r.row.ctor) (of_coded r.rec CustomAttributeType r.row.ctor is.1).table in
-        let Q : Attribute → Type 0 = λ y. All (types_of_method recs y.ctor) in
+        let Q : Attribute → Type 0 = λ y. All (numbers_of_method recs y.ctor) in
         (all_flat Q (λ parent. map (attribute_with r.row.value parent) (listed (constructor_key recs r.asm r.rec r.row.ctor))) (listed (kept_row_token recs kept r.asm r.row.parent))
         (λ parent d.
         all_map Q (attribute_with r.row.value parent) (listed (constructor_key recs r.asm r.rec r.row.ctor))
         (λ m e. constructor_fine r.asm r.rec r.input.there (refers r.asm r.rec r.input.there r.input.within) r.row.ctor m s (from_listed (constructor_key recs r.asm r.rec r.row.ctor) m e)))).each x r.inside
 
-    pub attributes_met_fine : Every (λ x. Every P (types_of_met recs x)) (met_by_attributes recs kept)
+    pub attributes_met_fine : Every (λ x. Every P (numbers_of_met recs x)) (met_by_attributes recs kept)
     unfolding met_by_attributes
-    attributes_met_fine = all_map (λ x. Every P (types_of_met recs x)) (λ (x : Attribute). met_method x.ctor) (kept_attributes recs kept) attribute_fine
+    attributes_met_fine = all_map (λ x. Every P (numbers_of_met recs x)) (λ (x : Attribute). met_method x.ctor) (kept_attributes recs kept) attribute_fine

@@ -292,3 +292,50 @@ module _ (recs : List AsmRec) where
       refers_stays (suc n) k (suc m) h none =
           let p = some_of (may_scope rec (may_refer recs a rec n)) (slice_get rec.type_ref k) (no_def (ref_definition recs a rec k) (list_any (may_scope rec (may_refer recs a rec n)) (listed (slice_get rec.type_ref k))) none h) in
           row_stays n k m p.0 (table_of p.0.resolution_scope == TYPE_REF) (table_of p.0.resolution_scope == ASSEMBLY_REF) p.1 refl refl p.2 (λ j g e. refers_stays n j m g e)
+
+      -- ---- and it reads like itself
+
+      outer_alike : (s : RowAt) (o : Option RowAt) (b : Bool) → (o ≡ None → b ≡ true) → both same_row o o b ≡ true
+      outer_alike s (Some d) b h = (rows_decide d d).1 refl
+      outer_alike s None b h = h refl
+
+      scope_alike : (n k : ℕ) (row : TypeRefRow) (b c : Bool) → slice_get rec.type_ref k ≡ Some row → (table_of row.resolution_scope == TYPE_REF) ≡ b → (table_of row.resolution_scope == ASSEMBLY_REF) ≡ c
+          → (if b then list_any (may_refer recs a rec n) (listed (index_in TYPE_REF row.resolution_scope))
+          else if c then has_row (option_and_then (slice_get rec.assembly_ref) (index_in ASSEMBLY_REF row.resolution_scope)) else table_of row.resolution_scope == MODULE) ≡ true
+          → ((j : ℕ) → may_refer recs a rec n j ≡ true → ref_definition recs a rec j ≡ None → reads_same recs n (at_row a j) (at_row a j) ≡ true) → SameScope (reads_same recs n) (at_row a k) (at_row a k) row row
+      scope_alike n k row true c is e f h next =
+          let j = some_of (may_refer recs a rec n) (index_in TYPE_REF row.resolution_scope) h in
+          let s : RowAt = at_row a j.0 in
+          let scope : reference_scope recs (at_row a k) ≡ Some s = scope_here k row is ∙ ap (option_map (at_row a)) j.1 in
+          in_type s s scope scope (outer_alike s (definition_of recs s) (reads_same recs n s s) (λ none. next j.0 j.2 (sym (definition_here j.0) ∙ none)))
+      scope_alike n k row false true is e f h next =
+          let scope : reference_scope recs (at_row a k) ≡ None = scope_here k row is ∙ ap (option_map (at_row a)) (no_index TYPE_REF row.resolution_scope e) in
+          let r = some_of (λ (x : AssemblyRefRow). true) (option_and_then (slice_get rec.assembly_ref) (index_in ASSEMBLY_REF row.resolution_scope)) h in
+          let assembly : assembly_scope recs (at_row a k) ≡ Some r.0 = assembly_here k row is ∙ r.1 in
+          in_assembly r.0 r.0 scope scope assembly assembly (assembly_itself r.0)
+      scope_alike n k row false false is e f h next =
+          let scope : reference_scope recs (at_row a k) ≡ None = scope_here k row is ∙ ap (option_map (at_row a)) (no_index TYPE_REF row.resolution_scope e) in
+          let assembly : assembly_scope recs (at_row a k) ≡ None = assembly_here k row is ∙ ap (option_and_then (slice_get rec.assembly_ref)) (no_index ASSEMBLY_REF row.resolution_scope f) in
+          in_none scope scope assembly assembly refl
+
+      pub refers_alike : (n k : ℕ) → may_refer recs a rec n k ≡ true → ref_definition recs a rec k ≡ None → reads_same recs n (at_row a k) (at_row a k) ≡ true
+      unfolding may_refer
+      refers_alike zero k h none = absurd (cc)
+      refers_alike (suc n) k h none =
+          let p = some_of (may_scope rec (may_refer recs a rec n)) (slice_get rec.type_ref k) (no_def (ref_definition recs a rec k) (list_any (may_scope rec (may_refer recs a rec n)) (listed (slice_get rec.type_ref k))) none h) in
+          let here : reference_at recs (at_row a k) ≡ Some p.0 = row_here k p.0 p.1 in
+          again n (at_row a k) (at_row a k) (record {
+            row = p.0;
+            is = here;
+            other = p.0;
+            there = here;
+            named = and_from (same_name p.0.name p.0.name) (same_name p.0.namespace p.0.namespace) (name_itself p.0.name) (name_itself p.0.namespace);
+            scope = scope_alike n k p.0 (table_of p.0.resolution_scope == TYPE_REF) (table_of p.0.resolution_scope == ASSEMBLY_REF) p.1 refl refl p.2 (λ j g e. refers_alike n j g e);
+          })
+
+      pub refers_row : (n k : ℕ) → may_refer recs a rec n k ≡ true → ref_definition recs a rec k ≡ None → (row : TypeRefRow) × (slice_get rec.type_ref k ≡ Some row)
+      unfolding may_refer
+      refers_row zero k h none = absurd (cc)
+      refers_row (suc n) k h none =
+          let p = some_of (may_scope rec (may_refer recs a rec n)) (slice_get rec.type_ref k) (no_def (ref_definition recs a rec k) (list_any (may_scope rec (may_refer recs a rec n)) (listed (slice_get rec.type_ref k))) none h) in
+          (p.0, p.1)

@@ -52,7 +52,7 @@ use Rattle.merged_tokens.proofs.Bodies.{no_spec}
 use Rattle.merged_standing.proofs.Low.{bound, IsLow}
 use Rattle.merged_scopes.proofs.Readings.{Fine, plain_fine, types_fine, token_fine, sig_fine, method_sig_fine, body_fine}
 
-module _ (recs : List AsmRec) (records : InputsAreRecords recs) (P : TypeId → Type 0) (there_so : (t : TypeId) → t.0 < bound recs → P t) (array : (t : TypeId) → array_type recs ≡ Some t → IsLow recs t) (kept : Kept) (entry : Option RowAt)
+module _ (recs : List AsmRec) (records : InputsAreRecords recs) (P : ℕ → Type 0) (there_so : (t : TypeId) → t.0 < bound recs → P (suc t.0)) (array : (t : TypeId) → array_type recs ≡ Some t → IsLow recs t) (kept : Kept) (entry : Option RowAt)
     (roots : List Root) (marks : AreMarked recs entry roots kept) (flawless : IsFirstFlaw recs entry (Marks recs entry roots) None) where
   abbrev Holds : Met → Type 0
   Holds = Fine recs records P there_so array

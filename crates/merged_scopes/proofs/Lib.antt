@@ -1,6 +1,7 @@
 pub mod Chains
 pub mod Absents
 pub mod Numbers
+pub mod Types
 pub mod Members
 pub mod Readings
 pub mod Kept

@@ -1,5 +1,5 @@
 -- The signature of a member that a reference names has a reading, so it and its owner name types of the world.
-use Rattle.std.proofs.Common.{◌≡◌, ◌<◌, ℕ, ◌+◌, List, [], ◌∷◌, map, Bool, true, false, nat_lt, not, Option, Some, None, refl, ap, subst}
+use Rattle.std.proofs.Common.{◌≡◌, ◌<◌, ℕ, suc, ◌+◌, List, [], ◌∷◌, map, Bool, true, false, nat_lt, not, Option, Some, None, refl, ap, subst}
 use Rattle.std.specs.Prelude.{slice_get, ◌==◌, ◌&&◌, if◌then◌else◌}
 use Rattle.std.specs.List.{flat_map}
 use Rattle.std.specs.Option.{option_and_then, option_map}
@@ -38,7 +38,8 @@ use Rattle.walk_laws.proofs.Finds as finds
 use Rattle.known_laws.proofs.Lists.{map_some}
 use Rattle.mark_rules.specs.Naming.{spec_use_at, method_named, field_def_at, field_ref_at, field_named}
 use Rattle.merge_rules.specs.Keys.{MethodKey, own_method, found_method, FieldKey, own_field, found_field, good, is_plain_owner, method_key_of, field_key_of, method_key, field_key, world_sig, world_method_sig}
-use Rattle.merge_rules.specs.Refs.{known_list, own_method_sig, own_field_sig, method_at, field_at, types_of_sig, types_of_sigs, types_of_method_sig, types_of_owner, types_of_method, types_of_field}
+use Rattle.merge_rules.specs.Refs.{numbers_in, known_list, own_method_sig, own_field_sig, method_at, field_at}
+use Rattle.merged_scopes.specs.Numbers.{numbers_of_sigs, numbers_of_method_sig, numbers_of_owner, numbers_of_method, numbers_of_field}
 use Rattle.merged_owners.proofs.Homes.{own_home}
 use Rattle.merged_owners.proofs.Every.{Every, all_none, all_one, all_join, all_flat, all_option}
 use Rattle.merged_tokens.proofs.Keys.{known_good}
@@ -82,14 +83,14 @@ module _ (recs : List AsmRec) where
         let m = map_some (closed parent) (search look es) x h in
         subst (λ (y : Found). Q y.at) m.2 (search_has es m.0 m.1)
 
-  module _ (P : TypeId → Type 0) (there_so : (t : TypeId) → t.0 < bound recs → P t) where
-    abbrev All : List TypeId → Type 0
-    All ts = Every P ts
+  module _ (P : ℕ → Type 0) (there_so : (t : TypeId) → t.0 < bound recs → P (suc t.0)) where
+    abbrev All : List ℕ → Type 0
+    All ns = Every P ns
 
     -- ---- methods
 
     abbrev OfSig : MethodSig → Type 0
-    OfSig s = All (types_of_method_sig s)
+    OfSig s = All (numbers_of_method_sig s)
 
     -- a method's row, whose signature names types of the world
     pub record MethodRead (at : RowAt) : Type 0 where
@@ -153,7 +154,7 @@ module _ (recs : List AsmRec) where
     -- ---- fields
 
     abbrev OfField : Sig → Type 0
-    OfField s = All (types_of_sig s)
+    OfField s = All (numbers_in s)
 
     pub record FieldRead (at : RowAt) : Type 0 where
       pub rec : AsmRec
@@ -251,22 +252,22 @@ module _ (recs : List AsmRec) where
       sigs_of : (m : MethodId) → MethodHome m → Every OfSig (flat_map (own_method_sig recs) (listed (method_at recs m)))
       sigs_of m h = all_option OfSig (own_method_sig recs) (method_at recs m) (λ at e. let same : h.at ≡ at = one_of (method_at recs m) h.at at h.home e in subst (λ (x : RowAt). Every OfSig (own_method_sig recs x)) same h.read.own)
 
-      method_if : (b : Bool) (u : MethodUse) → Low recs u.owner → MethodHome u.method → All (types_of_method recs (if b then own_method u.method else found_method u.method u.owner))
+      method_if : (b : Bool) (u : MethodUse) → Low recs u.owner → MethodHome u.method → All (numbers_of_method recs (if b then own_method u.method else found_method u.method u.owner))
       method_if true u low h = all_none P
       method_if false u low h =
           let sigs : List MethodSig = flat_map (own_method_sig recs) (listed (method_at recs u.method)) in
-          all_join P (types_of_owner recs u.owner) (flat_map types_of_method_sig sigs) (owner_reads recs P there_so u.owner low) (all_flat P types_of_method_sig sigs (sigs_of u.method h).each)
+          all_join P (numbers_of_owner recs u.owner) (flat_map numbers_of_method_sig sigs) (owner_reads recs P there_so u.owner low) (all_flat P numbers_of_method_sig sigs (sigs_of u.method h).each)
 
-      method_key_by : (own : Bool) (u : MethodUse) → (own ≡ false → Low recs u.owner × MethodHome u.method) → All (types_of_method recs (method_key_of recs own u))
+      method_key_by : (own : Bool) (u : MethodUse) → (own ≡ false → Low recs u.owner × MethodHome u.method) → All (numbers_of_method recs (method_key_of recs own u))
       method_key_by true u h = all_none P
       method_key_by false u h = let g = h refl in method_if (is_plain_owner recs u.owner) u g.0 g.1
 
-      pub method_reads : (token : ℕ) (m : MethodKey) → (table_of token == table.METHOD_SPEC) ≡ false → method_key recs a rec token ≡ Some m → All (types_of_method recs m)
+      pub method_reads : (token : ℕ) (m : MethodKey) → (table_of token == table.METHOD_SPEC) ≡ false → method_key recs a rec token ≡ Some m → All (numbers_of_method recs m)
       unfolding method_key
       method_reads token m s h =
           let k = map_some (method_key_of recs (table_of token == table.METHOD_DEF)) (good (method_named recs a rec token)) m h in
           let n = good_is (method_named recs a rec token) k.0 k.1 in
-          subst (λ (x : MethodKey). All (types_of_method recs x)) k.2 (method_key_by (table_of token == table.METHOD_DEF) k.0 (λ f. (method_owner_low recs array a rec there token k.0 n s f, named_home token k.0 n s f)))
+          subst (λ (x : MethodKey). All (numbers_of_method recs x)) k.2 (method_key_by (table_of token == table.METHOD_DEF) k.0 (λ f. (method_owner_low recs array a rec there token k.0 n s f, named_home token k.0 n s f)))
 
       -- ---- of a field
 
@@ -302,19 +303,19 @@ module _ (recs : List AsmRec) where
       field_sigs_of : (f : FieldId) → FieldHome f → Every OfField (flat_map (own_field_sig recs) (listed (field_at recs f)))
       field_sigs_of f h = all_option OfField (own_field_sig recs) (field_at recs f) (λ at e. let same : h.at ≡ at = one_of (field_at recs f) h.at at h.home e in subst (λ (x : RowAt). Every OfField (own_field_sig recs x)) same h.read.own)
 
-      field_if : (b : Bool) (u : FieldUse) → Low recs u.owner → FieldHome u.field → All (types_of_field recs (if b then own_field u.field else found_field u.field u.owner))
+      field_if : (b : Bool) (u : FieldUse) → Low recs u.owner → FieldHome u.field → All (numbers_of_field recs (if b then own_field u.field else found_field u.field u.owner))
       field_if true u low h = all_none P
       field_if false u low h =
           let sigs : List Sig = flat_map (own_field_sig recs) (listed (field_at recs u.field)) in
-          all_join P (types_of_owner recs u.owner) (types_of_sigs sigs) (owner_reads recs P there_so u.owner low) (all_flat P types_of_sig sigs (field_sigs_of u.field h).each)
+          all_join P (numbers_of_owner recs u.owner) (numbers_of_sigs sigs) (owner_reads recs P there_so u.owner low) (all_flat P numbers_in sigs (field_sigs_of u.field h).each)
 
-      field_key_by : (own : Bool) (u : FieldUse) → (own ≡ false → Low recs u.owner × FieldHome u.field) → All (types_of_field recs (field_key_of recs own u))
+      field_key_by : (own : Bool) (u : FieldUse) → (own ≡ false → Low recs u.owner × FieldHome u.field) → All (numbers_of_field recs (field_key_of recs own u))
       field_key_by true u h = all_none P
       field_key_by false u h = let g = h refl in field_if (is_plain_owner recs u.owner) u g.0 g.1
 
-      pub field_reads : (token : ℕ) (f : FieldKey) → field_key recs a rec token ≡ Some f → All (types_of_field recs f)
+      pub field_reads : (token : ℕ) (f : FieldKey) → field_key recs a rec token ≡ Some f → All (numbers_of_field recs f)
       unfolding field_key
       field_reads token f h =
           let k = map_some (field_key_of recs (table_of token == table.FIELD)) (good (field_named recs a rec token)) f h in
           let n = good_is (field_named recs a rec token) k.0 k.1 in
-          subst (λ (x : FieldKey). All (types_of_field recs x)) k.2 (field_key_by (table_of token == table.FIELD) k.0 (λ g. (field_owner_low recs array a rec there token k.0 n g, field_named_home token k.0 n g)))
+          subst (λ (x : FieldKey). All (numbers_of_field recs x)) k.2 (field_key_by (table_of token == table.FIELD) k.0 (λ g. (field_owner_low recs array a rec there token k.0 n g, field_named_home token k.0 n g)))

@@ -46,7 +46,8 @@ use Rattle.mark_rules.specs.BadItems.{IsFirstFlaw}
 use Rattle.merge_rules.specs.Numbers.{Kept}
 use Rattle.merge_rules.specs.Keys.{InstanceKey, good, world_sig, world_sigs, type_key, method_key, field_key, instance_by, instance_key}
 use Rattle.merge_rules.specs.Order.{Met, met_type, met_sig, met_method, met_field, met_instance, met_locals, met_types, met_token, met_good_sig, met_method_sig, met_callee, met_field_token, met_by_form, met_operand, met_locals_row, met_locals_token, met_body}
-use Rattle.merge_rules.specs.Refs.{types_of_sig, types_of_sigs, types_of_method, types_of_met}
+use Rattle.merge_rules.specs.Refs.{numbers_in}
+use Rattle.merged_scopes.specs.Numbers.{numbers_of_sigs, numbers_of_method, numbers_of_met}
 use Rattle.merged_record.specs.Laws.{InputsAreRecords}
 use Rattle.merged_record.proofs.Tokens.{of_coded}
 use Rattle.merged_owners.specs.Laws.{AreMarked}
@@ -58,10 +59,10 @@ use Rattle.merged_standing.proofs.Low.{bound, IsLow}
 use Rattle.merged_scopes.proofs.Numbers.{sig_reads, sigs_read, method_sig_reads, key_reads}
 use Rattle.merged_scopes.proofs.Members.{method_reads, field_reads}
 
-module _ (recs : List AsmRec) (records : InputsAreRecords recs) (P : TypeId → Type 0) (there_so : (t : TypeId) → t.0 < bound recs → P t) (array : (t : TypeId) → array_type recs ≡ Some t → IsLow recs t) where
+module _ (recs : List AsmRec) (records : InputsAreRecords recs) (P : ℕ → Type 0) (there_so : (t : TypeId) → t.0 < bound recs → P (suc t.0)) (array : (t : TypeId) → array_type recs ≡ Some t → IsLow recs t) where
   -- each type in it is so
   abbrev pub Fine : Met → Type 0
-  Fine x = Every P (types_of_met recs x)
+  Fine x = Every P (numbers_of_met recs x)
 
   abbrev pub All : List Met → Type 0
   All ms = Every Fine ms
@@ -80,13 +81,13 @@ module _ (recs : List AsmRec) (records : InputsAreRecords recs) (P : TypeId → 
         let k = and_then_some (λ m. option_map (λ (args : List Sig). record { method = m; args = world_sigs recs a rec args }) (good row.instantiation)) (method_key recs a rec row.method) i h in
         let n = map_some (λ (args : List Sig). record { method = k.0; args = world_sigs recs a rec args }) (good row.instantiation) i k.2 in
         subst (λ (j : InstanceKey). Fine (met_instance j)) n.2
-        (all_join P (types_of_method recs k.0) (types_of_sigs (world_sigs recs a rec n.0)) (method_reads recs P there_so a rec there array row.method k.0 s k.1) (args_read row.instantiation n.0 n.1 g))
+        (all_join P (numbers_of_method recs k.0) (numbers_of_sigs (world_sigs recs a rec n.0)) (method_reads recs P there_so a rec there array row.method k.0 s k.1) (args_read row.instantiation n.0 n.1 g))
       where
-        args_read : (x : Known (List Sig)) (args : List Sig) → good x ≡ Some args → known_map (instantiated u) (known_then (arguments_of (names_at recs a rec)) x) ≡ Good v → Every P (types_of_sigs (world_sigs recs a rec args))
+        args_read : (x : Known (List Sig)) (args : List Sig) → good x ≡ Some args → known_map (instantiated u) (known_then (arguments_of (names_at recs a rec)) x) ≡ Good v → Every P (numbers_of_sigs (world_sigs recs a rec args))
         args_read (Good ss) args e f =
             let same : ss ≡ args = cc in
             let es = mapped (known_then (arguments_of (names_at recs a rec)) (Good ss)) f in
-            subst (λ (xs : List Sig). Every P (types_of_sigs (world_sigs recs a rec xs))) same (sigs_read recs P there_so a rec there ss es.0 es.1)
+            subst (λ (xs : List Sig). Every P (numbers_of_sigs (world_sigs recs a rec xs))) same (sigs_read recs P there_so a rec there ss es.0 es.1)
           where
             mapped : (x : Known (List TypeExpr)) → known_map (instantiated u) x ≡ Good v → (es : List TypeExpr) × (x ≡ Good es)
             mapped (Good es) f = (es, refl)
@@ -161,8 +162,8 @@ module _ (recs : List AsmRec) (records : InputsAreRecords recs) (P : TypeId → 
         let g = good_part place (λ e. type_parts place (e ∷ [])) (known_then (sig_expr (names_at recs at.asm rec)) s) h in
         sig_by s g.0 g.1
 
-    each_sig : (ss : List Sig) → Every P (types_of_sigs ss) → All (map met_sig ss)
-    each_sig ss h = all_map Fine met_sig ss (λ s c. record { each = λ t d. h.each t (to_flat types_of_sig ss t (record { item = s; there = c; inside = d })) })
+    each_sig : (ss : List Sig) → Every P (numbers_of_sigs ss) → All (map met_sig ss)
+    each_sig ss h = all_map Fine met_sig ss (λ s c. record { each = λ t d. h.each t (to_flat numbers_in ss t (record { item = s; there = c; inside = d })) })
 
     method_sig_by : (s : Known MethodSig) (t : MethodType) → known_then (method_type (names_at recs at.asm rec)) s ≡ Good t → All (met_method_sig recs at.asm rec s)
     method_sig_by (Good s) t h =

@@ -1,5 +1,5 @@
 -- What the output of a marked merge refers to stands in what is left.
-use Rattle.std.proofs.Common.{◌≡◌, ◌<◌, ℕ, zero, suc, ◌-◌, List, [], ◌∷◌, ◌++◌, length, Bool, true, false, Option, Some, None, inl, inr, ◌⊎◌, refl, sym, ap, subst, ◌∙◌, arith, eqb-true}
+use Rattle.std.proofs.Common.{◌≡◌, ◌<◌, ◌≤◌, ℕ, zero, suc, ◌-◌, List, [], ◌∷◌, ◌++◌, length, Bool, true, false, Option, Some, None, inl, inr, ◌⊎◌, refl, sym, ap, subst, ◌∙◌, arith, eqb-true}
 use Rattle.std.specs.Prelude.{slice_get, nat_le, ◌==◌, ◌&&◌, ◌||◌, if◌then◌else◌}
 use Rattle.std.specs.List.{Contains, flat_map, filter, list_any}
 use Rattle.std.specs.Option.{option_map, option_and_then}
@@ -35,6 +35,7 @@ use Rattle.mark_rules.specs.BadItems.{IsFirstFlaw}
 use Rattle.mark_rules.specs.Places.{row_of, is_core}
 use Rattle.merge_rules.specs.Absent.{reference_rows, type_count, absent_type, absent_row}
 use Rattle.merge_rules.specs.Attributes.{may_refer}
+use Rattle.merge_rules.specs.Keys.{number_or}
 use Rattle.merge_rules.specs.Numbers.{Kept}
 use Rattle.merge_rules.specs.Order.{Met, met_by_types}
 use Rattle.merge_rules.specs.Refs.{types_of_met, same_id, is_reference, enclosing_type, scope_type_by, scope_type, scope_of, assemblies_of, own_scope, with_scopes, most_scopes, type_refs, member_refs}
@@ -53,9 +54,11 @@ use Rattle.merged_tokens.proofs.Once.{from_once, below_home}
 use Rattle.marked_merge_rules.specs.Merges.{IsMarkedMerge}
 use Rattle.merged_standing.specs.Laws.{TypesStand, MembersStand}
 use Rattle.merged_standing.proofs.Low.{bound, IsLow, stands_low}
-use Rattle.merged_scopes.specs.Laws.{MetTypesThere, MarkedReferencesStand}
-use Rattle.merged_scopes.proofs.Chains.{refers_stays}
-use Rattle.merged_scopes.proofs.Absents.{StaysAbsent, OfCore, IsFine, of_core, of_absent, absent_stays, scope_fine, own_fine}
+use Rattle.merged_scopes.specs.Laws.{MetTypesThere, MetNumbersThere, MarkedReferencesStand}
+use Rattle.merged_scopes.specs.Numbers.{numbers_of_met}
+use Rattle.merged_scopes.proofs.Types.{Number, of_number, no_number, met_types}
+use Rattle.merged_scopes.proofs.Chains.{refers_stays, refers_alike, refers_row}
+use Rattle.merged_scopes.proofs.Absents.{StaysAbsent, OfCore, IsFine, of_core, of_absent, absent_stays, scope_fine, own_fine, there_absent}
 use Rattle.merged_scopes.proofs.Kept.{types_met_fine}
 use Rattle.merged_scopes.proofs.Attributes.{attributes_met_fine}
 
@@ -124,6 +127,9 @@ one_core_assembly : (inputs : List AsmRec) (t : TypeId) (at : RowAt) → type_ho
 unfolding assemblies
 one_core_assembly inputs t at home last = core_assembly inputs (missing_names (inputs ++ core_record ∷ [])) t at home last
 
+every_more : {A : Type 0} (P Q : A → Type 0) → ((x : A) → P x → Q x) → (xs : List A) → Every P xs → Every Q xs
+every_more P Q more xs h = record { each = λ x c. more x (h.each x c) }
+
 -- ---- the module
 
 module_rows : (rec : AsmRec) → rows_in rec MODULE ≡ length rec.«module»
@@ -160,7 +166,10 @@ module _ (inputs : List AsmRec) (left : AsmRec) (kept : Kept) (entry : Option Ro
   recs = assemblies inputs
 
   pub met_low : Every (λ x. Every (λ (t : TypeId). t.0 < bound recs) (types_of_met recs x)) (met_by_types recs kept)
-  met_low = types_met_fine recs records (λ t. t.0 < bound recs) (λ t h. h) (array_there inputs) kept entry roots marks flawless
+  met_low =
+      let low : TypeId → Type 0 = λ t. t.0 < bound recs in
+      every_more (λ x. Every (Number low) (numbers_of_met recs x)) (λ x. Every low (types_of_met recs x)) (met_types low recs) (met_by_types recs kept)
+      (types_met_fine recs records (Number low) (λ t h. of_number low t h) (array_there inputs) kept entry roots marks flawless)
 
   module _ (one : (a : ℕ) (rec : AsmRec) → suc a < length recs → slice_get recs a ≡ Some rec → length rec.«module» ≡ 1) (own : length left.«module» ≡ 1) where
     abbrev Q : ℕ → Type 0
@@ -172,8 +181,13 @@ module _ (inputs : List AsmRec) (left : AsmRec) (kept : Kept) (entry : Option Ro
     abbrev P : TypeId → Type 0
     P t = (t.0 < bound recs) ⊎ StaysAbsent recs Q t
 
-    refers : (a : ℕ) (rec : AsmRec) → slice_get recs a ≡ Some rec → suc a < length recs → (k : ℕ) (t : TypeId) → may_refer recs a rec (length rec.type_ref) k ≡ true → ref_definition recs a rec k ≡ None → absent_type recs (at_row a k) ≡ Some t → P t
-    refers a rec there input k t h none e = inr (absent_stays recs Q (at_row a k) t e (λ n. refers_stays recs Q a rec there (owns a rec there input) (length rec.type_ref) k n h none))
+    number_by : (o : Option TypeId) → ((t : TypeId) → o ≡ Some t → P t) → Number P (number_or o 0)
+    number_by None g = no_number P
+    number_by (Some u) g = of_number P u (g u refl)
+
+    refers : (a : ℕ) (rec : AsmRec) → slice_get recs a ≡ Some rec → suc a < length recs → (k : ℕ) → may_refer recs a rec (length rec.type_ref) k ≡ true → ref_definition recs a rec k ≡ None → Number P (number_or (absent_type recs (at_row a k)) 0)
+    refers a rec there input k h none =
+        number_by (absent_type recs (at_row a k)) (λ t e. inr (absent_stays recs Q (at_row a k) t e (λ n. refers_stays recs Q a rec there (owns a rec there input) (length rec.type_ref) k n h none)))
 
     abbrev MetFine : Met → Type 0
     MetFine x = Every P (types_of_met recs x)
@@ -181,8 +195,10 @@ module _ (inputs : List AsmRec) (left : AsmRec) (kept : Kept) (entry : Option Ro
     mets_fine : Every MetFine (output_of recs kept).mets
     unfolding output_of
     mets_fine =
-        all_join MetFine (met_by_types recs kept) (met_by_attributes recs kept) (types_met_fine recs records P (λ t h. inl h) (array_there inputs) kept entry roots marks flawless)
-        (attributes_met_fine recs P (λ t h. inl h) (array_there inputs) records refers kept)
+        every_more (λ x. Every (Number P) (numbers_of_met recs x)) MetFine (met_types P recs) (met_by_types recs kept ++ met_by_attributes recs kept)
+        (all_join (λ x. Every (Number P) (numbers_of_met recs x)) (met_by_types recs kept) (met_by_attributes recs kept)
+        (types_met_fine recs records (Number P) (λ t h. of_number P t (inl h)) (array_there inputs) kept entry roots marks flawless)
+        (attributes_met_fine recs (Number P) (λ t h. of_number P t (inl h)) (array_there inputs) records refers kept))
 
     -- ---- references
 
@@ -242,6 +258,27 @@ module _ (inputs : List AsmRec) (left : AsmRec) (kept : Kept) (entry : Option Ro
       own = λ t c e f. own_of_fine t (refs_fine (output_of recs kept).mets mets_fine t c) e f;
     }
 
+-- each number of a type in what is met names one
+module _ (inputs : List AsmRec) (kept : Kept) (entry : Option RowAt) (roots : List Root) (records : InputsAreRecords (assemblies inputs)) (marks : AreMarked (assemblies inputs) entry roots kept)
+    (flawless : IsFirstFlaw (assemblies inputs) entry (Marks (assemblies inputs) entry roots) None) where
+  abbrev world : List AsmRec
+  world = assemblies inputs
+
+  abbrev Named : ℕ → Type 0
+  Named n = 1 ≤ n
+
+  alike : (a : ℕ) (rec : AsmRec) → slice_get world a ≡ Some rec → suc a < length world → (k : ℕ) → may_refer world a rec (length rec.type_ref) k ≡ true → ref_definition world a rec k ≡ None
+      → Named (number_or (absent_type world (at_row a k)) 0)
+  alike a rec there input k h none =
+      there_absent world (λ n. Unit {0}) a rec k there input (refers_row world (λ n. Unit {0}) a rec there (λ j row is e. tt) (length rec.type_ref) k h none)
+      (refers_alike world (λ n. Unit {0}) a rec there (λ j row is e. tt) (length rec.type_ref) k h none)
+
+  pub numbers_met : Every (λ x. Every Named (numbers_of_met world x)) (output_of world kept).mets
+  unfolding output_of
+  numbers_met =
+      all_join (λ x. Every Named (numbers_of_met world x)) (met_by_types world kept) (met_by_attributes world kept)
+      (types_met_fine world records Named (λ t h. omega arith) (array_there inputs) kept entry roots marks flawless) (attributes_met_fine world Named (λ t h. omega arith) (array_there inputs) records alike kept)
+
 -- ---- of a marked merge
 
 left_module : (internal : Bool) (inputs : List AsmRec) (kept : Kept) (left : AsmRec) → restricted internal (assemblies inputs) kept ≡ Some left → ((rec : AsmRec) → slice_get (assemblies inputs) 0 ≡ Some rec → length rec.«module» ≡ 1)
@@ -269,6 +306,9 @@ module _ (m : Merge) (entry : Option RowAt) (roots : List Root) (is : IsMarkedMe
 pub met_types_there : MetTypesThere
 met_types_there m entry roots is x t c d =
     below_home types_in (before m) 0 t.0 (((met_low m.inputs m.left m.kept entry roots (input_records m entry roots is) is.marked is.good).each x c).each t d)
+
+pub met_numbers_there : MetNumbersThere
+met_numbers_there inputs kept entry roots records marks flawless x n c d = ((numbers_met inputs kept entry roots records marks flawless).each x c).each n d
 
 pub marked_references_stand : TypesStand → MembersStand → MarkedReferencesStand
 marked_references_stand types members m entry roots is =

@@ -1,20 +1,34 @@
 -- What the output of a merge refers to stands in what is left (II.22.38, II.22.25), where exactly what is marked is kept.
-use Rattle.std.specs.Prelude.{◌≡◌, List, Option, Some, Contains}
+use Rattle.std.specs.Prelude.{◌≡◌, ◌≤◌, ℕ, List, Option, Some, None, Contains}
 use Rattle.il_base.specs.declared.ids.TypeId.{TypeId}
 use Rattle.descriptor_file.specs.declared.root.Root.{Root}
 use Rattle.link_rules.specs.declared.row_at.RowAt.{RowAt}
+use Rattle.world_model.specs.declared.record.AsmRec.{AsmRec}
+use Rattle.link_rules.specs.Linked.{assemblies}
 use Rattle.link_rules.specs.Members.{type_home}
+use Rattle.mark_rules.specs.Marking.{Marks}
+use Rattle.mark_rules.specs.BadItems.{IsFirstFlaw}
+use Rattle.merge_rules.specs.Numbers.{Kept}
+use Rattle.merge_rules.specs.Restricted.{output_of}
 use Rattle.merge_rules.specs.Order.{Met, met_by_types}
 use Rattle.merge_rules.specs.Refs.{types_of_met}
-use Rattle.merged_record.specs.Laws.{ReferencesStand}
+use Rattle.merged_record.specs.Laws.{InputsAreRecords, ReferencesStand}
+use Rattle.merged_owners.specs.Laws.{AreMarked}
 use Rattle.merged_world_rules.specs.Merge.{Merge, before, output}
 use Rattle.marked_merge_rules.specs.Merges.{IsMarkedMerge}
+use Rattle.merged_scopes.specs.Numbers.{numbers_of_met}
 
 -- What kept types and their members meet names types of the world: references that name nothing come from attributes alone.
 abbrev pub MetTypesThere : Type 0
 MetTypesThere =
     (m : Merge) (entry : Option RowAt) (roots : List Root) → IsMarkedMerge m entry roots → (x : Met) (t : TypeId) → Contains (met_by_types (before m) m.kept) x
     → Contains (types_of_met (before m) x) t → (at : RowAt) × (type_home (before m) t ≡ Some at)
+
+-- Each number of a type in what the output refers to names one, where what is kept is marked, and no marked item has a flaw: none is 0.
+abbrev pub MetNumbersThere : Type 0
+MetNumbersThere =
+    (inputs : List AsmRec) (kept : Kept) (entry : Option RowAt) (roots : List Root) → InputsAreRecords (assemblies inputs) → AreMarked (assemblies inputs) entry roots kept
+    → IsFirstFlaw (assemblies inputs) entry (Marks (assemblies inputs) entry roots) None → (x : Met) (n : ℕ) → Contains (output_of (assemblies inputs) kept).mets x → Contains (numbers_of_met (assemblies inputs) x) n → 1 ≤ n
 
 -- Each type and member that the output refers to has its row, and the scope of a type's row is a type with such a row, an assembly, or
 -- the module.

@@ -1,0 +1,12 @@
+pub mod Lists
+pub mod Files
+pub mod Shapes
+pub mod Retokened
+pub mod Small
+pub mod Bodies
+pub mod Exprs
+pub mod Owners
+pub mod Recs
+pub mod Core
+pub mod Mets
+pub mod Left
