@@ -3,7 +3,5 @@
 #![tactic(auto)]
 
 mod dam;
-#[cfg(test)]
-mod tests;
 
 pub use dam::Dam;

@@ -12,6 +12,8 @@ mod descriptors;
 #[cfg(test)]
 mod images;
 #[cfg(test)]
+mod kinds_of_members;
+#[cfg(test)]
 mod records;
 #[cfg(test)]
 mod signatures;

@@ -34,6 +34,10 @@ tables_few : (rec : AsmRec) → long_table rec ≡ None → (t : ℕ) → rows_i
 unfolding long_table
 tables_few rec h t = sizes_few (table_sizes rec) h t
 
+-- no table of it has more rows than it may, so tokens can name each
+pub rows_within : (rec : AsmRec) → long_table rec ≡ None → (t : ℕ) → rows_in rec t < 16777216
+rows_within rec h t = let few : rows_in rec t ≤ most_rows = tables_few rec h t in omega arith
+
 users_are : (rec : AsmRec) → users_length rec ≡ length (users_heap (users_of rec))
 unfolding streams_of streams_with
 users_are rec = refl

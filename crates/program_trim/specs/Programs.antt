@@ -21,7 +21,7 @@ use Rattle.program_trim.specs.declared.answers.ProgramTrim.{ProgramTrim}
 use Rattle.program_trim.specs.declared.answers.TrimFault.{TrimFault}
 use Rattle.program_trim.specs.declared.answers.TrimFault.TheVariants as refusal
 use Rattle.program_trim.specs.declared.program.Program.{Program}
-use Rattle.program_trim.specs.Trim.{IsKeptSet, IsCollision, HasNoFlaw, TrimsWorld}
+use Rattle.program_trim.specs.Trim.{IsKeptSet, IsCollision, HasNoFlaw, LeftIsSpelled, TrimsWorld}
 
 abbrev pub recs_of : Program → List AsmRec
 recs_of p = p.world.now.recs
@@ -31,6 +31,9 @@ IsLinked p = IsWorld p.world.now
 
 abbrev pub IsGood : Program → Type 0
 IsGood p = HasNoFlaw (recs_of p) p.entry p.roots.now
+
+abbrev pub IsSpelled : Program → Type 0
+IsSpelled p = LeftIsSpelled (recs_of p) p.entry p.roots.now p.internal
 
 abbrev pub HasMarks : Program → Marked → Type 0
 HasMarks p m = IsMarked (recs_of p) p.entry p.roots.now m

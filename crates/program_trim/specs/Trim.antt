@@ -22,6 +22,7 @@ use Rattle.merge_plan.specs.Plans.{id_of}
 use Rattle.record_layout.specs.Laid.{laid}
 use Rattle.record_layout.specs.Limits.{limit_of}
 use Rattle.record_writer.specs.CanWrite.{CanWrite}
+use Rattle.record_writer.specs.Written.{rows_over}
 use Rattle.program_trim.specs.declared.answers.ProgramTrim.{ProgramTrim}
 use Rattle.program_trim.specs.declared.answers.TrimFault.{TrimFault}
 use Rattle.program_trim.specs.declared.answers.TrimFault.TheVariants as refusal
@@ -56,6 +57,14 @@ HasNoFlaw recs entry roots = IsFirstFlaw recs entry (Marks recs entry roots) Non
 -- the first flaw of what is needed is of this kind, at this place
 abbrev pub IsFlawedAt : List AsmRec → Option RowAt → List Root → Place → BadKind → Type 0
 IsFlawedAt recs entry roots place kind = IsFirstFlaw recs entry (Marks recs entry roots) (Some (flaw_at place kind))
+
+-- ---- what is left
+
+-- Where exactly what is needed is kept and none of it has a flaw, each signature and body of what is left has a spelling, unless a table
+-- has more rows than it may.
+abbrev pub LeftIsSpelled : List AsmRec → Option RowAt → List Root → Bool → Type 0
+LeftIsSpelled recs entry roots internal =
+    (kept : Kept) (left : AsmRec) → IsKeptSet recs entry roots kept → HasNoFlaw recs entry roots → restricted internal recs kept ≡ Some left → rows_over left ≡ None → CanWrite left
 
 -- ---- the answers
 

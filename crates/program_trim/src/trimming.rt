@@ -4,8 +4,8 @@ ghost use Rattle.std.specs.Prelude.{◌≡◌, None};
 ghost use Rattle.link_rules.specs.Linked.{IsWorld};
 ghost use Rattle.flaw_laws.specs.There.{RowsThere};
 ghost use Rattle.merge_plan.specs.Kept.{kept_by};
-ghost use Rattle.program_trim.specs.Programs.{IsLinked, IsGood, HasMarks, Keeps, Collides, Names, Leaves, Trims, place_of, refusal_by};
-ghost use Rattle.program_trim.specs.Trim.{TrimsWorld};
+ghost use Rattle.program_trim.specs.Programs.{IsLinked, IsGood, IsSpelled, HasMarks, Keeps, Collides, Names, Leaves, Trims, place_of, refusal_by};
+ghost use Rattle.program_trim.specs.Trim.{LeftIsSpelled, TrimsWorld};
 
 use crate::answers::{ProgramTrim, TrimFault};
 use crate::planning::plan_of;
@@ -51,6 +51,7 @@ fn write_left(
 ) -> Result<ProgramTrim, TrimFault>
     requires linked { IsLinked program.now }
     requires good { IsGood program.now }
+    requires spelled { IsSpelled program.now }
     requires marked { HasMarks program.now marked.now }
     requires kept { Keeps program.now (kept_by kept.now) }
     requires unique { Collides program.now (kept_by kept.now) None }
@@ -76,6 +77,7 @@ fn trim_kept(
 ) -> Result<ProgramTrim, TrimFault>
     requires linked { IsLinked program.now }
     requires good { IsGood program.now }
+    requires spelled { IsSpelled program.now }
     requires marked { HasMarks program.now marked.now }
     requires kept { Keeps program.now (kept_by kept.now) }
     requires unique { Collides program.now (kept_by kept.now) None }
@@ -96,6 +98,7 @@ fn trim_marked(
 ) -> Result<ProgramTrim, TrimFault>
     requires linked { IsLinked program.now }
     requires good { IsGood program.now }
+    requires spelled { IsSpelled program.now }
     requires marked { HasMarks program.now marked.now }
     ensures { Trims program.now result }
 {
@@ -126,6 +129,7 @@ pub fn trim_world(
 ) -> Result<ProgramTrim, TrimFault>
     requires world { IsWorld world.now }
     requires there { RowsThere world.now.recs }
+    requires spelled { LeftIsSpelled world.now.recs entry roots.now internal }
     ensures { TrimsWorld world.now.recs entry roots.now internal result }
 {
     let needs = needs_of(alloc, world, entry, roots)?;

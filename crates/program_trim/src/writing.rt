@@ -8,7 +8,7 @@ ghost use Rattle.merge_plan.specs.Kept.{kept_by};
 ghost use Rattle.record_layout.specs.Laid.{laid};
 ghost use Rattle.record_layout.specs.Limits.{limit_of};
 ghost use Rattle.record_writer.specs.CanWrite.{CanWrite};
-ghost use Rattle.record_writer.specs.Written.{Refuses};
+ghost use Rattle.record_writer.specs.Written.{Refuses, rows_over};
 
 use il_base::{NoMemory, Seq, Text};
 use keep_lists::lists::keep_list;
@@ -17,19 +17,15 @@ use merge_plan::KeptItems;
 use record_writer::{WriteError, write};
 use std::alloc::Global;
 use world_model::{AsmRec, World};
-use written_signatures::can_write;
 
 /// The bytes of the file of a record.
 pub(crate) fn file_of(alloc: Global, rec: &AsmRec) -> Result<Text, WriteError>
+    requires { rows_over rec.now ≡ None → CanWrite rec.now }
     ensures is { IfOk result (λ bytes. bytes ≡ laid rec.now) }
     ensures can { IfOk result (λ _. CanWrite rec.now) }
     ensures within { IfOk result (λ _. limit_of rec.now ≡ None) }
     ensures refused { IfErr result (Refuses rec.now) }
 {
-    let can = can_write(alloc, rec)?;
-    if !can {
-        return Err(WriteError::NoMemory);
-    }
     let mut bytes = Vec::new(alloc);
     match write(alloc, rec, &mut bytes) {
         Err(error) => Err(error),

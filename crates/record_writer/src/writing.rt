@@ -124,6 +124,7 @@ fn write_rows(alloc: Global, rec: &AsmRec, out: &mut Vec<u8>) -> Result<(), Writ
     requires rows { rows_over rec.now ≡ None }
     ensures written { OnOk result (out.new.items ≡ out.old.items ++ laid rec.now) }
     ensures within { OnOk result (limit_of rec.now ≡ None) }
+    ensures can { OnOk result (CanWrite rec.now) }
     ensures refused { IfErr result (Refuses rec.now) }
     ensures unchanged { OnErr result (out.new.items ≡ out.old.items) }
 {
@@ -143,12 +144,13 @@ fn write_rows(alloc: Global, rec: &AsmRec, out: &mut Vec<u8>) -> Result<(), Writ
 ///
 /// `Limit` comes exactly where the file passes one, with the first: 5 where a table has more than 1048576 rows, or where a
 /// run begins after the last of exactly 65535; 7 where `#US` would have more than 16777216 bytes, or the file more than
-/// 268435456.
+/// 268435456. That each signature and body has a spelling is asked only of a record whose tables have no more rows than they may.
 #[tactic(auto, using(crate::proofs::Passed::rows_passed))]
 pub fn write(alloc: Global, rec: &AsmRec, out: &mut Vec<u8>) -> Result<(), WriteError>
-    requires { CanWrite rec.now }
+    requires { rows_over rec.now ≡ None → CanWrite rec.now }
     ensures written { OnOk result (out.new.items ≡ out.old.items ++ laid rec.now) }
     ensures within { OnOk result (limit_of rec.now ≡ None) }
+    ensures can { OnOk result (CanWrite rec.now) }
     ensures refused { IfErr result (Refuses rec.now) }
     ensures unchanged { OnErr result (out.new.items ≡ out.old.items) }
 {

@@ -23,7 +23,10 @@ use Rattle.link_rules.specs.CoreNames.{missing_names, core_with}
 use Rattle.link_rules.specs.Linked.{assemblies}
 use Rattle.link_rules.specs.Members.{type_home}
 use Rattle.known_laws.proofs.Lists.{to_flat, from_flat, map_some}
+use Rattle.file_layout.specs.Runs.{runs_have_spelling}
+use Rattle.record_layout.specs.Limits.{long_table}
 use Rattle.record_writer.specs.CanWrite.{CanWrite}
+use Rattle.record_writer.specs.Written.{rows_by, rows_over}
 use Rattle.merge_rules.specs.Numbers.{Kept}
 use Rattle.merge_rules.specs.Order.{Met, met_by_types}
 use Rattle.merge_rules.specs.Refs.{Output, types_of_met}
@@ -34,6 +37,7 @@ use Rattle.merged_record.proofs.Sizes.{left}
 use Rattle.merged_owners.specs.Laws.{OwnersStay}
 use Rattle.merged_owners.proofs.Every.{Every, all_join}
 use Rattle.merged_loads.specs.Laws.{AreOfFiles}
+use Rattle.merged_loads.proofs.Limits.{rows_within}
 use Rattle.merged_standing.specs.Laws.{TypesStand}
 use Rattle.merged_scopes.specs.Laws.{MetNumbersThere}
 use Rattle.merged_scopes.specs.Numbers.{numbers_of_met}
@@ -141,6 +145,16 @@ module _ (inputs : List AsmRec) (files : AreOfFiles inputs) where
       let file = files a rec (front inputs (core_with core_record names) a rec lt e) in
       are file.file rec file.has
 
+-- ---- rows
+
+no_long : (long : Option ℕ) (spelled : Bool) → rows_by long spelled ≡ None → long ≡ None
+no_long None spelled e = refl
+no_long (Some rows) spelled e = absurd (cc)
+
+-- where no table has more rows than it may, tokens can name each row
+rows_fit : (rec : AsmRec) → rows_over rec ≡ None → RowsFit rec
+rows_fit rec h t = rows_within rec (no_long (long_table rec) (runs_have_spelling rec) h) t
+
 -- ---- the laws
 
 -- what the laws below say
@@ -173,7 +187,7 @@ module _ (laws : Laws) (internal : Bool) (inputs : List AsmRec) (entry : Option 
     typed : (u : TypeId) → Contains (flat_map (types_of_met recs) o.mets) u → Typed o u
     unfolding output_of
     typed u c =
-        type_is internal o primary (ap (λ (r : AsmRec). length r.type_ref) is ∙ laws.types internal inputs kept l t.is records) (subst RowsFit (sym is) t.few) keeps u c
+        type_is internal o primary (ap (λ (r : AsmRec). length r.type_ref) is ∙ laws.types internal inputs kept l t.is records) (subst RowsFit (sym is) (rows_fit l t.few)) keeps u c
 
     numbered : (x : Met) → Contains o.mets x → Every (Numbered o) (numbers_of_met recs x)
     numbered x c =

@@ -7,22 +7,22 @@ use Rattle.link_rules.specs.Linked.{assemblies}
 use Rattle.mark_rules.specs.Marking.{Marks}
 use Rattle.mark_rules.specs.BadItems.{IsFirstFlaw}
 use Rattle.record_writer.specs.CanWrite.{CanWrite}
+use Rattle.record_writer.specs.Written.{rows_over}
 use Rattle.merge_rules.specs.Numbers.{Kept}
 use Rattle.merge_rules.specs.Restricted.{restricted}
-use Rattle.merged_record.specs.Laws.{RowsFit}
 use Rattle.merged_owners.specs.Laws.{AreMarked, AreKept}
 use Rattle.merged_loads.specs.Laws.{AreOfFiles}
 use Rattle.spelled_parts.specs.Laws.{SignaturesName}
 
 -- The record is what is left of files where exactly what is needed from an entry and the elements of descriptors is kept, nothing that
--- is needed has a flaw, and no table has more rows than tokens can name (II.22).
+-- is needed has a flaw, and its tables have no more rows than they may.
 pub record IsTrimOf (internal : Bool) (inputs : List AsmRec) (entry : Option RowAt) (roots : List Root) (kept : Kept) (left : AsmRec) : Type 0 where
   pub files : AreOfFiles inputs
   pub marked : AreMarked (assemblies inputs) entry roots kept
   pub all : AreKept (assemblies inputs) entry roots kept
   pub good : IsFirstFlaw (assemblies inputs) entry (Marks (assemblies inputs) entry roots) None
   pub is : restricted internal (assemblies inputs) kept ≡ Some left
-  pub few : RowsFit left
+  pub few : rows_over left ≡ None
 
 abbrev pub OfTrims : (AsmRec → Type 0) → Type 0
 OfTrims P = (internal : Bool) (inputs : List AsmRec) (entry : Option RowAt) (roots : List Root) (kept : Kept) (left : AsmRec) → IsTrimOf internal inputs entry roots kept left → P left

@@ -8,6 +8,7 @@ use Rattle.cli_format.specs.declared.error.TablesError.{TablesError}
 use Rattle.cli_format.specs.Demand.{first_fault}
 use Rattle.record_format.specs.Record.{record_demands, record_at, HasRecord}
 use Rattle.world_model.specs.declared.record.AsmRec.{AsmRec}
+use Rattle.world_model.specs.declared.world.World.{World}
 use Rattle.world_model.specs.Tokens.{index_in}
 use Rattle.world_model.specs.Worlds.{row_below}
 use Rattle.descriptor_file.specs.declared.root.Root.{Root}
@@ -34,11 +35,12 @@ use Rattle.merged_world_rules.specs.NewNumbers.{rho_of}
 use Rattle.trim_behaves.specs.Laws.{FilesMerge, merge_of}
 use Rattle.trim_behaves.specs.Behaves as law
 use Rattle.trim_behaves.specs.Behaves.{TrimsBehave}
+use Rattle.spelled_trims.specs.Laws.{TrimIsSpelled}
 use Rattle.run_rules.specs.Runs.{FileRun, end_of, file_run, entry_of, world_run, run_of_files}
 use Rattle.run_rules.specs.Alike.{SameEnd, SameRun}
 use Rattle.program_trim.specs.declared.answers.ProgramTrim.{ProgramTrim}
-use Rattle.program_trim.specs.Trim.{IsKeptSet, TrimmedWorld}
-use Rattle.trim_core.specs.Taken.{Bytes}
+use Rattle.program_trim.specs.Trim.{IsKeptSet, LeftIsSpelled, TrimmedWorld}
+use Rattle.trim_core.specs.Taken.{Bytes, IsTaken}
 use Rattle.trim_core.specs.Behaves.{most_bytes, Behaves}
 use Rattle.trim_core.specs.Told.{entry_row}
 
@@ -120,6 +122,31 @@ module _ (recs : List AsmRec) (entry : Option RowAt) (roots : List Root) (kept :
   unfolding is_there
   are_kept i there m = (s.exact i there).1 m
 
+-- ---- what is left can be written
+
+world_recs : (recs : List AsmRec) → (world_of recs).recs ≡ assemblies recs
+unfolding world_in
+world_recs recs = refl
+
+module _ (law : TrimIsSpelled) (files : List (List ℕ)) (bytes : Bytes files) (entry : Option RowAt) (roots : List Root) (internal : Bool) where
+  of_files : input_fault files ≡ None → LeftIsSpelled (assemblies (records files)) entry roots internal
+  of_files sound kept left exact good is few =
+      let recs : List AsmRec = assemblies (records files) in
+      law internal (records files) entry roots kept left (record {
+        files = each_of_file 0 files bytes (read files sound);
+        marked = are_marked recs entry roots kept exact;
+        all = are_kept recs entry roots kept exact;
+        good = good;
+        is = is;
+        few = few;
+      })
+
+  -- of the world that files were taken as
+  pub spelled : (w : World) → IsTaken files w → LeftIsSpelled w.recs entry roots internal
+  spelled w taken =
+      let same : w.recs ≡ assemblies (records files) = ap (λ (v : World). v.recs) taken.world ∙ world_recs (records files) in
+      subst (λ (rs : List AsmRec). LeftIsSpelled rs entry roots internal) (sym same) (of_files taken.sound)
+
 -- ---- runs
 
 same_end : (rho : Rho) (after before : List AsmRec) (e : Option End) → SameEnd rho.method after before (end_of after (option_map (move_end rho) e)) (end_of before e)
@@ -132,10 +159,6 @@ same_end rho after before (Some (run_end.Stuck m at)) = record { method = m.0; o
 same_run : (rho : Rho) (after before : List AsmRec) (x y : Outcome) → x ≡ move_outcome rho y → SameRun rho.method after before (file_run after x) (file_run before y)
 same_run rho after before x y e =
     subst (λ (z : Outcome). SameRun rho.method after before (file_run after z) (file_run before y)) (sym e) (record { output = refl; end = same_end rho after before y.end })
-
-world_recs : (recs : List AsmRec) → (world_of recs).recs ≡ assemblies recs
-unfolding world_in
-world_recs recs = refl
 
 files_run : (files : List (List ℕ)) (input : List ℕ) (n : ℕ) → run_of_files files input n ≡ world_run (assemblies (records files)) input n
 unfolding run_of_files

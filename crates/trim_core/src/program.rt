@@ -8,6 +8,7 @@ ghost use Rattle.trim_core.specs.Told.{entry_row};
 ghost use Rattle.blob_grammar.specs.Laws.{AreBytes};
 ghost use Rattle.trim_core.specs.Taken.{Bytes, IsTaken};
 ghost use Rattle.descriptor_roots.specs.Roots.{roots_of};
+ghost use Rattle.program_trim.specs.Trim.{LeftIsSpelled};
 ghost use Rattle.trim_core.specs.Trim.{TrimsProgram, TrimsFiles, list_if};
 
 use crate::answers::{Opts, Refusal, Trimmed};
@@ -17,6 +18,7 @@ use il_base::{Seq, Text};
 use input_laws::laws::files_told;
 use link_rules::RowAt;
 use program_trim::{ProgramTrim, TrimFault, trim_world};
+use spelled_trims::laws::trim_is_spelled;
 use std::alloc::Global;
 use trim_behaves::laws::{files_merge, trims_behave};
 use world_model::World;
@@ -69,6 +71,7 @@ fn trim_from(
 ) -> Result<Trimmed, Refusal>
     requires linked { IsWorld world.now }
     requires there { RowsThere world.now.recs }
+    requires spelled { LeftIsSpelled world.now.recs entry roots.now opts.internalize }
     ensures { TrimsProgram world.now.recs entry roots.now opts result }
 {
     match trim_world(alloc, world, entry, roots, opts.internalize) {
@@ -100,6 +103,7 @@ pub(crate) fn trim_program(
     let _ = descriptors;
     world_told(files, world);
     all_bytes_told(files.as_slice());
+    trim_is_spelled();
     trims_behave();
     files_merge();
     let entry = entry_row(inputs_of(files, world));

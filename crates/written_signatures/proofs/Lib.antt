@@ -1,4 +1,0 @@
-pub mod TypeForms
-pub mod CodeSizes
-pub mod Taken
-pub mod CodeRuns

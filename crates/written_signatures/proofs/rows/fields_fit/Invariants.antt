@@ -1,9 +1,0 @@
-use Rattle.std.proofs.Common.{take}
-use Rattle.std.specs.List.{All}
-use Rattle.world_model.specs.declared.members.FieldRow.{FieldRow}
-use Rattle.blob_grammar.specs.Signatures.{IsField}
-use Rattle.row_writer.specs.CanWrite.{HasSpelling}
-use Rattle.written_signatures.proofs.rows.fields_fit.Given as goal
-
-abbrev pub invariant-loop-row : goal.invariant-loop-row
-invariant-loop-row l = All (λ (row : FieldRow). HasSpelling IsField row.signature) (take l.row-index l.rows)
