@@ -3,7 +3,7 @@ use Rattle.std.proofs.Common.{◌≡◌, ℕ, zero, suc, ◌<◌, ◌⊎◌, inl
 use Rattle.std.proofs.lemmas.Bool.{cases_eq, ne_eqb}
 use Rattle.std.proofs.lemmas.List.{append-nil}
 use Rattle.byteorder.specs.Endian.{little_bytes}
-use Rattle.blob_grammar.proofs.Law.{Inhabited, Then}
+use Rattle.il_base.proofs.lemmas.blob_grammar.Law.{Inhabited, Then}
 use Rattle.attr_blobs.specs.declared.text.Width.{Width}
 use Rattle.attr_blobs.specs.declared.kind.ParamKind.{ParamKind, out-ParamKind}
 use Rattle.attr_blobs.specs.declared.kind.ParamKind.TheOpen.{ParamKind-F}

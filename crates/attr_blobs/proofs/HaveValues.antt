@@ -1,7 +1,7 @@
 -- Kinds of parameters that have values.
 use Rattle.std.proofs.Common.{◌≡◌, ℕ, suc, ◌^◌, ◌<◌, true, is_some, List, [], ◌∷◌, ◌++◌, Option, Some, None, refl, sym, ap, subst, ◌∙◌, arith}
 use Rattle.byteorder.specs.Endian.{little_bytes}
-use Rattle.blob_grammar.proofs.Law.{Inhabited}
+use Rattle.il_base.proofs.lemmas.blob_grammar.Law.{Inhabited}
 use Rattle.attr_blobs.specs.declared.text.Width.{Width}
 use Rattle.attr_blobs.specs.declared.text.Width.TheVariants.{One, Two, Four, Eight}
 use Rattle.attr_blobs.specs.declared.kind.ParamKind.{ParamKind, out-ParamKind, roll-ParamKind, roll-out-ParamKind}

@@ -1,6 +1,6 @@
 -- A reader keeps to a grammar, and where what it reads has values, also what it refuses.
 use Rattle.std.proofs.Common.{◌≡◌, ℕ, List, ◌++◌, Ok, refl, sym, ap, subst, ◌∙◌, append_assoc}
-use Rattle.blob_grammar.proofs.Law.{IsBytes, IsBytes-behind, Law, Inhabited, Then, Alone, both, then_law_where, alone_law, same_law, wider}
+use Rattle.il_base.proofs.lemmas.blob_grammar.Law.{IsBytes, IsBytes-behind, Law, Inhabited, Then, Alone, both, then_law_where, alone_law, same_law, wider}
 use Rattle.attr_blobs.specs.Texts.{Reader, ◌>>=◌, bad}
 use Rattle.attr_blobs.proofs.Told.{told, tell, told_bind, made_told, pair_is, bind_ok}
 

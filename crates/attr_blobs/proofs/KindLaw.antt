@@ -1,7 +1,7 @@
 -- Reading texts or null, and kinds, keeps to their spellings.
 use Rattle.std.proofs.Common.{◌≡◌, ℕ, zero, suc, ◌==◌, ◌⊎◌, inl, inr, Bool, true, false, is_some, List, [], ◌∷◌, ◌++◌, Option, Some, None, Ok, Err, refl, sym, ap, subst, ◌∙◌}
 use Rattle.std.proofs.lemmas.Bool.{cases_eq, ne_eqb}
-use Rattle.blob_grammar.proofs.Law.{IsBytes, Law, Takes, Refuses, Stops, Inhabited, wider, alone_law, Behind, reads, never, any_law, ok_is, same_law}
+use Rattle.il_base.proofs.lemmas.blob_grammar.Law.{IsBytes, Law, Takes, Refuses, Stops, Inhabited, wider, alone_law, Behind, reads, never, any_law, ok_is, same_law}
 use Rattle.attr_blobs.specs.declared.kind.ParamKind.{ParamKind}
 use Rattle.attr_blobs.specs.declared.kind.ParamKind.TheVariants as k
 use Rattle.attr_blobs.specs.declared.value.EnumSize.{EnumSize}

@@ -8,7 +8,7 @@ use Rattle.std.specs.Int.{byte_at, bytes_low_first}
 use Rattle.byteorder.specs.Endian.{little_number, little_bytes, little_from}
 use Rattle.byteorder.specs.Numbers.{little_number-reads_back, length-bytes_low_first, little_from-lt, little_from-cons, little_from-take}
 use Rattle.il_base.specs.Bytes.{number_at}
-use Rattle.blob_grammar.proofs.Law.{IsBytes, IsBytes-tail, Law, Takes, Refuses}
+use Rattle.il_base.proofs.lemmas.blob_grammar.Law.{IsBytes, IsBytes-tail, Law, Takes, Refuses}
 use Rattle.attr_blobs.specs.Texts.{sized_at}
 use Rattle.attr_blobs.proofs.Told.{tell, told, told_ok, told_err, pair_is}
 

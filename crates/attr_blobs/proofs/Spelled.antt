@@ -4,8 +4,8 @@ use Rattle.std.specs.List.{flat_map}
 use Rattle.std.proofs.lemmas.Bool.{ne_eqb}
 use Rattle.std.proofs.lemmas.List.Concat.{flat_map-cons}
 use Rattle.byteorder.specs.Endian.{little_bytes}
-use Rattle.blob_grammar.specs.Numbers.{shortest}
-use Rattle.blob_grammar.proofs.Numbers.{number_small, is_shortest}
+use Rattle.il_base.specs.blob_grammar.Numbers.{shortest}
+use Rattle.il_base.proofs.lemmas.blob_grammar.Numbers.{number_small, is_shortest}
 use Rattle.attr_blobs.specs.declared.text.Width.{Width}
 use Rattle.attr_blobs.specs.declared.text.Width.TheVariants.{Eight}
 use Rattle.attr_blobs.specs.declared.kind.ParamKind.{ParamKind, out-ParamKind}

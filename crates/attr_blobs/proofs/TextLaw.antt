@@ -4,10 +4,10 @@ use Rattle.std.proofs.lemmas.List.{take-append-drop}
 use Rattle.std.specs.Str.{IsUtf8}
 use Rattle.std.proofs.lemmas.Str.{IsUtf8-nil}
 use Rattle.il_base.specs.Bytes.{compressed_at}
-use Rattle.blob_grammar.specs.Numbers.{IsNumber}
-use Rattle.blob_grammar.specs.Reading.{number_by, number_at}
-use Rattle.blob_grammar.proofs.Law.{Law, Takes, Refuses, Stops, Inhabited, Then, wider, same_law}
-use Rattle.blob_grammar.proofs.Numbers.{number_law, number_again, zero_number, at_other, at_nothing}
+use Rattle.il_base.specs.blob_grammar.Numbers.{IsNumber}
+use Rattle.il_base.specs.blob_grammar.Reading.{number_by, number_at}
+use Rattle.il_base.proofs.lemmas.blob_grammar.Law.{Law, Takes, Refuses, Stops, Inhabited, Then, wider, same_law}
+use Rattle.il_base.proofs.lemmas.blob_grammar.Numbers.{number_law, number_again, zero_number, at_other, at_nothing}
 use Rattle.attr_blobs.specs.Grammar.{IsText, text}
 use Rattle.attr_blobs.proofs.Told.{told, tell, told_ok, told_err, then_told, bind_is, bind_ok, pair_is}
 use Rattle.attr_blobs.specs.Texts.{length_by, length_at, text_at, Read, Reader, ◌>>=◌, behind_text}

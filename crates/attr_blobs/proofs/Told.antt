@@ -1,8 +1,8 @@
 -- The laws of readers, at the readers of this crate.
 use Rattle.std.proofs.Common.{◌≡◌, ℕ, List, Result, Ok, Err, refl, sym, ap, ◌∙◌}
-use Rattle.blob_grammar.specs.Reading as reading
-use Rattle.blob_grammar.specs.Reading.{Fault}
-use Rattle.blob_grammar.proofs.Law.{Law, Inhabited, Then, both, then_law, made_law, same_law, err_is}
+use Rattle.il_base.specs.blob_grammar.Reading as reading
+use Rattle.il_base.specs.blob_grammar.Reading.{Fault}
+use Rattle.il_base.proofs.lemmas.blob_grammar.Law.{Law, Inhabited, Then, both, then_law, made_law, same_law, err_is}
 use Rattle.attr_blobs.specs.Texts.{Read, Reader, ◌>>=◌}
 
 -- a fault with nothing told of it

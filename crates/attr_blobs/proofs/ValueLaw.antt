@@ -3,7 +3,7 @@ use Rattle.std.proofs.Common.{◌≡◌, ℕ, zero, suc, inl, inr, ◌==◌, Boo
 use Rattle.std.specs.List.{AllByRecursion}
 use Rattle.std.proofs.lemmas.Bool.{cases_eq, ne_eqb, eqb-true}
 use Rattle.byteorder.specs.Endian.{little_bytes}
-use Rattle.blob_grammar.proofs.Law.{IsBytes, IsBytes-behind, Law, Inhabited, Then, then_some, Behind, reads, never, any_law}
+use Rattle.il_base.proofs.lemmas.blob_grammar.Law.{IsBytes, IsBytes-behind, Law, Inhabited, Then, then_some, Behind, reads, never, any_law}
 use Rattle.attr_blobs.specs.declared.kind.ParamKind.{ParamKind}
 use Rattle.attr_blobs.specs.declared.kind.ParamKind.TheVariants as k
 use Rattle.attr_blobs.specs.declared.value.Arg.{Arg}

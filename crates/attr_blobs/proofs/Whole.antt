@@ -3,9 +3,9 @@ use Rattle.std.proofs.Common.{◌≡◌, ℕ, suc, ◌-◌, min, List, [], ◌�
 use Rattle.std.specs.List.{All}
 use Rattle.std.proofs.lemmas.List.{append-nil}
 use Rattle.std.proofs.lemmas.List.Elements.{recursion_from_All}
-use Rattle.blob_grammar.specs.Laws.{AreBytes}
-use Rattle.blob_grammar.specs.Reading.{whole}
-use Rattle.blob_grammar.proofs.Whole.{reads_law}
+use Rattle.il_base.specs.blob_grammar.Laws.{AreBytes}
+use Rattle.il_base.specs.blob_grammar.Reading.{whole}
+use Rattle.il_base.proofs.lemmas.blob_grammar.Whole.{reads_law}
 use Rattle.attr_blobs.specs.declared.kind.ParamKind.{ParamKind}
 use Rattle.attr_blobs.specs.declared.value.AttrValue.{AttrValue}
 use Rattle.attr_blobs.specs.declared.value.EnumSize.{EnumSize}

@@ -7,7 +7,7 @@ use Rattle.attr_blobs.specs.declared.error.Unread.TheVariants as unread
 use Rattle.attr_blobs.specs.declared.kind.ParamKind.{ParamKind}
 use Rattle.attr_blobs.specs.declared.value.AttrValue.{AttrValue}
 use Rattle.attr_blobs.specs.declared.value.EnumSize.{EnumSize}
-use Rattle.blob_grammar.specs.Laws.{IsSpelled}
+use Rattle.il_base.specs.blob_grammar.Laws.{IsSpelled}
 use Rattle.attr_blobs.specs.Texts.{Read}
 use Rattle.attr_blobs.specs.Values.{levels}
 use Rattle.attr_blobs.specs.Grammar.{IsAttribute, HasValues}

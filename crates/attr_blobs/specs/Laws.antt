@@ -1,6 +1,6 @@
 -- What the laws say of attribute values: of the grammar, of what a blob gives, and of the spelling that is written.
 use Rattle.std.specs.Prelude.{◌≡◌, ℕ, min, List, All, Result, Ok, Err}
-use Rattle.blob_grammar.specs.Laws.{AreBytes, IsSpelled, IsFirstBad}
+use Rattle.il_base.specs.blob_grammar.Laws.{AreBytes, IsSpelled, IsFirstBad}
 use Rattle.attr_blobs.specs.declared.kind.ParamKind.{ParamKind}
 use Rattle.attr_blobs.specs.declared.value.AttrValue.{AttrValue}
 use Rattle.attr_blobs.specs.declared.value.EnumSize.{EnumSize}

@@ -5,3 +5,4 @@ pub mod Writing
 pub mod Answers
 pub mod Grammar
 pub mod Laws
+pub mod annotations

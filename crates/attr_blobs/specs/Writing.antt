@@ -3,7 +3,7 @@ use Rattle.std.specs.Prelude.{ℕ, min, List, [], ◌∷◌, ◌++◌, length, m
 use Rattle.std.specs.List.{concat, flat_map}
 use Rattle.std.specs.Option.{option_map}
 use Rattle.byteorder.specs.Endian.{little_bytes}
-use Rattle.blob_grammar.specs.Numbers.{shortest}
+use Rattle.il_base.specs.blob_grammar.Numbers.{shortest}
 use Rattle.attr_blobs.specs.declared.text.Width.{Width}
 use Rattle.attr_blobs.specs.declared.text.Width.TheVariants.{Eight}
 use Rattle.attr_blobs.specs.declared.kind.ParamKind.{ParamKind, out-ParamKind, fold-ParamKind}

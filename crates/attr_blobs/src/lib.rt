@@ -2,6 +2,7 @@
 //! grammar has for them comes out, or the first byte that no value allows. Values are written in their shortest form.
 #![tactic(auto)]
 
+pub mod annotations;
 mod args;
 mod enums;
 mod error;

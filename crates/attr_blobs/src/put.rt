@@ -2,14 +2,14 @@ ghost use Rattle.std.specs.Prelude.{◌≡◌, ◌++◌, ◌<◌, ◌∷◌, [],
 ghost use Rattle.byteorder.specs.Endian.{little_bytes};
 ghost use Rattle.attr_blobs.specs.Texts.{bytes_of};
 ghost use Rattle.attr_blobs.specs.Writing.{text_bytes, text_or_null_bytes};
-ghost use Rattle.blob_grammar.specs.Numbers.{shortest};
+ghost use Rattle.il_base.specs.blob_grammar.Numbers.{shortest};
 ghost use Rattle.attr_blobs.specs.Answers.{Extends};
 
 use crate::text::Width;
 use il_base::{NoMemory, Text};
 
 /// Puts the shortest spelling of a number behind the bytes (II.23.2).
-#[tactic(auto, unfolding(blob_grammar::specs::Numbers::shortest))]
+#[tactic(auto, unfolding(il_base::specs::blob_grammar::Numbers::shortest))]
 pub fn put_length(n: u32, out: &mut Vec<u8>) -> Result<(), NoMemory>
     requires { n < 536870912 }
     ensures ok { OnOk result (out.new.items ≡ out.old.items ++ shortest n) }

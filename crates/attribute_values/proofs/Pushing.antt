@@ -1,7 +1,7 @@
 -- What holds of each place of a list holds of one with one element more.
 use Rattle.std.proofs.Common.{◌≡◌, ℕ, zero, suc, List, [], ◌∷◌, ◌++◌, length, sym, ap, subst, ◌∙◌}
 use Rattle.std.specs.Prelude.{Some, slice_get}
-use Rattle.world_model.specs.declared.record.AsmRec.{AsmRec}
+use Rattle.il_base.specs.declared.world_model.record.AsmRec.{AsmRec}
 use Rattle.attr_blobs.specs.declared.value.EnumSize.{EnumSize}
 use Rattle.attribute_values.specs.Tables.{AreEnums}
 

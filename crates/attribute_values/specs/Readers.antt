@@ -1,7 +1,7 @@
 -- An assembly whose attributes are read.
 use Rattle.std.specs.Prelude.{◌≡◌}
-use Rattle.mark_rules.specs.Attributes.{enums_from}
-use Rattle.attribute_kinds.specs.Sites.{recs_in, place_in, IsSite}
+use Rattle.rules.specs.mark_rules.Attributes.{enums_from}
+use Rattle.attribute_values.specs.attribute_kinds.Sites.{recs_in, place_in, IsSite}
 use Rattle.attribute_values.specs.declared.reader.Reader.{Reader}
 
 pub record IsReader (r : Reader) : Type 0 where

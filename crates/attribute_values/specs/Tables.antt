@@ -1,11 +1,11 @@
 -- What values are read by.
 use Rattle.std.specs.Prelude.{◌≡◌, ℕ, List, Some, slice_get}
-use Rattle.world_model.specs.declared.record.AsmRec.{AsmRec}
+use Rattle.il_base.specs.declared.world_model.record.AsmRec.{AsmRec}
 use Rattle.attr_blobs.specs.declared.value.EnumSize.{EnumSize}
-use Rattle.type_links.specs.Index.{IsIndex}
-use Rattle.mark_rules.specs.Attributes.{enums_from}
-use Rattle.mark_tables.specs.declared.marker.Marker.{Marker}
-use Rattle.mark_tables.specs.Assemblies.{all_of}
+use Rattle.resolver.specs.type_links.Index.{IsIndex}
+use Rattle.rules.specs.mark_rules.Attributes.{enums_from}
+use Rattle.mark_parts.specs.declared.mark_tables.marker.Marker.{Marker}
+use Rattle.mark_parts.specs.mark_tables.Assemblies.{all_of}
 use Rattle.attribute_values.specs.declared.tables.AttributeTables.{AttributeTables}
 
 -- each list is that of the enums that names find from the assembly in its place

@@ -1,8 +1,14 @@
 //! The values of custom attributes (II.23.3). What goes in is an assembly of a world, with what is made of the world once, and a
-//! row of CustomAttribute; what comes out is its value, or that it has no reading, as `value_of` of `mark_rules/specs/Attributes`
+//! row of CustomAttribute; what comes out is its value, or that it has no reading, as `value_of` of `rules/specs/mark_rules/Attributes`
 //! has it.
 #![tactic(auto)]
 
+pub mod attribute_kinds;
+pub mod attribute_rows;
+pub mod attribute_types;
+pub mod dependency_forms;
+pub mod enum_names;
 pub mod reader;
 pub mod tables;
+pub mod trimming_attributes;
 pub mod values;

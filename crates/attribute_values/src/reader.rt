@@ -2,16 +2,16 @@
 
 ghost use Rattle.std.specs.Prelude.{◌≡◌, slice_get, IfOk};
 ghost use Rattle.std.specs.Option.{option_copied};
-ghost use Rattle.mark_tables.specs.Assemblies.{IsMarker, IsAssemblyAt};
+ghost use Rattle.mark_parts.specs.mark_tables.Assemblies.{IsMarker, IsAssemblyAt};
 ghost use Rattle.attribute_values.specs.Tables.{AreAttributeTables};
 ghost use Rattle.attribute_values.specs.Readers.{IsReader};
 
+use crate::attribute_kinds::site::Site;
 use crate::tables::AttributeTables;
 use attr_blobs::EnumSize;
-use attribute_kinds::site::Site;
 use il_base::{NoMemory, Seq};
-use mark_tables::assembly::Assembly;
-use mark_tables::marker::Marker;
+use mark_parts::mark_tables::assembly::Assembly;
+use mark_parts::mark_tables::marker::Marker;
 use type_names::TypeNames;
 
 /// An assembly of a world, with what its attributes are read by.

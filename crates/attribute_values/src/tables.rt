@@ -1,17 +1,17 @@
 //! What values are read by, made once of a world.
 
 ghost use Rattle.std.specs.Prelude.{◌≡◌, IfOk};
-ghost use Rattle.mark_tables.specs.Assemblies.{all_of, IsMarker};
+ghost use Rattle.mark_parts.specs.mark_tables.Assemblies.{all_of, IsMarker};
 ghost use Rattle.attribute_values.specs.Tables.{AreEnums, AreAttributeTables};
 
+use crate::enum_names::enums::enums_from;
 use attr_blobs::EnumSize;
-use enum_names::enums::enums_from;
 use il_base::{NoMemory, Seq};
-use mark_tables::marker::Marker;
-use member_search::counted::row_of;
+use mark_parts::mark_tables::marker::Marker;
+use resolver::type_links::TypeIndex;
 use std::alloc::Global;
-use type_links::TypeIndex;
 use type_names::TypeNames;
+use type_tables::member_search::counted::row_of;
 
 /// The types of a world by what tokens and texts say, and the enums that names find from each assembly.
 #[derive(Drop)]

@@ -1,16 +1,16 @@
 //! The values of rows of CustomAttribute.
 
 ghost use Rattle.std.specs.Prelude.{◌≡◌, IfOk};
-ghost use Rattle.mark_rules.specs.Attributes.{read_value, value_of};
-ghost use Rattle.attribute_kinds.specs.Sites.{recs_in, place_in, rec_in};
+ghost use Rattle.rules.specs.mark_rules.Attributes.{read_value, value_of};
+ghost use Rattle.attribute_values.specs.attribute_kinds.Sites.{recs_in, place_in, rec_in};
 ghost use Rattle.attribute_values.specs.Readers.{IsReader};
 
+use crate::attribute_kinds::constructors::constructor_kinds;
 use crate::reader::Reader;
 use attr_blobs::{AttrError, AttrValue, EnumSize, ParamKind, read_attribute};
-use attribute_kinds::constructors::constructor_kinds;
+use il_base::world_model::CustomAttributeRow;
 use il_base::{NoMemory, Seq};
 use std::alloc::Global;
-use world_model::CustomAttributeRow;
 
 /// The value that a blob spells; None where it spells none.
 fn read_value(
@@ -29,7 +29,7 @@ fn read_value(
 }
 
 /// The value of a row of CustomAttribute of the reader's assembly; None where it has no reading.
-#[tactic(auto, unfolding(mark_rules::specs::Attributes::value_of))]
+#[tactic(auto, unfolding(rules::specs::mark_rules::Attributes::value_of))]
 pub fn value_of(
     alloc: Global,
     reader: &Reader<'_>,

@@ -3,12 +3,12 @@ use Rattle.std.proofs.Common.{◌≡◌, ℕ, Bool, true, false, List, refl}
 use Rattle.std.specs.Prelude.{◌==◌}
 use Rattle.std.proofs.lemmas.Bool.{eqb-true}
 use Rattle.il_base.specs.declared.table.TheConstants.{METHOD_SPEC}
-use Rattle.world_model.specs.declared.known.Known.TheVariants.{Bad}
-use Rattle.world_model.specs.declared.known.BadKind.TheVariants.{Unresolved}
-use Rattle.world_model.specs.declared.record.AsmRec.{AsmRec}
-use Rattle.world_model.specs.Tokens.{table_of}
-use Rattle.link_rules.specs.Members.{generic_method}
-use Rattle.mark_rules.specs.Naming.{method_named}
+use Rattle.il_base.specs.declared.world_model.known.Known.TheVariants.{Bad}
+use Rattle.il_base.specs.declared.world_model.known.BadKind.TheVariants.{Unresolved}
+use Rattle.il_base.specs.declared.world_model.record.AsmRec.{AsmRec}
+use Rattle.il_base.specs.world_model.Tokens.{table_of}
+use Rattle.rules.specs.link_rules.Members.{generic_method}
+use Rattle.rules.specs.mark_rules.Naming.{method_named}
 
 not_so : (n m : ℕ) (b : Bool) → (n == m) ≡ b → (n ≡ m → ⊥) → b ≡ false
 not_so n m true e h = absurd (h (eqb-true n m e))

@@ -6,17 +6,17 @@ use Rattle.std.specs.Option.{option_and_then}
 use Rattle.std.proofs.lemmas.List.{append-nil}
 use Rattle.il_base.specs.declared.ids.Item.{Item}
 use Rattle.il_base.specs.declared.table.TheConstants.{TYPE_DEF}
-use Rattle.world_model.specs.declared.known.Known.{Known}
-use Rattle.world_model.specs.declared.known.Known.TheVariants.{Good, Bad}
-use Rattle.world_model.specs.declared.expr.MethodUse.{MethodUse}
-use Rattle.world_model.specs.declared.members.MethodImplRow.{MethodImplRow}
-use Rattle.world_model.specs.declared.record.AsmRec.{AsmRec}
-use Rattle.world_model.specs.Tokens.{index_in}
-use Rattle.link_rules.specs.Members.{generic_method}
-use Rattle.link_rules.specs.Cycles.{listed}
-use Rattle.type_rules.specs.Dispatch.{good_use}
+use Rattle.il_base.specs.declared.world_model.known.Known.{Known}
+use Rattle.il_base.specs.declared.world_model.known.Known.TheVariants.{Good, Bad}
+use Rattle.il_base.specs.declared.world_model.expr.MethodUse.{MethodUse}
+use Rattle.il_base.specs.declared.world_model.members.MethodImplRow.{MethodImplRow}
+use Rattle.il_base.specs.declared.world_model.record.AsmRec.{AsmRec}
+use Rattle.il_base.specs.world_model.Tokens.{index_in}
+use Rattle.rules.specs.link_rules.Members.{generic_method}
+use Rattle.rules.specs.link_rules.Cycles.{listed}
+use Rattle.rules.specs.type_rules.Dispatch.{good_use}
 use Rattle.type_tables.specs.Uses.{use_in}
-use Rattle.flaw_laws.specs.Listed.{row_flaws, impl_flaws_by}
+use Rattle.base_laws.specs.flaw_laws.Listed.{row_flaws, impl_flaws_by}
 use Rattle.bad_items.specs.Rows.{impl_row, kept_flaws}
 
 abbrev good_body : Known MethodUse → List MethodUse

@@ -1,3 +1,4 @@
 pub mod Kept
 pub mod Generic
 pub mod Placing
+pub mod lemmas

@@ -3,10 +3,10 @@ use Rattle.std.proofs.Common.{◌≡◌, ℕ, ◌+◌, ◌<◌, List, ◌++◌, 
 use Rattle.std.specs.Prelude.{slice_get, Bool}
 use Rattle.std.proofs.lemmas.List.{append-nil, get_or_default}
 use Rattle.il_base.specs.declared.ids.Item.{Item}
-use Rattle.world_model.specs.declared.record.AsmRec.{AsmRec}
-use Rattle.type_rules.specs.Rows.{each_from}
-use Rattle.enum_names.proofs.Finding.{each_next}
-use Rattle.flaw_laws.specs.Listed.{impl_flaws_in}
+use Rattle.il_base.specs.declared.world_model.record.AsmRec.{AsmRec}
+use Rattle.rules.specs.type_rules.Rows.{each_from}
+use Rattle.attribute_values.proofs.lemmas.enum_names.Finding.{each_next}
+use Rattle.base_laws.specs.flaw_laws.Listed.{impl_flaws_in}
 use Rattle.bad_items.specs.Rows.{impl_flaws_at}
 
 -- the row in a place, with any default

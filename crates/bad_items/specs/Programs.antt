@@ -1,12 +1,12 @@
 -- A program with what is made of its world.
 use Rattle.std.specs.Prelude.{List, Bool}
 use Rattle.il_base.specs.declared.ids.Item.{Item}
-use Rattle.world_model.specs.declared.record.AsmRec.{AsmRec}
-use Rattle.world_model.specs.declared.world.World.{World}
-use Rattle.mark_rules.specs.Facts.Fact.{marked}
-use Rattle.mark_tables.specs.Assemblies.{all_of, IsMarker}
+use Rattle.il_base.specs.declared.world_model.record.AsmRec.{AsmRec}
+use Rattle.il_base.specs.declared.world_model.world.World.{World}
+use Rattle.rules.specs.mark_rules.Facts.Fact.{marked}
+use Rattle.mark_parts.specs.mark_tables.Assemblies.{all_of, IsMarker}
 use Rattle.attribute_values.specs.Tables.{AreAttributeTables}
-use Rattle.mark_flaws.specs.Tables.{AreFlawTables}
+use Rattle.bad_items.specs.mark_flaws.Tables.{AreFlawTables}
 use Rattle.marking.specs.Holding.{holds}
 use Rattle.bad_items.specs.declared.program.Program.{Program}
 

@@ -4,20 +4,20 @@ use Rattle.std.specs.List.{flat_map}
 use Rattle.il_base.specs.declared.ids.Item.{Item}
 use Rattle.il_base.specs.declared.ids.Item.TheVariants as item
 use Rattle.il_base.specs.declared.table.TheConstants.{METHOD_DEF}
-use Rattle.world_model.specs.declared.known.BadKind.TheVariants.{Unresolved}
-use Rattle.world_model.specs.declared.expr.MethodUse.{MethodUse}
-use Rattle.world_model.specs.declared.members.MethodImplRow.{MethodImplRow}
-use Rattle.world_model.specs.declared.record.AsmRec.{AsmRec}
-use Rattle.world_model.specs.Tokens.{token_of}
-use Rattle.link_rules.specs.declared.row_at.RowAt.{RowAt}
-use Rattle.link_rules.specs.Types.{at_row}
-use Rattle.link_rules.specs.Members.{generic_method}
-use Rattle.link_rules.specs.Cycles.{listed}
-use Rattle.type_rules.specs.Slots.{type_of_method}
-use Rattle.type_rules.specs.Rows.{rec_at}
-use Rattle.mark_rules.specs.Places.{type_item}
-use Rattle.mark_rules.specs.BadItems.{Flaw, flaw, rank, part_flaws, own_flaws, attribute_flaws, ImplRow, declaration_flaw}
-use Rattle.flaw_laws.specs.Listed.{row_flaws, impl_flaws_in}
+use Rattle.il_base.specs.declared.world_model.known.BadKind.TheVariants.{Unresolved}
+use Rattle.il_base.specs.declared.world_model.expr.MethodUse.{MethodUse}
+use Rattle.il_base.specs.declared.world_model.members.MethodImplRow.{MethodImplRow}
+use Rattle.il_base.specs.declared.world_model.record.AsmRec.{AsmRec}
+use Rattle.il_base.specs.world_model.Tokens.{token_of}
+use Rattle.rules.specs.declared.link_rules.row_at.RowAt.{RowAt}
+use Rattle.rules.specs.link_rules.Types.{at_row}
+use Rattle.rules.specs.link_rules.Members.{generic_method}
+use Rattle.rules.specs.link_rules.Cycles.{listed}
+use Rattle.rules.specs.type_rules.Slots.{type_of_method}
+use Rattle.rules.specs.type_rules.Rows.{rec_at}
+use Rattle.rules.specs.mark_rules.Places.{type_item}
+use Rattle.rules.specs.mark_rules.BadItems.{Flaw, flaw, rank, part_flaws, own_flaws, attribute_flaws, ImplRow, declaration_flaw}
+use Rattle.base_laws.specs.flaw_laws.Listed.{row_flaws, impl_flaws_in}
 
 -- ---- the order
 

@@ -1,28 +1,28 @@
 ghost use Rattle.std.specs.Prelude.{◌≡◌, ◌++◌, None, List, IfOk, OnOk};
 ghost use Rattle.std.specs.Option.{option_map};
 ghost use Rattle.descriptor_file.specs.declared.root.Root.{Root};
-ghost use Rattle.mark_rules.specs.Marking.{Marks};
-ghost use Rattle.mark_rules.specs.BadItems.{IsFirstFlaw};
-ghost use Rattle.mark_flaws.specs.Told.{flaw_told};
+ghost use Rattle.rules.specs.mark_rules.Marking.{Marks};
+ghost use Rattle.rules.specs.mark_rules.BadItems.{IsFirstFlaw};
+ghost use Rattle.bad_items.specs.mark_flaws.Told.{flaw_told};
 ghost use Rattle.marking.specs.Holding.{IsMarked};
-ghost use Rattle.flaw_laws.specs.There.{RowsThere};
-ghost use Rattle.flaw_laws.specs.Listed.{all_flaws, first_from};
+ghost use Rattle.base_laws.specs.flaw_laws.There.{RowsThere};
+ghost use Rattle.base_laws.specs.flaw_laws.Listed.{all_flaws, first_from};
 ghost use Rattle.bad_items.specs.Programs.{world_in, recs_in, has, IsProgram};
 
 use crate::entries::add_entry;
 use crate::impls::add_impls;
 use crate::items::add_items;
 use crate::least::least_of;
+use crate::mark_flaws::flaw::Flaw;
+use crate::mark_flaws::flaws::Flaws;
 use crate::program::Program;
-use flaw_laws::laws::flaws_told;
+use base_laws::flaw_laws::laws::flaws_told;
 use il_base::NoMemory;
-use link_rules::RowAt;
-use mark_flaws::flaw::Flaw;
-use mark_flaws::flaws::Flaws;
+use rules::link_rules::RowAt;
 use std::alloc::Global;
 
 /// Puts all flaws of what is marked, and those of the entry, at the end.
-#[tactic(auto, using(mark_flaws::proofs::Lists::three_put))]
+#[tactic(auto, using(crate::proofs::lemmas::mark_flaws::Lists::three_put))]
 fn add_all<'a>(
     alloc: Global,
     program: &Program<'a>,

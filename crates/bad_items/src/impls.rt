@@ -3,26 +3,28 @@
 ghost use Rattle.std.specs.Prelude.{◌≡◌, ◌++◌, ◌&&◌, Some, slice_get, IfOk, OnOk};
 ghost use Rattle.std.specs.Option.{option_copied};
 ghost use Rattle.il_base.specs.declared.ids.Item.TheVariants as item;
-ghost use Rattle.world_model.specs.Worlds.{known_or};
-ghost use Rattle.link_rules.specs.Members.{generic_method};
-ghost use Rattle.type_rules.specs.Rows.{each_row};
-ghost use Rattle.mark_rules.specs.Places.{type_item};
-ghost use Rattle.mark_rules.specs.BadItems.{declaration_flaw};
-ghost use Rattle.mark_tables.specs.Assemblies.{recs_of, place_of, rec_of, IsAssembly, IsAssemblyAt};
-ghost use Rattle.flaw_laws.specs.Listed.{row_flaws, impl_flaws_by, impl_flaws_in, impl_flaws};
+ghost use Rattle.il_base.specs.world_model.Worlds.{known_or};
+ghost use Rattle.rules.specs.link_rules.Members.{generic_method};
+ghost use Rattle.rules.specs.type_rules.Rows.{each_row};
+ghost use Rattle.rules.specs.mark_rules.Places.{type_item};
+ghost use Rattle.rules.specs.mark_rules.BadItems.{declaration_flaw};
+ghost use Rattle.mark_parts.specs.mark_tables.Assemblies.{recs_of, place_of, rec_of, IsAssembly, IsAssemblyAt};
+ghost use Rattle.base_laws.specs.flaw_laws.Listed.{row_flaws, impl_flaws_by, impl_flaws_in, impl_flaws};
 ghost use Rattle.bad_items.specs.Rows.{impl_row, kept_flaws, impl_flaws_at};
 ghost use Rattle.bad_items.specs.Programs.{recs_in, has, IsProgram};
 
+use crate::mark_flaws::flaws::Flaws;
 use crate::program::Program;
+use il_base::world_model::{
+    AsmRec, BadKind, Known, MethodImplRow, MethodUse, index_in, table_of, token_of,
+};
 use il_base::{Item, NoMemory, table};
-use link_rules::RowAt;
-use mark_facts::rows::type_at;
-use mark_flaws::flaws::Flaws;
+use mark_parts::mark_facts::rows::type_at;
+use mark_parts::mark_tables::assembly::Assembly;
 use mark_parts::tokens::method_link;
-use mark_tables::assembly::Assembly;
-use member_search::counted::row_of;
+use rules::link_rules::RowAt;
+use type_tables::member_search::counted::row_of;
 use type_tables::methods::use_at;
-use world_model::{AsmRec, BadKind, Known, MethodImplRow, MethodUse, index_in, table_of, token_of};
 
 /// The link of a MethodDef or MemberRef token; None for any other.
 fn generic_link<'a>(asm: &Assembly<'a>, token: u32) -> Option<&'a Known<MethodUse>>
@@ -44,7 +46,7 @@ fn add_fault(at: RowAt, k: u32, why: BadKind, flaws: &mut Flaws) -> Result<(), N
 }
 
 /// Puts the flaw of the declaration of a row, which has this number from 0, at the end, if it names no method.
-#[tactic(auto, using(mark_flaws::proofs::Lists::none_more))]
+#[tactic(auto, using(crate::proofs::lemmas::mark_flaws::Lists::none_more))]
 fn add_declaration(
     asm: &Assembly<'_>,
     at: RowAt,
@@ -81,7 +83,7 @@ fn are_marked(program: &Program<'_>, class: RowAt, body: &MethodUse) -> Result<b
 }
 
 /// Puts the flaw of a row with the class in another row and this body at the end, if both are marked.
-#[tactic(auto, using(mark_flaws::proofs::Lists::none_more))]
+#[tactic(auto, using(crate::proofs::lemmas::mark_flaws::Lists::none_more))]
 fn add_kept(
     program: &Program<'_>,
     asm: &Assembly<'_>,
@@ -107,7 +109,7 @@ fn add_kept(
 }
 
 /// Puts the flaw of a row with this class and this body at the end, if both are there and marked.
-#[tactic(auto, using(mark_flaws::proofs::Lists::none_more))]
+#[tactic(auto, using(crate::proofs::lemmas::mark_flaws::Lists::none_more))]
 fn add_with(
     program: &Program<'_>,
     asm: &Assembly<'_>,
@@ -172,7 +174,7 @@ fn add_impls_in(
 }
 
 /// Puts the flaws of the rows of the assembly in a place, from 0, at the end.
-#[tactic(auto, using(mark_flaws::proofs::Lists::none_more))]
+#[tactic(auto, using(crate::proofs::lemmas::mark_flaws::Lists::none_more))]
 fn add_impls_at(program: &Program<'_>, place: u32, flaws: &mut Flaws) -> Result<(), NoMemory>
     requires { IsProgram program.now }
     ensures { OnOk result (flaws.new ≡ flaws.old ++ impl_flaws_at (recs_in program.now) (has program.now) place (slice_get (recs_in program.now) place)) }

@@ -1,26 +1,26 @@
 //! The flaws of marked items.
 
 ghost use Rattle.std.specs.Prelude.{◌≡◌, ◌++◌, Some, ◌&&◌, not, slice_get, IfOk, OnOk};
-ghost use Rattle.mark_rules.specs.Places.{is_core};
-ghost use Rattle.mark_rules.specs.BadItems.{flaws_of};
-ghost use Rattle.mark_tables.specs.Assemblies.{rec_of, IsAssemblyAt};
-ghost use Rattle.flaw_laws.specs.Listed.{item_flaws, home_flaws};
+ghost use Rattle.rules.specs.mark_rules.Places.{is_core};
+ghost use Rattle.rules.specs.mark_rules.BadItems.{flaws_of};
+ghost use Rattle.mark_parts.specs.mark_tables.Assemblies.{rec_of, IsAssemblyAt};
+ghost use Rattle.base_laws.specs.flaw_laws.Listed.{item_flaws, home_flaws};
 ghost use Rattle.bad_items.specs.Rows.{flaws_in, flaws_at};
 ghost use Rattle.bad_items.specs.Programs.{world_in, recs_in, has, IsProgram};
 
+use crate::attribute_flaws::attributes::add_attribute_flaws;
+use crate::mark_flaws::flaws::Flaws;
+use crate::mark_flaws::items::add_row_flaws;
 use crate::program::Program;
-use attribute_flaws::attributes::add_attribute_flaws;
 use attribute_values::reader::reader_of;
 use il_base::{Item, NoMemory};
-use link_rules::RowAt;
-use mark_facts::rows::{is_core, row_of};
-use mark_flaws::flaws::Flaws;
-use mark_flaws::items::add_row_flaws;
-use mark_tables::assembly::Assembly;
+use mark_parts::mark_facts::rows::{is_core, row_of};
+use mark_parts::mark_tables::assembly::Assembly;
+use rules::link_rules::RowAt;
 use std::alloc::Global;
 
 /// Puts the flaws of an item in a row of an assembly at the end.
-#[tactic(auto, using(mark_flaws::proofs::Lists::two_put))]
+#[tactic(auto, using(crate::proofs::lemmas::mark_flaws::Lists::two_put))]
 fn add_here<'a>(
     alloc: Global,
     program: &Program<'a>,
@@ -43,7 +43,7 @@ fn add_here<'a>(
 }
 
 /// Puts the flaws of an item in a row at the end.
-#[tactic(auto, using(mark_flaws::proofs::Lists::none_more))]
+#[tactic(auto, using(crate::proofs::lemmas::mark_flaws::Lists::none_more))]
 fn add_at<'a>(
     alloc: Global,
     program: &Program<'a>,
@@ -62,7 +62,7 @@ fn add_at<'a>(
 }
 
 /// Puts the flaws of an item at the end.
-#[tactic(auto, unfolding(mark_rules::specs::BadItems::flaws_of), using(mark_flaws::proofs::Lists::none_more))]
+#[tactic(auto, unfolding(rules::specs::mark_rules::BadItems::flaws_of), using(crate::proofs::lemmas::mark_flaws::Lists::none_more))]
 fn add_flaws_of<'a>(
     alloc: Global,
     program: &Program<'a>,
@@ -91,7 +91,7 @@ fn is_input(program: &Program<'_>, item: Item) -> Result<bool, NoMemory>
 }
 
 /// Puts the flaws of an item at the end, if it is marked and an input's.
-#[tactic(auto, using(mark_flaws::proofs::Lists::none_more))]
+#[tactic(auto, using(crate::proofs::lemmas::mark_flaws::Lists::none_more))]
 fn add_item<'a>(
     alloc: Global,
     program: &Program<'a>,

@@ -2,13 +2,13 @@
 
 ghost use Rattle.std.specs.Prelude.{◌≡◌, None, map};
 ghost use Rattle.std.specs.Option.{option_map};
-ghost use Rattle.mark_rules.specs.BadItems.{rank, before};
-ghost use Rattle.mark_flaws.specs.Told.{flaw_told};
-ghost use Rattle.flaw_laws.specs.Listed.{earlier, first_from};
+ghost use Rattle.rules.specs.mark_rules.BadItems.{rank, before};
+ghost use Rattle.bad_items.specs.mark_flaws.Told.{flaw_told};
+ghost use Rattle.base_laws.specs.flaw_laws.Listed.{earlier, first_from};
 ghost use Rattle.bad_items.specs.Rows.{before_in_row};
 
-use mark_flaws::flaw::Flaw;
-use world_model::BadKind;
+use crate::mark_flaws::flaw::Flaw;
+use il_base::world_model::BadKind;
 
 /// The place of a kind in the order of kinds.
 fn rank(kind: BadKind) -> u32
@@ -53,7 +53,7 @@ fn earlier(best: Option<Flaw>, flaw: Flaw) -> Option<Flaw>
 }
 
 /// The least of these; of those at one place the first.
-#[tactic(auto, unfolding(flaw_laws::specs::Listed::first_from))]
+#[tactic(auto, unfolding(base_laws::specs::flaw_laws::Listed::first_from))]
 pub(crate) fn least_of(flaws: &[Flaw]) -> Option<Flaw>
     ensures { option_map flaw_told result ≡ first_from None (map flaw_told flaws.now) }
 {

@@ -1,12 +1,14 @@
 //! The first bad item of a program. What goes in is a world with what is made of it once, its marked set and its entry; what
-//! comes out is the least flaw of what is marked, by assembly, token, offset and kind, as `mark_rules/specs/BadItems` has it.
+//! comes out is the least flaw of what is marked, by assembly, token, offset and kind, as `rules/specs/mark_rules/BadItems` has it.
 #![tactic(auto)]
 
+pub mod attribute_flaws;
 mod entries;
 mod first;
 mod impls;
 mod items;
 mod least;
+pub mod mark_flaws;
 mod program;
 
 pub use first::first_bad;

@@ -1,6 +1,6 @@
+use crate::mark_flaws::tables::FlawTables;
 use attribute_values::tables::AttributeTables;
-use mark_flaws::tables::FlawTables;
-use mark_tables::marker::Marker;
+use mark_parts::mark_tables::marker::Marker;
 use marking::Marked;
 
 /// The world of a program with what is made of it once, and what is marked.

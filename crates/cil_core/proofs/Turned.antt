@@ -1,14 +1,14 @@
 -- What a member comes to, as `simple` has it for the member that was called.
 use Rattle.std.proofs.Common.{◌≡◌, sym, ℕ, List}
 use Rattle.std.specs.Prelude.{Result, Ok, Err, IfOk}
-use Rattle.cil_values.specs.declared.value.Value.{Value}
-use Rattle.cil_values.specs.declared.state.State.{State}
-use Rattle.cil_values.specs.declared.core_call.CoreCall.{CoreCall}
-use Rattle.step_rules.specs.Queries.{Queries}
-use Rattle.step_rules.specs.CoreWords.{Gives}
-use Rattle.step_rules.specs.Core.{simple}
-use Rattle.cil_members.specs.declared.core_out.CoreOut.{CoreOut}
-use Rattle.cil_members.specs.Outs.{gives_by}
+use Rattle.il_base.specs.declared.cil_values.value.Value.{Value}
+use Rattle.il_base.specs.declared.cil_values.state.State.{State}
+use Rattle.il_base.specs.declared.cil_values.core_call.CoreCall.{CoreCall}
+use Rattle.rules.specs.step_rules.Queries.{Queries}
+use Rattle.rules.specs.step_rules.CoreWords.{Gives}
+use Rattle.rules.specs.step_rules.Core.{simple}
+use Rattle.cil_core.specs.declared.cil_members.core_out.CoreOut.{CoreOut}
+use Rattle.cil_core.specs.cil_members.Outs.{gives_by}
 
 pub turned : (out : CoreOut) (s t : State) (bytes none : List ℕ) (q : Queries) (k called : CoreCall) (args : List Value) → k ≡ called → bytes ≡ none
     → ((q : Queries) (give : Gives) → gives_by out t none give ≡ simple called q args s give) → (give : Gives) → simple k q args s give ≡ gives_by out t bytes give

@@ -1,15 +1,15 @@
 -- What a virtual call of a member runs.
 use Rattle.std.specs.Prelude.{ℕ, List}
-use Rattle.cil_values.specs.declared.value.Value.{Value}
-use Rattle.cil_values.specs.declared.value.Value.TheVariants as value
-use Rattle.cil_values.specs.declared.state.State.{State}
-use Rattle.cil_values.specs.declared.core_call.CoreCall.{CoreCall}
-use Rattle.step_rules.specs.Queries.{Queries}
-use Rattle.step_rules.specs.Next.{Next}
-use Rattle.step_rules.specs.Words.{given}
-use Rattle.step_rules.specs.Closing.{Callee}
-use Rattle.step_rules.specs.CoreWords.{Gives}
-use Rattle.step_rules.specs.Core.{found_args, run_found}
+use Rattle.il_base.specs.declared.cil_values.value.Value.{Value}
+use Rattle.il_base.specs.declared.cil_values.value.Value.TheVariants as value
+use Rattle.il_base.specs.declared.cil_values.state.State.{State}
+use Rattle.il_base.specs.declared.cil_values.core_call.CoreCall.{CoreCall}
+use Rattle.rules.specs.step_rules.Queries.{Queries}
+use Rattle.rules.specs.step_rules.Next.{Next}
+use Rattle.rules.specs.step_rules.Words.{given}
+use Rattle.rules.specs.step_rules.Closing.{Callee}
+use Rattle.rules.specs.step_rules.CoreWords.{Gives}
+use Rattle.rules.specs.step_rules.Core.{found_args, run_found}
 
 -- the method that was found for an object, with these arguments after it
 abbrev pub runs_on : Queries → CoreCall → List Value → ℕ → List Value → State → Gives → Callee → Next

@@ -1,23 +1,23 @@
 //! Calls.
 
 ghost use Rattle.std.specs.Prelude.{◌≡◌, [], IfOk};
-ghost use Rattle.step_rules.specs.CoreWords.{Gives};
-ghost use Rattle.step_rules.specs.Core.{core_call, member};
-ghost use Rattle.cil_closing.specs.Callees.{callee_by};
-ghost use Rattle.cil_members.specs.Outs.{gives_by};
+ghost use Rattle.rules.specs.step_rules.CoreWords.{Gives};
+ghost use Rattle.rules.specs.step_rules.Core.{core_call, member};
+ghost use Rattle.machine_words.specs.cil_closing.Callees.{callee_by};
+ghost use Rattle.cil_core.specs.cil_members.Outs.{gives_by};
 
+use crate::cil_members::{CoreOut, Taken, checked, raised, stopped_member, stuck_member};
 use crate::members::simple;
 use crate::virtual_members::{equal_form, print_object};
-use cil_closing::Callee;
-use cil_members::{CoreOut, Taken, checked, raised, stopped_member, stuck_member};
-use cil_queries::Answers;
-use cil_values::{CoreCall, Printed, State, Value};
-use core_table::CoreName;
+use il_base::cil_values::{CoreCall, Printed, State, Value};
+use il_base::core_table::CoreName;
 use il_base::{NoMemory, Seq};
+use machine_words::cil_closing::Callee;
+use machine_words::cil_queries::Answers;
 use std::alloc::Global;
 
 /// A member with its arguments as it takes them.
-#[tactic(auto, unfolding(step_rules::specs::Core::member))]
+#[tactic(auto, unfolding(rules::specs::step_rules::Core::member))]
 fn member<Q: Answers>(
     alloc: Global,
     q: &Q,
@@ -43,7 +43,7 @@ fn member<Q: Answers>(
 }
 
 /// A call of a member with all its arguments, `this` first.
-#[tactic(auto, unfolding(step_rules::specs::Core::core_call))]
+#[tactic(auto, unfolding(rules::specs::step_rules::Core::core_call))]
 pub fn core_call<Q: Answers>(
     alloc: Global,
     q: &Q,

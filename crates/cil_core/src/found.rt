@@ -1,24 +1,24 @@
 //! The method that a virtual call of a member found.
 
 ghost use Rattle.std.specs.Prelude.{◌≡◌, ◌∷◌, [], IfOk};
-ghost use Rattle.cil_values.specs.declared.value.Value.TheVariants.{Object};
-ghost use Rattle.step_rules.specs.CoreWords.{Gives, checked};
-ghost use Rattle.step_rules.specs.Core.{found_args, resumed, run_found, simple};
-ghost use Rattle.cil_closing.specs.Callees.{callee_by};
+ghost use Rattle.il_base.specs.declared.cil_values.value.Value.TheVariants.{Object};
+ghost use Rattle.rules.specs.step_rules.CoreWords.{Gives, checked};
+ghost use Rattle.rules.specs.step_rules.Core.{found_args, resumed, run_found, simple};
+ghost use Rattle.machine_words.specs.cil_closing.Callees.{callee_by};
 ghost use Rattle.cil_core.specs.Runs.{runs_on};
-ghost use Rattle.cil_members.specs.Outs.{gives_by};
+ghost use Rattle.cil_core.specs.cil_members.Outs.{gives_by};
 
+use crate::cil_members::{CoreOut, Taken, checked, raised, stopped_member, stuck_member};
 use crate::members::simple;
 use crate::resuming::resume;
-use cil_closing::Callee;
-use cil_dispatch::this_for;
-use cil_frames::enter;
-use cil_members::{CoreOut, Taken, checked, raised, stopped_member, stuck_member};
-use cil_queries::Answers;
-use cil_stores::all_fit;
-use cil_values::{CoreCall, State, Value, Waits};
-use core_table::CoreName;
+use il_base::cil_values::{CoreCall, State, Value, Waits};
+use il_base::core_table::CoreName;
 use il_base::{NoMemory, Seq};
+use machine_frames::cil_dispatch::this_for;
+use machine_frames::cil_frames::enter;
+use machine_words::cil_closing::Callee;
+use machine_words::cil_queries::Answers;
+use machine_words::cil_stores::all_fit;
 use std::alloc::Global;
 
 /// A value before some others.

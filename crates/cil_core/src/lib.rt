@@ -1,8 +1,13 @@
 //! Members of the core library: a call is whole in its step, but for one that calls a method of the program. In goes a state
-//! with the arguments off the stack; out comes what the member gives, as `step_rules/specs/Core` has it.
+//! with the arguments off the stack; out comes what the member gives, as `rules/specs/step_rules/Core` has it.
 #![tactic(auto)]
 
 mod calling;
+pub mod cil_console_members;
+pub mod cil_exceptions;
+pub mod cil_members;
+pub mod cil_object_members;
+pub mod cil_text_members;
 mod found;
 mod members;
 mod resuming;

@@ -1,30 +1,30 @@
 //! Members that call nothing.
 
 ghost use Rattle.std.specs.Prelude.{◌≡◌, [], IfOk};
-ghost use Rattle.step_rules.specs.CoreWords.{Gives};
-ghost use Rattle.step_rules.specs.Core.{simple};
-ghost use Rattle.cil_members.specs.Outs.{gives_by};
+ghost use Rattle.rules.specs.step_rules.CoreWords.{Gives};
+ghost use Rattle.rules.specs.step_rules.Core.{simple};
+ghost use Rattle.cil_core.specs.cil_members.Outs.{gives_by};
 
-use cil_console_members::{array_length, fill_array, line_end, print, read_line, read_unit};
-use cil_exceptions::{
+use crate::cil_console_members::{array_length, fill_array, line_end, print, read_line, read_unit};
+use crate::cil_exceptions::{
     exception_inner, exception_parameter, exception_text, get_inner, get_message,
 };
-use cil_members::{CoreOut, stuck_member};
-use cil_object_members::{
+use crate::cil_members::{CoreOut, stuck_member};
+use crate::cil_object_members::{
     halt, idle, int_compare, int_equals, number_is, number_text, same, type_name,
 };
-use cil_queries::Answers;
-use cil_text_members::{
+use crate::cil_text_members::{
     int_parse, string_compare, string_concat, string_from, string_index, string_is,
     string_is_empty, string_itself, string_length, string_other, string_part, string_same,
     string_unit,
 };
-use cil_values::{CoreCall, State, Value};
 use il_base::NoMemory;
+use il_base::cil_values::{CoreCall, State, Value};
+use machine_words::cil_queries::Answers;
 use std::alloc::Global;
 
 /// A member that calls no method, with its arguments as it takes them. Members that call are stuck here.
-#[tactic(auto, unfolding(step_rules::specs::Core::simple))]
+#[tactic(auto, unfolding(rules::specs::step_rules::Core::simple))]
 pub(crate) fn simple<Q: Answers>(
     alloc: Global,
     q: &Q,

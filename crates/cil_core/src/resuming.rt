@@ -1,21 +1,21 @@
 //! A member goes on with what the method that it called returned.
 
 ghost use Rattle.std.specs.Prelude.{◌≡◌, ℕ, List, ◌∷◌, [], IfOk};
-ghost use Rattle.cil_values.specs.declared.value.Value.{Value};
-ghost use Rattle.step_rules.specs.CoreWords.{Gives};
-ghost use Rattle.step_rules.specs.Core.{with_option, with_result};
-ghost use Rattle.step_rules.specs.CoreConsole.{print_form};
-ghost use Rattle.step_rules.specs.Queries.{Queries};
-ghost use Rattle.cil_values.specs.declared.core_call.Printed.TheVariants.{OfObject};
-ghost use Rattle.cil_values.specs.declared.core_call.CoreCall.TheVariants.{AreEqual};
-ghost use Rattle.cil_members.specs.Outs.{KeepsFrames, gives_by};
+ghost use Rattle.il_base.specs.declared.cil_values.value.Value.{Value};
+ghost use Rattle.rules.specs.step_rules.CoreWords.{Gives};
+ghost use Rattle.rules.specs.step_rules.Core.{with_option, with_result};
+ghost use Rattle.rules.specs.step_rules.CoreConsole.{print_form};
+ghost use Rattle.rules.specs.step_rules.Queries.{Queries};
+ghost use Rattle.il_base.specs.declared.cil_values.core_call.Printed.TheVariants.{OfObject};
+ghost use Rattle.il_base.specs.declared.cil_values.core_call.CoreCall.TheVariants.{AreEqual};
+ghost use Rattle.cil_core.specs.cil_members.Outs.{KeepsFrames, gives_by};
 
-use cil_console_members::print;
-use cil_members::{CoreOut, gives_value, stuck_member};
-use cil_queries::Answers;
-use cil_stores::narrowed;
-use cil_values::{CoreCall, Printed, State, Value};
+use crate::cil_console_members::print;
+use crate::cil_members::{CoreOut, gives_value, stuck_member};
+use il_base::cil_values::{CoreCall, Printed, State, Value};
 use il_base::{NoMemory, Seq, element};
+use machine_words::cil_queries::Answers;
+use machine_words::cil_stores::narrowed;
 use std::alloc::Global;
 
 /// Prints what ToString() of an object gave.

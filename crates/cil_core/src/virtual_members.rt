@@ -1,31 +1,31 @@
 //! Members that call a slot of Object.
 
 ghost use Rattle.std.specs.Prelude.{◌≡◌, ◌∷◌, [], false, IfOk};
-ghost use Rattle.cil_values.specs.declared.value.Value.TheVariants.{Object};
-ghost use Rattle.step_rules.specs.CoreWords.{Gives};
-ghost use Rattle.step_rules.specs.Core.{calls_slot, equal_by, equal_form, object_slot, print_object};
-ghost use Rattle.step_rules.specs.Next.{Next};
-ghost use Rattle.step_rules.specs.Words.{given, object_at};
-ghost use Rattle.step_rules.specs.Closing.{Callee as Called};
-ghost use Rattle.step_rules.specs.Dispatch.{dispatched};
-ghost use Rattle.step_rules.specs.Objects.{type_of};
-ghost use Rattle.cil_closing.specs.Callees.{callee_by};
-ghost use Rattle.cil_dispatch.specs.Found.{goes_to};
+ghost use Rattle.il_base.specs.declared.cil_values.value.Value.TheVariants.{Object};
+ghost use Rattle.rules.specs.step_rules.CoreWords.{Gives};
+ghost use Rattle.rules.specs.step_rules.Core.{calls_slot, equal_by, equal_form, object_slot, print_object};
+ghost use Rattle.rules.specs.step_rules.Next.{Next};
+ghost use Rattle.rules.specs.step_rules.Words.{given, object_at};
+ghost use Rattle.rules.specs.step_rules.Closing.{Callee as Called};
+ghost use Rattle.rules.specs.step_rules.Dispatch.{dispatched};
+ghost use Rattle.rules.specs.step_rules.Objects.{type_of};
+ghost use Rattle.machine_words.specs.cil_closing.Callees.{callee_by};
+ghost use Rattle.machine_frames.specs.cil_dispatch.Found.{goes_to};
 ghost use Rattle.cil_core.specs.Runs.{runs_on};
-ghost use Rattle.cil_members.specs.Outs.{gives_by};
+ghost use Rattle.cil_core.specs.cil_members.Outs.{gives_by};
 
+use crate::cil_console_members::print;
+use crate::cil_members::{CoreOut, gives_truth, stopped_member, stuck_member};
+use crate::cil_object_members::is_same;
 use crate::found::run_on;
-use cil_closing::{Callee, callee_of};
-use cil_console_members::print;
-use cil_dispatch::{Target, dispatched};
-use cil_members::{CoreOut, gives_truth, stopped_member, stuck_member};
-use cil_object_members::is_same;
-use cil_objects::type_of;
-use cil_queries::Answers;
-use cil_values::{CoreCall, Printed, State, Value};
+use il_base::cil_values::{CoreCall, Printed, State, Value};
+use il_base::world_model::{MethodUse, TypeExpr};
 use il_base::{MethodId, NoMemory, Seq, element};
+use machine_frames::cil_dispatch::{Target, dispatched};
+use machine_words::cil_closing::{Callee, callee_of};
+use machine_words::cil_objects::type_of;
+use machine_words::cil_queries::Answers;
 use std::alloc::Global;
-use world_model::{MethodUse, TypeExpr};
 
 /// A method of Object, by its place in the world.
 fn object_slot(alloc: Global, slot: u32) -> MethodUse
@@ -103,7 +103,7 @@ fn calls_method<Q: Answers>(
 }
 
 /// A virtual call of a slot of Object for an object, with these arguments after it.
-#[tactic(auto, unfolding(step_rules::specs::Core::calls_slot))]
+#[tactic(auto, unfolding(rules::specs::step_rules::Core::calls_slot))]
 fn calls_slot<Q: Answers>(
     alloc: Global,
     q: &Q,
@@ -146,7 +146,7 @@ fn two_objects(alloc: Global, first: u32, second: u32) -> Result<Seq<Value>, NoM
 }
 
 /// Console.Write and Console.WriteLine of an object: null prints nothing, another by its ToString().
-#[tactic(auto, unfolding(step_rules::specs::Core::print_object))]
+#[tactic(auto, unfolding(rules::specs::step_rules::Core::print_object))]
 pub(crate) fn print_object<Q: Answers>(
     alloc: Global,
     q: &Q,
@@ -229,7 +229,7 @@ fn unequal<Q: Answers>(
 }
 
 /// The static Object.Equals(object, object): the same or both null, one null, else by the first one's Equals(object).
-#[tactic(auto, unfolding(step_rules::specs::Core::equal_form))]
+#[tactic(auto, unfolding(rules::specs::step_rules::Core::equal_form))]
 pub(crate) fn equal_form<Q: Answers>(
     alloc: Global,
     q: &Q,

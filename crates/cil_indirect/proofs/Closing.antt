@@ -1,14 +1,14 @@
 -- A type of an operand, closed.
 use Rattle.std.proofs.Common.{◌≡◌, ◌∙◌, sym, ap, List}
 use Rattle.std.specs.Prelude.{Option, Some}
-use Rattle.world_model.specs.declared.known.Known.{Known}
-use Rattle.world_model.specs.declared.known.Known.TheVariants.{Good}
-use Rattle.world_model.specs.declared.expr.TypeExpr.{TypeExpr}
-use Rattle.cil_values.specs.declared.state.State.{State}
-use Rattle.step_rules.specs.Queries.{Queries}
-use Rattle.step_rules.specs.Next.{Next}
-use Rattle.step_rules.specs.Words.{Here, had, known}
-use Rattle.step_rules.specs.Closing.{closed, closed_slot}
+use Rattle.il_base.specs.declared.world_model.known.Known.{Known}
+use Rattle.il_base.specs.declared.world_model.known.Known.TheVariants.{Good}
+use Rattle.il_base.specs.declared.world_model.expr.TypeExpr.{TypeExpr}
+use Rattle.il_base.specs.declared.cil_values.state.State.{State}
+use Rattle.rules.specs.step_rules.Queries.{Queries}
+use Rattle.rules.specs.step_rules.Next.{Next}
+use Rattle.rules.specs.step_rules.Words.{Here, had, known}
+use Rattle.rules.specs.step_rules.Closing.{closed, closed_slot}
 
 pub closed_by : (q : Queries) (here : Here) (s : State) (ty : Known TypeExpr) (open_type e : TypeExpr) (targs margs : List TypeExpr) (found : Option TypeExpr) (f : TypeExpr → Next) (n : Next)
     → ty ≡ Good open_type → targs ≡ here.targs → margs ≡ here.margs → found ≡ closed_slot q targs margs open_type → found ≡ Some e → n ≡ f e → n ≡ closed q here ty s f

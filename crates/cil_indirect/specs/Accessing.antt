@@ -1,15 +1,15 @@
 -- Loads and stores through pointers, over the stack below their operands.
 use Rattle.std.specs.Prelude.{ℕ, List, ◌∷◌, Option, Some, None}
-use Rattle.world_model.specs.declared.expr.TypeExpr.{TypeExpr}
-use Rattle.cil_values.specs.declared.value.Value.{Value}
-use Rattle.cil_values.specs.declared.path.Path.{Path}
-use Rattle.cil_values.specs.declared.resolved.Instruction.{Instruction}
-use Rattle.cil_values.specs.declared.state.State.{State}
-use Rattle.step_rules.specs.Queries.{Queries}
-use Rattle.step_rules.specs.Next.{Next}
-use Rattle.step_rules.specs.Words.{Here, given, goes}
-use Rattle.step_rules.specs.Stores.{Access, loaded}
-use Rattle.step_rules.specs.Indirect.{pointed, through, puts}
+use Rattle.il_base.specs.declared.world_model.expr.TypeExpr.{TypeExpr}
+use Rattle.il_base.specs.declared.cil_values.value.Value.{Value}
+use Rattle.il_base.specs.declared.cil_values.path.Path.{Path}
+use Rattle.il_base.specs.declared.cil_values.resolved.Instruction.{Instruction}
+use Rattle.il_base.specs.declared.cil_values.state.State.{State}
+use Rattle.rules.specs.step_rules.Queries.{Queries}
+use Rattle.rules.specs.step_rules.Next.{Next}
+use Rattle.rules.specs.step_rules.Words.{Here, given, goes}
+use Rattle.rules.specs.step_rules.Stores.{Access, loaded}
+use Rattle.rules.specs.step_rules.Indirect.{pointed, through, puts}
 
 -- a value that is loaded
 abbrev pub gives : Here → Instruction → List Value → State → Option Value → Next

@@ -2,14 +2,14 @@
 
 ghost use Rattle.std.specs.Prelude.{◌≡◌};
 ghost use Rattle.std.specs.Option.{option_map};
-ghost use Rattle.step_rules.specs.Indirect.{load_access, store_access};
-ghost use Rattle.cil_stores.specs.Accesses.{access_in};
+ghost use Rattle.rules.specs.step_rules.Indirect.{load_access, store_access};
+ghost use Rattle.machine_words.specs.cil_stores.Accesses.{access_in};
 
-use cil_stores::Access;
 use il_base::{element, opcode};
+use machine_words::cil_stores::Access;
 
 /// The access of a load without an operand (III.3.42). None for any other opcode.
-#[tactic(auto, unfolding(step_rules::specs::Indirect::load_access))]
+#[tactic(auto, unfolding(rules::specs::step_rules::Indirect::load_access))]
 pub(crate) fn load_access(code: u16) -> Option<Access>
     ensures { option_map access_in result ≡ load_access code }
 {
@@ -28,7 +28,7 @@ pub(crate) fn load_access(code: u16) -> Option<Access>
 }
 
 /// The access of a store without an operand (III.3.62). None for any other opcode.
-#[tactic(auto, unfolding(step_rules::specs::Indirect::store_access))]
+#[tactic(auto, unfolding(rules::specs::step_rules::Indirect::store_access))]
 pub(crate) fn store_access(code: u16) -> Option<Access>
     ensures { option_map access_in result ≡ store_access code }
 {

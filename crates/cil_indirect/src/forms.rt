@@ -1,23 +1,23 @@
 //! Loads and stores through pointers, by opcode.
 
 ghost use Rattle.std.specs.Prelude.{◌≡◌, [], IfOk};
-ghost use Rattle.step_rules.specs.Closing.{closed};
-ghost use Rattle.step_rules.specs.Indirect.{indirect, load_access, plain_access, typed_access};
-ghost use Rattle.cil_words.specs.Steps.{here_by, next_of};
+ghost use Rattle.rules.specs.step_rules.Closing.{closed};
+ghost use Rattle.rules.specs.step_rules.Indirect.{indirect, load_access, plain_access, typed_access};
+ghost use Rattle.machine_words.specs.cil_words.Steps.{here_by, next_of};
 
 use crate::accesses::{load_access, store_access};
 use crate::copying::copy_by;
 use crate::loading::load_by;
 use crate::storing::{init_by, store_by};
-use cil_closing::{args_of, closed_slot};
-use cil_pointers::discard;
-use cil_queries::Answers;
-use cil_stores::access_of;
-use cil_values::{Instruction, State, Use};
-use cil_words::{Body, StepOut, stopped, stuck};
+use il_base::cil_values::{Instruction, State, Use};
+use il_base::world_model::{Known, TypeExpr};
 use il_base::{NoMemory, opcode};
+use machine_numbers::cil_pointers::discard;
+use machine_words::cil_closing::{args_of, closed_slot};
+use machine_words::cil_queries::Answers;
+use machine_words::cil_stores::access_of;
+use machine_words::cil_words::{Body, StepOut, stopped, stuck};
 use std::alloc::Global;
-use world_model::{Known, TypeExpr};
 
 /// `ldind` and `stind` (III.3.42, III.3.62).
 fn plain_access<Q: Answers>(
@@ -68,7 +68,7 @@ fn typed_access<Q: Answers>(
 }
 
 /// An instruction with a type, which is closed first. A type that has no meaning stops the run.
-#[tactic(auto, unfolding(step_rules::specs::Closing::closed))]
+#[tactic(auto, unfolding(rules::specs::step_rules::Closing::closed))]
 fn closed_access<Q: Answers>(
     alloc: Global,
     q: &Q,
@@ -93,7 +93,7 @@ fn closed_access<Q: Answers>(
 }
 
 /// Loads and stores through pointers (III.3.42, III.3.62, III.4.4, III.4.5, III.4.13, III.4.29).
-#[tactic(auto, unfolding(step_rules::specs::Indirect::indirect))]
+#[tactic(auto, unfolding(rules::specs::step_rules::Indirect::indirect))]
 pub fn indirect<Q: Answers>(
     alloc: Global,
     q: &Q,

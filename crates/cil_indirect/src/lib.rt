@@ -1,6 +1,6 @@
 //! Loads and stores through managed pointers: `ldind`, `stind`, `ldobj`, `stobj`, `cpobj`, `initobj` (III.3.42, III.3.62, III.4.4,
 //! III.4.5, III.4.13, III.4.29). In goes a state at the instruction; out comes what the step comes to, as
-//! `step_rules/specs/Indirect` has it.
+//! `rules/specs/step_rules/Indirect` has it.
 #![tactic(auto)]
 
 mod accesses;

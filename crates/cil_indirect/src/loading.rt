@@ -1,22 +1,22 @@
 //! Loads through pointers.
 
 ghost use Rattle.std.specs.Prelude.{◌≡◌, List, [], ◌∷◌, IfOk};
-ghost use Rattle.cil_values.specs.declared.value.Value.{Value};
-ghost use Rattle.step_rules.specs.Indirect.{load_by};
-ghost use Rattle.cil_words.specs.Steps.{here_by, next_of};
-ghost use Rattle.cil_stores.specs.Accesses.{access_in};
-ghost use Rattle.cil_pointers.specs.Reaching.{with_stack};
+ghost use Rattle.il_base.specs.declared.cil_values.value.Value.{Value};
+ghost use Rattle.rules.specs.step_rules.Indirect.{load_by};
+ghost use Rattle.machine_words.specs.cil_words.Steps.{here_by, next_of};
+ghost use Rattle.machine_words.specs.cil_stores.Accesses.{access_in};
+ghost use Rattle.machine_numbers.specs.cil_pointers.Reaching.{with_stack};
 ghost use Rattle.cil_indirect.specs.Accessing.{gives, load_over};
 
 use crate::reaching::through;
-use cil_pointers::{Reached, discard, gives};
-use cil_queries::Answers;
-use cil_raising::raise;
-use cil_stores::{Access, loaded};
-use cil_values::{Instruction, State, Value};
-use cil_words::{Body, StepOut, stopped, stuck};
-use core_table::CoreName;
 use il_base::NoMemory;
+use il_base::cil_values::{Instruction, State, Value};
+use il_base::core_table::CoreName;
+use machine_frames::cil_raising::raise;
+use machine_numbers::cil_pointers::{Reached, discard, gives};
+use machine_words::cil_queries::Answers;
+use machine_words::cil_stores::{Access, loaded};
+use machine_words::cil_words::{Body, StepOut, stopped, stuck};
 use std::alloc::Global;
 
 /// Goes on with a value that was loaded.

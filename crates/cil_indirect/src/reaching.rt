@@ -1,22 +1,22 @@
 //! The place that an access through a pointer takes.
 
 ghost use Rattle.std.specs.Prelude.{◌≡◌, List, IfOk};
-ghost use Rattle.cil_values.specs.declared.value.Value.{Value};
-ghost use Rattle.cil_values.specs.declared.path.Path.{Path};
-ghost use Rattle.step_rules.specs.Next.{Next};
-ghost use Rattle.step_rules.specs.Indirect.{pointed, through};
-ghost use Rattle.cil_stores.specs.Accesses.{access_in};
-ghost use Rattle.cil_pointers.specs.Reaching.{reached_by, with_stack};
+ghost use Rattle.il_base.specs.declared.cil_values.value.Value.{Value};
+ghost use Rattle.il_base.specs.declared.cil_values.path.Path.{Path};
+ghost use Rattle.rules.specs.step_rules.Next.{Next};
+ghost use Rattle.rules.specs.step_rules.Indirect.{pointed, through};
+ghost use Rattle.machine_words.specs.cil_stores.Accesses.{access_in};
+ghost use Rattle.machine_numbers.specs.cil_pointers.Reaching.{reached_by, with_stack};
 
-use cil_pointers::{Reached, ended_at, value_at};
-use cil_queries::Answers;
-use cil_stores::{Access, allows};
-use cil_values::{Path, State, Value};
 use il_base::NoMemory;
+use il_base::cil_values::{Path, State, Value};
+use machine_numbers::cil_pointers::{Reached, ended_at, value_at};
+use machine_words::cil_queries::Answers;
+use machine_words::cil_stores::{Access, allows};
 use std::alloc::Global;
 
 /// What an access finds at a pointer: the frame that ended first, then the type, then the cell.
-#[tactic(auto, unfolding(step_rules::specs::Places::at_place))]
+#[tactic(auto, unfolding(rules::specs::step_rules::Places::at_place))]
 fn pointed<Q: Answers>(
     alloc: Global,
     q: &Q,
@@ -40,7 +40,7 @@ fn pointed<Q: Answers>(
 }
 
 /// What an access finds where a value leads, which was taken off the evaluation stack.
-#[tactic(auto, unfolding(step_rules::specs::Indirect::through))]
+#[tactic(auto, unfolding(rules::specs::step_rules::Indirect::through))]
 pub(crate) fn through<Q: Answers>(
     alloc: Global,
     q: &Q,

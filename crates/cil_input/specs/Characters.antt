@@ -1,5 +1,5 @@
 -- Characters as the definition has them.
-use Rattle.step_rules.specs.Input.{Decoded}
+use Rattle.rules.specs.step_rules.Input.{Decoded}
 use Rattle.cil_input.specs.declared.character.Character as code
 
 abbrev pub decoded_by : code.Character → Decoded

@@ -2,7 +2,7 @@
 
 ghost use Rattle.std.specs.Prelude.{◌≡◌, ◌-◌, ◌≤◌};
 ghost use Rattle.std.specs.Option.{option_map};
-ghost use Rattle.step_rules.specs.Input.{between, char_at, four_at, is_second, is_tail, second_high, second_low, three_at, two_at};
+ghost use Rattle.rules.specs.step_rules.Input.{between, char_at, four_at, is_second, is_tail, second_high, second_low, three_at, two_at};
 ghost use Rattle.cil_input.specs.Characters.{decoded_by};
 
 use crate::character::Character;
@@ -141,7 +141,7 @@ fn four_at(b: u8, rest: &[u8]) -> Option<Character>
 }
 
 /// The character whose well-formed sequence begins with a byte, with the bytes after it. None where there is none.
-#[tactic(auto, unfolding(step_rules::specs::Input::char_at))]
+#[tactic(auto, unfolding(rules::specs::step_rules::Input::char_at))]
 pub(crate) fn char_at(b: u8, rest: &[u8]) -> Option<Character>
     ensures { option_map decoded_by result ≡ char_at b rest.now }
 {

@@ -1,5 +1,5 @@
 //! The program's input: bytes of UTF-8 as UTF-16 units. Each byte outside a well-formed sequence gives U+FFFD, as
-//! `step_rules/specs/Input` has it.
+//! `rules/specs/step_rules/Input` has it.
 #![tactic(auto)]
 
 mod character;

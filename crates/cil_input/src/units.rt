@@ -2,11 +2,11 @@
 
 ghost use Rattle.std.specs.Prelude.{◌≡◌, ◌<◌, ◌++◌, IfOk, OnOk};
 ghost use Rattle.std.specs.Char.Escape.{encode_utf16};
-ghost use Rattle.step_rules.specs.Input.{char_at, decoded, more_bytes, units_before};
+ghost use Rattle.rules.specs.step_rules.Input.{char_at, decoded, more_bytes, units_before};
 
 use crate::characters::char_at;
-use cil_values::Stack;
 use il_base::NoMemory;
+use il_base::cil_values::Stack;
 use std::alloc::Global;
 
 /// What stands for a byte outside a well-formed sequence.

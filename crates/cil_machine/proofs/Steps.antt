@@ -1,12 +1,12 @@
 -- A step by what the top frame runs.
 use Rattle.std.proofs.Common.{◌≡◌, Option, Some, None, sym, ap, ◌∙◌}
-use Rattle.cil_values.specs.declared.state.State.{State}
-use Rattle.cil_values.specs.declared.resolved.Instruction.{Instruction}
-use Rattle.step_rules.specs.Queries.{Queries}
-use Rattle.step_rules.specs.Words.{Here, given, stuck}
-use Rattle.step_rules.specs.Step.{execute, step}
-use Rattle.cil_returns.specs.Running.{running_of}
-use Rattle.cil_returns.proofs.RunningFrames.{given_running}
+use Rattle.il_base.specs.declared.cil_values.state.State.{State}
+use Rattle.il_base.specs.declared.cil_values.resolved.Instruction.{Instruction}
+use Rattle.rules.specs.step_rules.Queries.{Queries}
+use Rattle.rules.specs.step_rules.Words.{Here, given, stuck}
+use Rattle.rules.specs.step_rules.Step.{execute, step}
+use Rattle.machine_calls.specs.cil_returns.Running.{running_of}
+use Rattle.machine_calls.proofs.lemmas.cil_returns.RunningFrames.{given_running}
 
 module _ (q : Queries) (s : State) where
   opened : step q s ≡ given (running_of q s.top) s (λ p. execute q p.0 p.1 s)

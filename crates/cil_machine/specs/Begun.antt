@@ -1,5 +1,5 @@
 -- How a run begins, as the code has it.
-use Rattle.step_rules.specs.Run.{Beginning, begins, ends}
+use Rattle.rules.specs.step_rules.Run.{Beginning, begins, ends}
 use Rattle.cil_machine.specs.declared.beginning.Beginning as code
 use Rattle.cil_machine.specs.declared.beginning.Beginning.TheVariants.{Begins, Ends}
 

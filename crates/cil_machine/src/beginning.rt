@@ -1,27 +1,27 @@
 //! How a run begins.
 
 ghost use Rattle.std.specs.Prelude.{◌≡◌, [], IfOk};
-ghost use Rattle.cil_values.specs.declared.state.Init.TheVariants.{Begun};
-ghost use Rattle.cil_values.specs.declared.frame.Waits.TheVariants.{Opens};
-ghost use Rattle.step_rules.specs.Closing.{Callee as Called, takes};
-ghost use Rattle.step_rules.specs.Frames.{frame_of, with_init, zero_locals};
-ghost use Rattle.step_rules.specs.Run.{beginning, begins, begins_body, begins_code, begins_method, begins_with, blank_state, initializer_frame, or_stopped, stopped_at, stuck_at, with_initializer};
-ghost use Rattle.step_rules.specs.Returns.{entry_begins};
-ghost use Rattle.cil_closing.specs.Callees.{callee_by};
+ghost use Rattle.il_base.specs.declared.cil_values.state.Init.TheVariants.{Begun};
+ghost use Rattle.il_base.specs.declared.cil_values.frame.Waits.TheVariants.{Opens};
+ghost use Rattle.rules.specs.step_rules.Closing.{Callee as Called, takes};
+ghost use Rattle.rules.specs.step_rules.Frames.{frame_of, with_init, zero_locals};
+ghost use Rattle.rules.specs.step_rules.Run.{beginning, begins, begins_body, begins_code, begins_method, begins_with, blank_state, initializer_frame, or_stopped, stopped_at, stuck_at, with_initializer};
+ghost use Rattle.rules.specs.step_rules.Returns.{entry_begins};
+ghost use Rattle.machine_words.specs.cil_closing.Callees.{callee_by};
 ghost use Rattle.cil_machine.specs.Begun.{beginning_by};
 
 use crate::entry_form::is_entry;
-use cil_closing::{Callee, callee_of};
-use cil_frames::{copy_use, initializer, zero_locals};
 use cil_input::decoded;
-use cil_queries::Answers;
-use cil_returns::entry_begins;
-use cil_values::{
+use il_base::cil_values::{
     Code, End, Frame, Heap, Init, Method, Prefix, Signature, Stack, Started, State, Value, Waits,
 };
+use il_base::world_model::{Known, MethodUse, TypeExpr};
 use il_base::{MethodId, NoMemory, Seq, TypeId};
+use machine_calls::cil_returns::entry_begins;
+use machine_frames::cil_frames::{copy_use, initializer, zero_locals};
+use machine_words::cil_closing::{Callee, callee_of};
+use machine_words::cil_queries::Answers;
 use std::alloc::Global;
-use world_model::{Known, MethodUse, TypeExpr};
 
 /// How a run begins.
 #[derive(Drop)]
@@ -293,7 +293,7 @@ fn begins_method<Q: Answers>(
 
 /// How a run begins at an entry method (II.15.4.1.2), by its place in the world, with the bytes of the input. What a method that
 /// no type's run holds, a signature, a body, a local and a type without its arguments come to is looked at before the form.
-#[tactic(auto, unfolding(step_rules::specs::Run::beginning))]
+#[tactic(auto, unfolding(rules::specs::step_rules::Run::beginning))]
 pub fn begin<Q: Answers>(
     alloc: Global,
     q: &Q,

@@ -1,14 +1,14 @@
 //! The form of an entry method (II.15.4.1.2).
 
 ghost use Rattle.std.specs.Prelude.{◌≡◌, IfOk};
-ghost use Rattle.step_rules.specs.Run.{are_entry_params, is_entry, is_entry_return, is_entry_signature, is_strings};
-ghost use Rattle.cil_closing.specs.Callees.{callee_by};
+ghost use Rattle.rules.specs.step_rules.Run.{are_entry_params, is_entry, is_entry_return, is_entry_signature, is_strings};
+ghost use Rattle.machine_words.specs.cil_closing.Callees.{callee_by};
 
-use cil_closing::{Callee, is_void};
-use cil_values::Signature;
+use il_base::cil_values::Signature;
+use il_base::world_model::TypeExpr;
 use il_base::{Boxed, NoMemory, element, has_flag, method_flags};
+use machine_words::cil_closing::{Callee, is_void};
 use std::alloc::Global;
-use world_model::TypeExpr;
 
 /// Whether a type is `string[]`.
 fn is_strings(alloc: Global, ty: &TypeExpr) -> Result<bool, NoMemory>

@@ -1,31 +1,31 @@
 //! A step.
 
 ghost use Rattle.std.specs.Prelude.{◌≡◌, [], IfOk};
-ghost use Rattle.step_rules.specs.Step.{execute, step};
-ghost use Rattle.cil_words.specs.Steps.{here_by, next_of};
+ghost use Rattle.rules.specs.step_rules.Step.{execute, step};
+ghost use Rattle.machine_words.specs.cil_words.Steps.{here_by, next_of};
 
-use cil_arrays::{element_form, new_array};
-use cil_branches::{branch, branch_if, switch};
-use cil_calls::{call, prefix};
-use cil_fields::field_form;
 use cil_indirect::indirect;
-use cil_making::{load_string, new_object};
-use cil_numbers::{binary, convert, unary};
-use cil_queries::Answers;
-use cil_returns::{return_form, running};
-use cil_slots::{
+use il_base::cil_values::{Instruction, State};
+use il_base::{Form, NoMemory};
+use machine_calls::cil_calls::{call, prefix};
+use machine_calls::cil_making::{load_string, new_object};
+use machine_calls::cil_returns::{return_form, running};
+use machine_frames::cil_throws::{end_finally, leave, throw_form};
+use machine_numbers::cil_branches::{branch, branch_if, switch};
+use machine_numbers::cil_numbers::{binary, convert, unary};
+use machine_numbers::cil_slots::{
     address_arg, address_local, duplicate, load_arg, load_int32, load_int64, load_local, load_null,
     nop, pop, store_arg, store_local,
 };
-use cil_throws::{end_finally, leave, throw_form};
-use cil_types::{box_value, cast, load_token, unbox};
-use cil_values::{Instruction, State};
-use cil_words::{Body, StepOut, stuck};
-use il_base::{Form, NoMemory};
+use machine_objects::cil_arrays::{element_form, new_array};
+use machine_objects::cil_fields::field_form;
+use machine_objects::cil_types::{box_value, cast, load_token, unbox};
+use machine_words::cil_queries::Answers;
+use machine_words::cil_words::{Body, StepOut, stuck};
 use std::alloc::Global;
 
 /// What an instruction does.
-#[tactic(auto, unfolding(step_rules::specs::Step::execute, step_rules::specs::Step::effect))]
+#[tactic(auto, unfolding(rules::specs::step_rules::Step::execute, rules::specs::step_rules::Step::effect))]
 fn execute<Q: Answers>(
     alloc: Global,
     q: &Q,

@@ -1,20 +1,20 @@
 //! A world as the machine sees it.
 
 ghost use Rattle.std.specs.Prelude.{◌≡◌, IfOk};
-ghost use Rattle.link_rules.specs.Linked.{IsWorld};
-ghost use Rattle.view_rules.specs.Answers.{queries_of};
+ghost use Rattle.rules.specs.link_rules.Linked.{IsWorld};
+ghost use Rattle.rules.specs.view_rules.Answers.{queries_of};
 
-use cil_queries::Answers;
-use cil_values::{CoreCall, FieldDef, Head, Instruction, Layout, Method, Shape};
-use core_table::CoreName;
+use crate::world_definitions::Definitions;
+use crate::world_layouts::Layouts;
+use crate::world_types::ClosedTypes;
+use il_base::cil_values::{CoreCall, FieldDef, Head, Instruction, Layout, Method, Shape};
+use il_base::core_table::CoreName;
+use il_base::world_model::{MethodUse, TypeExpr, World};
 use il_base::{NoMemory, Seq, Text};
-use mark_tables::marker::Marker;
+use machine_words::cil_queries::Answers;
+use mark_parts::mark_tables::marker::Marker;
 use std::alloc::Global;
 use std::marker::Model;
-use world_definitions::Definitions;
-use world_layouts::Layouts;
-use world_model::{MethodUse, TypeExpr, World};
-use world_types::ClosedTypes;
 
 /// A world that a link gave, with what its answers are looked up in, made once. Contracts see the world.
 #[derive(Drop)]
@@ -25,8 +25,8 @@ pub struct View<'w> {
 
 impl<'w> Model for View<'w> {
     ghost use Rattle.std.specs.Prelude.{◌≡◌};
-    ghost use Rattle.world_model.specs.declared.world.World.{World};
-    ghost use Rattle.world_model.specs.contracts.world.World as whole;
+    ghost use Rattle.il_base.specs.declared.world_model.world.World.{World};
+    ghost use Rattle.il_base.specs.contracts.world_model.world.World as whole;
 
     ghost Value = { World };
 
@@ -52,7 +52,7 @@ impl<'w> View<'w> {
     }
 }
 
-#[tactic(auto, unfolding(view_rules::specs::Answers::queries_of))]
+#[tactic(auto, unfolding(rules::specs::view_rules::Answers::queries_of))]
 impl<'w> Answers for View<'w> {
     ghost queries = { λ world. queries_of world.recs };
 

@@ -1,3 +1,4 @@
 pub mod Flags
 pub mod Steps
 pub mod Following
+pub mod lemmas

@@ -4,6 +4,7 @@
 
 mod facts;
 pub mod laws;
+pub mod queued_closure;
 mod rounds;
 mod rules;
 #[cfg(test)]

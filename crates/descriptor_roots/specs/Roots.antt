@@ -1,6 +1,6 @@
 -- What the descriptors of a trim keep, or the first that can't be read: first those that inputs have embedded, then the named files.
 use Rattle.std.specs.Prelude.{◌≡◌, ℕ, suc, List, [], ◌∷◌, ◌++◌, length, map, nat_le, Option, Some, None, Result, Ok, Err, if◌then◌else◌}
-use Rattle.world_model.specs.declared.record.AsmRec.{AsmRec}
+use Rattle.il_base.specs.declared.world_model.record.AsmRec.{AsmRec}
 use Rattle.descriptor_file.specs.declared.root.Root.{Root}
 use Rattle.descriptor_file.specs.Reading.{descriptor_of}
 use Rattle.descriptor_roots.specs.declared.error.RootsError.{RootsError}

@@ -5,9 +5,9 @@ ghost use Rattle.descriptor_roots.specs.Roots.{long_descriptor, from_source, emb
 
 use crate::error::RootsError;
 use descriptor_file::{DescriptorError, Root, read_descriptor};
+use il_base::world_model::AsmRec;
 use il_base::{NoMemory, Seq, Text};
 use std::alloc::Global;
-use world_model::AsmRec;
 
 /// The most bytes of a named descriptor.
 const MOST_BYTES: usize = 1_048_576;

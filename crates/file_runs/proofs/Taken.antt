@@ -1,8 +1,8 @@
 -- The world of files that nothing refuses.
 use Rattle.std.proofs.Common.{◌≡◌, ℕ, List, Option, Some, None, refl, ap, rules}
-use Rattle.world_model.specs.declared.world.World.{World}
-use Rattle.link_rules.specs.declared.link_error.LinkError.{LinkError}
-use Rattle.link_rules.specs.Linked.{IsWorld, link_fault_of}
+use Rattle.il_base.specs.declared.world_model.world.World.{World}
+use Rattle.rules.specs.declared.link_rules.link_error.LinkError.{LinkError}
+use Rattle.rules.specs.link_rules.Linked.{IsWorld, link_fault_of}
 use Rattle.inputs.specs.declared.error.InputError.{InputError}
 use Rattle.inputs.specs.Files.{or_fault, limit_fault, record_fault, linking_fault, entry_fault, input_fault, records, unlinked_as}
 use Rattle.run_rules.specs.Runs.{run_of_files, world_run}

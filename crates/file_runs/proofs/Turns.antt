@@ -5,13 +5,13 @@ use Rattle.std.proofs.Math.Seq.{take-length}
 use Rattle.std.specs.Io.KnownBytes.{Appends}
 use Rattle.il_outside.specs.Streams.{SinkState, AppendsPrefix}
 use Rattle.il_outside.specs.Faults.{Rose}
-use Rattle.cil_values.specs.declared.state.State.{State}
-use Rattle.cil_values.specs.declared.end.End.{End}
-use Rattle.step_rules.specs.Queries.{Queries}
-use Rattle.step_rules.specs.Next.{Next, went, over}
-use Rattle.step_rules.specs.Step.{step}
-use Rattle.step_rules.specs.Run.{Outcome, printed_before, after, run}
-use Rattle.cil_words.specs.declared.step_out.StepOut.TheVariants as out
+use Rattle.il_base.specs.declared.cil_values.state.State.{State}
+use Rattle.il_base.specs.declared.cil_values.end.End.{End}
+use Rattle.rules.specs.step_rules.Queries.{Queries}
+use Rattle.rules.specs.step_rules.Next.{Next, went, over}
+use Rattle.rules.specs.step_rules.Step.{step}
+use Rattle.rules.specs.step_rules.Run.{Outcome, printed_before, after, run}
+use Rattle.machine_words.specs.declared.cil_words.step_out.StepOut.TheVariants as out
 use Rattle.file_runs.specs.declared.fault.RunFault.{RunFault}
 use Rattle.file_runs.specs.declared.fault.RunFault.TheVariants.{Write, NoMemory}
 use Rattle.file_runs.specs.Steps.{RunsTo, TurnsTo}

@@ -3,12 +3,12 @@ use Rattle.std.specs.Prelude.{◌≡◌, [], Option, Result, Ok, Err}
 use Rattle.std.specs.Io.KnownBytes.{Appends}
 use Rattle.il_outside.specs.Streams.{SinkState, AppendsPrefix}
 use Rattle.il_outside.specs.Faults.{Rose}
-use Rattle.cil_values.specs.declared.state.State.{State}
-use Rattle.cil_values.specs.declared.end.End.{End}
-use Rattle.step_rules.specs.Next.{Next, went, over}
-use Rattle.step_rules.specs.Run.{Outcome}
-use Rattle.cil_words.specs.declared.step_out.StepOut.{StepOut}
-use Rattle.cil_words.specs.declared.step_out.StepOut.TheVariants.{Went, Over}
+use Rattle.il_base.specs.declared.cil_values.state.State.{State}
+use Rattle.il_base.specs.declared.cil_values.end.End.{End}
+use Rattle.rules.specs.step_rules.Next.{Next, went, over}
+use Rattle.rules.specs.step_rules.Run.{Outcome}
+use Rattle.machine_words.specs.declared.cil_words.step_out.StepOut.{StepOut}
+use Rattle.machine_words.specs.declared.cil_words.step_out.StepOut.TheVariants.{Went, Over}
 use Rattle.file_runs.specs.declared.fault.RunFault.{RunFault}
 use Rattle.file_runs.specs.declared.fault.RunFault.TheVariants.{Write, NoMemory}
 

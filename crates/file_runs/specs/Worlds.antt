@@ -1,7 +1,7 @@
 -- What files were taken as.
 use Rattle.std.specs.Prelude.{◌≡◌, ℕ, List, None}
-use Rattle.world_model.specs.declared.world.World.{World}
-use Rattle.link_rules.specs.Linked.{world_of}
+use Rattle.il_base.specs.declared.world_model.world.World.{World}
+use Rattle.rules.specs.link_rules.Linked.{world_of}
 use Rattle.inputs.specs.Files.{input_fault, records}
 
 -- the world of files that no limit and no demand refuses

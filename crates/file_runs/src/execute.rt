@@ -6,12 +6,12 @@ ghost use Rattle.file_runs.specs.Worlds.{IsTaken};
 
 use crate::collect::Collected;
 use crate::worlds::run_world;
+use il_base::world_model::World;
 use il_base::{Seq, Text};
 use il_outside::Sink;
 use inputs::{InputError, take_files};
 use run_rules::{EndKind, Ending, ExecFault};
 use std::alloc::Global;
-use world_model::World;
 
 /// The run of the world that files were taken as.
 #[tactic(auto, using(crate::proofs::Taken::is_world))]

@@ -11,7 +11,7 @@ use world_reader::{RecordError, read_record};
 const MOST_BYTES: usize = 4_294_967_295;
 
 /// The name of the assembly that a file is, None where it has no record.
-#[tactic(auto, unfolding(cli_format::specs::Metadata::Refused))]
+#[tactic(auto, unfolding(il_base::specs::cli_format::Metadata::Refused))]
 fn name_of(alloc: Global, file: &[u8]) -> Result<Option<Text>, NoMemory>
     ensures { IfOk result (λ name. name ≡ name_of file.now) }
 {

@@ -1,17 +1,17 @@
 //! The steps of a run, each with what it prints.
 
 ghost use Rattle.std.specs.Prelude.{◌≡◌, ◌≤◌, ◌-◌};
-ghost use Rattle.step_rules.specs.Run.{run, run_begun, run_from};
-ghost use Rattle.step_rules.specs.Step.{step};
+ghost use Rattle.rules.specs.step_rules.Run.{run, run_begun, run_from};
+ghost use Rattle.rules.specs.step_rules.Step.{step};
 ghost use Rattle.cil_machine.specs.Begun.{beginning_by};
 ghost use Rattle.file_runs.specs.Steps.{RunsTo, TurnsTo};
 
 use crate::fault::RunFault;
 use cil_machine::{Beginning, begin, step};
-use cil_queries::Answers;
-use cil_values::{End, State};
-use cil_words::StepOut;
+use il_base::cil_values::{End, State};
 use il_outside::{Sink, SinkError, write_all};
+use machine_words::cil_queries::Answers;
+use machine_words::cil_words::StepOut;
 use std::alloc::Global;
 
 /// A step, and then the writing of what it printed.
@@ -75,7 +75,7 @@ fn run_begun<Q: Answers, O: Sink>(
 
 /// At most `n` steps from an entry method, by its place in the world, with the bytes of the input. What a step prints is
 /// written after that step. None is a run that goes on.
-#[tactic(auto, unfolding(step_rules::specs::Run::run_from))]
+#[tactic(auto, unfolding(rules::specs::step_rules::Run::run_from))]
 pub(crate) fn run_to<Q: Answers, O: Sink>(
     alloc: Global,
     q: &Q,

@@ -1,24 +1,24 @@
 //! A run of a world over a sink.
 
 ghost use Rattle.std.specs.Prelude.{◌≡◌, IfOk};
-ghost use Rattle.link_rules.specs.Linked.{IsWorld};
-ghost use Rattle.step_rules.specs.Run.{run_from};
-ghost use Rattle.view_rules.specs.Answers.{queries_of};
+ghost use Rattle.rules.specs.link_rules.Linked.{IsWorld};
+ghost use Rattle.rules.specs.step_rules.Run.{run_from};
+ghost use Rattle.rules.specs.view_rules.Answers.{queries_of};
 ghost use Rattle.run_rules.specs.Answers.{RunsTo};
 ghost use Rattle.run_rules.specs.Runs.{world_run, end_of, entry_of, place_at};
 ghost use Rattle.file_runs.specs.Steps.{RunsTo as EndsTo};
 
 use crate::fault::RunFault;
 use crate::running::run_to;
-use cil_values::End;
 use cil_world::View;
+use il_base::cil_values::End;
+use il_base::world_model::{AsmRec, World, index_in, token_of};
 use il_base::{MethodId, NoMemory, Place, table};
 use il_outside::Sink;
 use inputs::InputError;
 use run_rules::{EndKind, ExecFault};
 use std::alloc::Global;
 use type_tables::methods::method_home;
-use world_model::{AsmRec, World, index_in, token_of};
 
 /// A place in a method of a world.
 fn place_at(recs: &[AsmRec], method: MethodId, offset: u32) -> Result<Place, NoMemory>

@@ -1,10 +1,10 @@
 //! The bodies, with the offsets of their instructions as a file has them.
 
 use crate::build::{CLASS_C, EXCEPTION, OBJECT, ONE_LOCAL, TEXT_A, push_method};
-use flow_rules::clause_kind;
+use il_base::world_model::AsmRec;
 use il_base::{Body, Form, Handler, Instr, NoMemory, Operand, Seq, opcode};
 use std::alloc::Global;
-use world_model::AsmRec;
+use value_flow::flow_rules::clause_kind;
 
 fn put(
     code: &mut Seq<Instr>,

@@ -1,16 +1,16 @@
 //! A record made by hand, row by row, and its world.
 
 ghost use Rattle.std.specs.Prelude.{IfOk};
-ghost use Rattle.link_rules.specs.Linked.{IsWorld};
+ghost use Rattle.rules.specs.link_rules.Linked.{IsWorld};
 
 use crate::bodies::push_bodies;
-use il_base::{Body, MethodSig, NoMemory, Seq, Sig, Text, element};
-use resolver::link;
-use std::alloc::Global;
-use world_model::{
+use il_base::world_model::{
     AsmRec, AssemblyRefRow, AssemblyRow, Known, MemberRefRow, MemberSig, MethodDefRow,
     StandAloneSigRow, TypeDefRow, TypeRefRow, UserText, World,
 };
+use il_base::{Body, MethodSig, NoMemory, Seq, Sig, Text, element};
+use resolver::link;
+use std::alloc::Global;
 
 /// The TypeRef row of System.Object.
 pub const OBJECT: u32 = 0x0100_0001;

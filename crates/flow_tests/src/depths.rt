@@ -1,7 +1,7 @@
-use stack_depths::{Exit, Step, Way, depths};
 use il_base::Seq;
 use std::alloc::Global;
 use std::test::Fail;
+use value_flow::stack_depths::{Exit, Step, Way, depths};
 
 fn exit(alloc: Global, pops: u32, pushes: u32, steps: &[Step]) -> Result<Exit, Fail> {
     let steps = Seq::from_slice(alloc, steps)?;

@@ -1,16 +1,16 @@
 //! Which sources are in which slots. The slots are the argument, 0, the local, 1, and the stack from 2 on.
 
-ghost use Rattle.link_rules.specs.Linked.{IsWorld};
+ghost use Rattle.rules.specs.link_rules.Linked.{IsWorld};
 
 use crate::build::world;
-use body_graph::Graph;
-use flow_rules::Source;
+use il_base::world_model::World;
 use il_base::{MethodId, NoMemory};
 use std::alloc::Global;
 use std::test::Fail;
 use type_system::Types;
 use value_flow::Flow;
-use world_model::World;
+use value_flow::body_graph::Graph;
+use value_flow::flow_rules::Source;
 
 /// The sources of the bodies.
 #[derive(Clone, Copy, Debug, PartialEq, Eq)]

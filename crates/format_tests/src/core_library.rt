@@ -1,4 +1,4 @@
-use core_table::{CoreKind, CoreName, CoreParams, core, kind_of};
+use il_base::core_table::{CoreKind, CoreName, CoreParams, core, kind_of};
 use std::test::Fail;
 
 /// The record is made, with memory enough, and has the library's name, Object's row and the row of `Console.Read`.

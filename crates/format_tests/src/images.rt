@@ -1,5 +1,5 @@
-use cli_format::{NOT_IL_ONLY, NOT_PE, TRUNCATED};
 use il_base::BadAt;
+use il_base::cli_format::{NOT_IL_ONLY, NOT_PE, TRUNCATED};
 use pe_image::*;
 use std::alloc::{AllocError, Global};
 use std::test::Fail;

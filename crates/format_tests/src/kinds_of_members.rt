@@ -1,4 +1,4 @@
-use annotations::Dam;
+use attr_blobs::annotations::Dam;
 use bitflags::Flags;
 use std::test::Fail;
 

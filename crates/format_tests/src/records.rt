@@ -1,9 +1,9 @@
 ghost use Rattle.std.specs.Prelude.{◌<◌, length};
 
+use il_base::world_model::{AsmRec, BadKind, Known, MethodDefRow};
 use il_base::{BadAt, Operand};
 use std::alloc::{AllocError, Global};
 use std::test::*;
-use world_model::{AsmRec, BadKind, Known, MethodDefRow};
 use world_reader::*;
 
 /// Puts a part at a place, as far as the file goes.

@@ -1,7 +1,7 @@
 ghost use Rattle.std.specs.Prelude.{◌≤◌, length};
 
-use blob_grammar::laws;
 use il_base::Sig;
+use il_base::blob_grammar::laws;
 use sig_blobs::*;
 use std::alloc::Global;
 use std::test::Fail;

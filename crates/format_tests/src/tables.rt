@@ -1,5 +1,5 @@
-use cli_format::{BAD_HEAP, BAD_STREAM, LIST_ORDER, ROW_OUT_OF_RANGE};
 use il_base::BadAt;
+use il_base::cli_format::{BAD_HEAP, BAD_STREAM, LIST_ORDER, ROW_OUT_OF_RANGE};
 use meta_tables::*;
 use std::alloc::Global;
 use std::test::Fail;

@@ -1,7 +1,7 @@
+use il_base::world_model::{AsmRec, Known, TypeDefRow, TypeExpr, World, prim_of, prim_type};
 use il_base::{AsmId, Boxed, NoMemory, Seq, Sig, Text, TypeId};
 use std::alloc::Global;
 use std::test::Fail;
-use world_model::{AsmRec, Known, TypeDefRow, TypeExpr, World, prim_of, prim_type};
 
 const INT32: u8 = 0x08;
 

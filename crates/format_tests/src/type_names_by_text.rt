@@ -1,9 +1,9 @@
 use attr_blobs::TypeName;
+use il_base::world_model::{AsmRec, AssemblyRow, NestedClassRow, TypeDefRow, TypeExpr};
 use il_base::{AsmId, Boxed, NoMemory, Seq, TypeId};
 use std::alloc::Global;
 use std::test::Fail;
 use type_names::{TypeNames, text};
-use world_model::{AsmRec, AssemblyRow, NestedClassRow, TypeDefRow, TypeExpr};
 
 /// The rows of an assembly.
 #[derive(Drop)]

@@ -1,13 +1,13 @@
-use core_table::TYPE_COUNT;
-use il_base::{NoMemory, Seq, Sig, Text};
-use link_rules::RowAt;
-use std::alloc::Global;
-use std::test::Fail;
-use type_links::{TypeIndex, TypeName, assembly_named, type_links};
-use world_model::{
+use il_base::core_table::TYPE_COUNT;
+use il_base::world_model::{
     AsmRec, AssemblyRefRow, AssemblyRow, BadKind, ExportedTypeRow, Known, NestedClassRow,
     TypeDefRow, TypeExpr, TypeLink, TypeRefRow, TypeSpecRow,
 };
+use il_base::{NoMemory, Seq, Sig, Text};
+use resolver::type_links::{TypeIndex, TypeName, assembly_named, type_links};
+use rules::link_rules::RowAt;
+use std::alloc::Global;
+use std::test::Fail;
 
 /// A record without rows.
 fn no_rows(alloc: Global) -> AsmRec {

@@ -1,7 +1,7 @@
-use cil_values::{Heap, Obj, Value};
+use il_base::cil_values::{Heap, Obj, Value};
+use il_base::world_model::TypeExpr;
 use il_base::{Seq, TypeId};
 use std::test::Fail;
-use world_model::TypeExpr;
 
 fn is_one(v: &Value) -> bool {
     match v {

@@ -1,6 +1,6 @@
 //! The image of a file of 2048 bytes that prints `Hi`, laid out as the .NET SDK does.
 
-use image_writer::*;
+use record_writer::image_writer::*;
 use std::test::Fail;
 
 /// Whether these bytes stand at a place.

@@ -1,3 +1,9 @@
 pub mod formers
 pub mod Bytes
 pub mod Flags
+pub mod first_places
+pub mod cli_format
+pub mod blob_grammar
+pub mod body_grammar
+pub mod world_model
+pub mod core_table

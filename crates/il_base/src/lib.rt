@@ -3,11 +3,17 @@
 #![tactic(auto)]
 
 mod bits;
+pub mod blob_grammar;
 mod body;
+pub mod body_grammar;
 mod boxed;
+pub mod cil_values;
+pub mod cli_format;
+pub mod core_table;
 mod cursor;
 pub mod element;
 pub mod field_flags;
+pub mod first_places;
 mod flags;
 pub mod generic_flags;
 mod ids;
@@ -24,6 +30,7 @@ mod seq;
 mod sig;
 pub mod table;
 pub mod type_flags;
+pub mod world_model;
 
 pub use bits::Bits;
 pub use body::{Body, Form, Handler, Instr, Operand};

@@ -1,8 +1,8 @@
 -- Reading handler clauses one after another, as a loop does.
 use Rattle.std.proofs.Common.{◌≡◌, ℕ, suc, ◌+◌, ◌-◌, ◌*◌, ◌<◌, ◌≤◌, Bool, List, [], ◌∷◌, ◌++◌, Option, Some, None, Result, Ok, Err, sym, ap, ◌∙◌, arith}
 use Rattle.il_base.specs.declared.body.Handler.{Handler}
-use Rattle.body_grammar.specs.declared.body.Fault.{Fault}
-use Rattle.body_grammar.specs.Bodies.{clause_at, clause_size, clauses_then, clauses_after}
+use Rattle.il_base.specs.declared.body_grammar.body.Fault.{Fault}
+use Rattle.il_base.specs.body_grammar.Bodies.{clause_at, clause_size, clauses_then, clauses_after}
 
 abbrev pub Clauses : Type 0
 Clauses = List Handler × Option Fault

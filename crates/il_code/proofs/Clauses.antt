@@ -2,8 +2,8 @@
 use Rattle.std.proofs.Common.{◌≡◌, ◌⊎◌, inl, inr, ℕ, ◌<◌, ◌≤◌, nat_le, Bool, true, false, not, ◌&&◌, ◌||◌, ◌==◌, refl, sym, arith}
 use Rattle.std.proofs.lemmas.Bool.{cases_eq, le-leb, lt-ltb, eq-eqb, eqb-true, leb-true, ltb-true}
 use Rattle.il_base.specs.declared.body.Handler.{Handler}
-use Rattle.body_grammar.specs.declared.body.Range.{Range}
-use Rattle.body_grammar.specs.HandlerRules.{try_of, handler_of, are_disjoint, lies_in, is_same, lies_strictly_in, nest, nest_apart, ranges_fit, nests_right, fits_beside}
+use Rattle.il_base.specs.declared.body_grammar.body.Range.{Range}
+use Rattle.il_base.specs.body_grammar.HandlerRules.{try_of, handler_of, are_disjoint, lies_in, is_same, lies_strictly_in, nest, nest_apart, ranges_fit, nests_right, fits_beside}
 use Rattle.il_code.specs.declared.blocks.Block.{Block}
 use Rattle.il_code.specs.Blocks.{try_block, handler_block, Ends, Holds, HoldsHandler, IsSame}
 use Rattle.il_code.specs.Nesting.{StandsAlone}

@@ -2,10 +2,10 @@
 use Rattle.std.proofs.Common.{◌≡◌, ℕ, zero, suc, ◌+◌, ◌<◌, ◌≤◌, List, [], ◌∷◌, ◌++◌, length, drop, Result, Ok, sym, ap, ◌∙◌, arith}
 use Rattle.std.proofs.lemmas.List.{drop-drop, length-drop, drop_all}
 use Rattle.il_base.specs.declared.body.Instr.{Instr}
-use Rattle.body_grammar.specs.declared.body.Fault.{Fault}
-use Rattle.body_grammar.specs.Faults.{◌>>=◌}
-use Rattle.body_grammar.specs.Instructions.{instr_at, code_after}
-use Rattle.body_grammar.proofs.WrittenCode.{code_step, no_more}
+use Rattle.il_base.specs.declared.body_grammar.body.Fault.{Fault}
+use Rattle.il_base.specs.body_grammar.Faults.{◌>>=◌}
+use Rattle.il_base.specs.body_grammar.Instructions.{instr_at, code_after}
+use Rattle.il_base.proofs.lemmas.body_grammar.WrittenCode.{code_step, no_more}
 use Rattle.il_code.specs.declared.error.BodyError.{BodyError}
 use Rattle.il_code.specs.declared.error.BodyError.TheVariants as error
 use Rattle.il_code.specs.Gives.{Fails}

@@ -5,10 +5,10 @@ use Rattle.byteorder.specs.Endian.{little_bytes}
 use Rattle.il_base.specs.declared.body.Instr.{Instr}
 use Rattle.il_base.specs.declared.body.Operand.{Operand}
 use Rattle.il_base.specs.declared.body.Operand.TheVariants as operand
-use Rattle.body_grammar.specs.declared.body.Inline.{Inline}
-use Rattle.body_grammar.specs.declared.body.Inline.TheVariants.{ShortInlineVar, InlineVar, ShortInlineI, InlineI, InlineI8, InlineTok, ShortInlineBrTarget, InlineBrTarget, InlineSwitch}
-use Rattle.body_grammar.specs.Opcodes.{kind_of}
-use Rattle.body_grammar.specs.BodySpelling.{distance, distances, operand_bytes, inline_in, opcode_size, opcode_bytes, instr_bytes}
+use Rattle.il_base.specs.declared.body_grammar.body.Inline.{Inline}
+use Rattle.il_base.specs.declared.body_grammar.body.Inline.TheVariants.{ShortInlineVar, InlineVar, ShortInlineI, InlineI, InlineI8, InlineTok, ShortInlineBrTarget, InlineBrTarget, InlineSwitch}
+use Rattle.il_base.specs.body_grammar.Opcodes.{kind_of}
+use Rattle.il_base.specs.body_grammar.BodySpelling.{distance, distances, operand_bytes, inline_in, opcode_size, opcode_bytes, instr_bytes}
 use Rattle.il_code.specs.Lengths.{operand_size}
 
 length_distances : (end : ℕ) (ts : List ℕ) → length (distances end ts) ≡ 4 * length ts

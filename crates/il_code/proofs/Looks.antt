@@ -3,8 +3,8 @@ use Rattle.std.proofs.Common.{◌≡◌, ◌⊎◌, inl, inr, ℕ, zero, suc, �
 use Rattle.std.specs.List.{slice_get, Contains}
 use Rattle.std.proofs.lemmas.Bool.{leb-true, eqb-true, eqb-false}
 use Rattle.std.proofs.lemmas.Option.{slice_get_cases}
-use Rattle.body_grammar.specs.declared.body.Range.{Range}
-use Rattle.body_grammar.specs.HandlerRules.{lies_in, is_same}
+use Rattle.il_base.specs.declared.body_grammar.body.Range.{Range}
+use Rattle.il_base.specs.body_grammar.HandlerRules.{lies_in, is_same}
 use Rattle.il_code.specs.declared.blocks.Block.{Block}
 
 -- ---- tests

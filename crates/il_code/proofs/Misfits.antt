@@ -8,7 +8,7 @@ use Rattle.std.proofs.lemmas.List.{at_drop_more}
 use Rattle.std.proofs.lemmas.List.Sorted.{Contains-permutation, IsPermutation-sym}
 use Rattle.std.proofs.lemmas.Option.{slice_get_within, slice_get-get_or, slice_get-map, get_or_from_slice_get}
 use Rattle.il_base.specs.declared.body.Handler.{Handler}
-use Rattle.body_grammar.specs.HandlerRules.{fits_beside, fits_beside_all}
+use Rattle.il_base.specs.body_grammar.HandlerRules.{fits_beside, fits_beside_all}
 use Rattle.il_code.specs.declared.blocks.Block.{Block}
 use Rattle.il_code.specs.Blocks.{most, try_block, handler_block, blocks_from, turned, IsBounded, AreBounded, AreOrdered, IsSame, FailsBy, MayShare, IsIn}
 use Rattle.il_code.specs.Nesting.{IsFirstAlike, IsFirstWithin, IsFirstMisfit, StandsAlone}

@@ -5,7 +5,7 @@ use Rattle.std.proofs.lemmas.Bool.{eqb-true}
 use Rattle.std.proofs.lemmas.List.{at_drop_more, at_drop_all}
 use Rattle.std.proofs.lemmas.Option.{slice_get-get_or}
 use Rattle.il_base.specs.declared.body.Handler.{Handler}
-use Rattle.body_grammar.specs.HandlerRules.{try_of, handler_of, are_disjoint, is_same, fits_beside_all, is_range, is_clause, meets_rules, offender_from, offender}
+use Rattle.il_base.specs.body_grammar.HandlerRules.{try_of, handler_of, are_disjoint, is_same, fits_beside_all, is_range, is_clause, meets_rules, offender_from, offender}
 use Rattle.il_code.specs.Nesting.{StandsAlone, IsFirstMisfit}
 
 -- ---- one clause

@@ -2,7 +2,7 @@
 use Rattle.std.proofs.Common.{◌≡◌, ◌⊎◌, inl, inr, ℕ, ◌+◌, ◌<◌, ◌≤◌, min, Bool, true, false, ◌||◌, ◌&&◌, ◌==◌, List, Some, refl, sym, ap, subst, ◌∙◌, arith, if◌then◌else◌}
 use Rattle.std.specs.List.{slice_get}
 use Rattle.std.proofs.lemmas.Bool.{cases_eq, cases_lt, eq-eqb, eqb-true}
-use Rattle.body_grammar.specs.HandlerRules.{is_same}
+use Rattle.il_base.specs.body_grammar.HandlerRules.{is_same}
 use Rattle.il_code.specs.declared.blocks.Block.{Block}
 use Rattle.il_code.specs.Blocks.{most, IsSame, Before, MayShare, may_share, clash, AreOrdered, IsRun, IsIn}
 use Rattle.il_code.specs.Nesting.{IsFirstAlike}

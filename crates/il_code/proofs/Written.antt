@@ -6,10 +6,10 @@ use Rattle.std.proofs.lemmas.List.Elements.{All-from_recursion}
 use Rattle.il_base.specs.declared.body.Instr.{Instr}
 use Rattle.il_base.specs.declared.body.Operand.{Operand}
 use Rattle.il_base.specs.declared.body.Operand.TheVariants as operand
-use Rattle.body_grammar.specs.declared.body.Inline.{Inline}
-use Rattle.body_grammar.specs.declared.body.Inline.TheVariants.{InlineNone, FixedSlot, FixedNumber, ShortInlineVar, InlineVar, ShortInlineI, InlineI, InlineI8, InlineTok, ShortInlineBrTarget, InlineBrTarget, InlineSwitch}
-use Rattle.body_grammar.specs.Opcodes.{kind_of}
-use Rattle.body_grammar.specs.BodySpelling.{IsOperand, IsCode, inline_in, opcode_size, instr_bytes, targets_fit}
+use Rattle.il_base.specs.declared.body_grammar.body.Inline.{Inline}
+use Rattle.il_base.specs.declared.body_grammar.body.Inline.TheVariants.{InlineNone, FixedSlot, FixedNumber, ShortInlineVar, InlineVar, ShortInlineI, InlineI, InlineI8, InlineTok, ShortInlineBrTarget, InlineBrTarget, InlineSwitch}
+use Rattle.il_base.specs.body_grammar.Opcodes.{kind_of}
+use Rattle.il_base.specs.body_grammar.BodySpelling.{IsOperand, IsCode, inline_in, opcode_size, instr_bytes, targets_fit}
 
 -- one zero more
 pub zeros_more : (place i : ℕ) (zeros bs : List ℕ) → place ≤ i → zeros ≡ bs ++ replicate (i - place) 0 → zeros ++ 0 ∷ [] ≡ bs ++ replicate (i + 1 - place) 0

@@ -2,8 +2,8 @@
 use Rattle.std.specs.Prelude.{◌≡◌, ◌⊎◌, ℕ, ◌+◌, ◌-◌, ◌<◌, ◌≤◌, min, Bool, true, false, ◌&&◌, ◌||◌, ◌==◌, List, [], ◌∷◌, Some, if◌then◌else◌}
 use Rattle.std.specs.List.{slice_get}
 use Rattle.il_base.specs.declared.body.Handler.{Handler}
-use Rattle.body_grammar.specs.declared.body.Range.{Range}
-use Rattle.body_grammar.specs.HandlerRules.{try_of, handler_of}
+use Rattle.il_base.specs.declared.body_grammar.body.Range.{Range}
+use Rattle.il_base.specs.body_grammar.HandlerRules.{try_of, handler_of}
 use Rattle.il_code.specs.declared.blocks.Block.{Block}
 
 -- ---- blocks

@@ -1,8 +1,8 @@
 -- What a reader answers, beside what the grammar gives.
 use Rattle.std.specs.Prelude.{◌≡◌, ℕ, Result, Ok, Err}
 use Rattle.il_base.specs.declared.body.Body.{Body}
-use Rattle.body_grammar.specs.declared.body.Fault.{Fault}
-use Rattle.body_grammar.specs.Faults.{fault}
+use Rattle.il_base.specs.declared.body_grammar.body.Fault.{Fault}
+use Rattle.il_base.specs.body_grammar.Faults.{fault}
 use Rattle.il_code.specs.declared.error.BodyError.{BodyError}
 use Rattle.il_code.specs.declared.error.BodyError.TheVariants as error
 use Rattle.il_code.specs.declared.error.ReadBody.{ReadBody}

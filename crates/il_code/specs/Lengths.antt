@@ -2,8 +2,8 @@
 use Rattle.std.specs.Prelude.{ℕ, ◌+◌, ◌*◌, ◌%◌, length}
 use Rattle.il_base.specs.declared.body.Operand.{Operand}
 use Rattle.il_base.specs.declared.body.Operand.TheVariants as operand
-use Rattle.body_grammar.specs.declared.body.Inline.{Inline}
-use Rattle.body_grammar.specs.declared.body.Inline.TheVariants.{ShortInlineVar, InlineVar, ShortInlineI, InlineI, InlineI8, InlineTok, ShortInlineBrTarget, InlineBrTarget, InlineSwitch}
+use Rattle.il_base.specs.declared.body_grammar.body.Inline.{Inline}
+use Rattle.il_base.specs.declared.body_grammar.body.Inline.TheVariants.{ShortInlineVar, InlineVar, ShortInlineI, InlineI, InlineI8, InlineTok, ShortInlineBrTarget, InlineBrTarget, InlineSwitch}
 
 abbrev pub operand_size : Inline → Operand → ℕ
 operand_size ShortInlineVar (operand.Slot n) = 1

@@ -2,7 +2,7 @@
 use Rattle.std.specs.Prelude.{◌≡◌, ◌⊎◌, ℕ, ◌<◌, true, false, not, ◌&&◌, List, Some}
 use Rattle.std.specs.List.{slice_get}
 use Rattle.il_base.specs.declared.body.Handler.{Handler}
-use Rattle.body_grammar.specs.HandlerRules.{try_of, handler_of, are_disjoint, is_same, fits_beside_all}
+use Rattle.il_base.specs.body_grammar.HandlerRules.{try_of, handler_of, are_disjoint, is_same, fits_beside_all}
 use Rattle.il_code.specs.declared.blocks.Block.{Block}
 use Rattle.il_code.specs.Blocks.{most, IsSame, StandsBy, FailsBy, MayShare, IsIn}
 

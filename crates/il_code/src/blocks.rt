@@ -3,7 +3,7 @@ ghost use Rattle.std.specs.List.Sorted.{IsPermutation};
 ghost use Rattle.il_code.specs.Blocks.{try_block, handler_block, blocks_from, most, turned_range, turned, IsBounded, AreBounded, AreOrdered};
 
 use crate::rules::{handler_of, try_of};
-use body_grammar::Range;
+use il_base::body_grammar::Range;
 use il_base::{Handler, NoMemory};
 use std::alloc::Global;
 use std::cmp::Reverse;

@@ -1,6 +1,6 @@
 ghost use Rattle.std.specs.Prelude.{◌≡◌};
 
-use body_grammar::Fault;
+use il_base::body_grammar::Fault;
 use il_base::{Body, NoMemory};
 
 /// Why bytes have no body at their front.

@@ -1,8 +1,8 @@
 ghost use Rattle.std.specs.Prelude.{◌≡◌, ◌+◌, ◌≤◌, ◌<◌, ◌^◌, length, IfOk};
-ghost use Rattle.body_grammar.specs.Faults.{fault};
-ghost use Rattle.body_grammar.specs.Bodies.{field_at, flags_of, fat_at, header_at, header_size};
+ghost use Rattle.il_base.specs.body_grammar.Faults.{fault};
+ghost use Rattle.il_base.specs.body_grammar.Bodies.{field_at, flags_of, fat_at, header_at, header_size};
 
-use body_grammar::{BODY, Fault, Header};
+use il_base::body_grammar::{BODY, Fault, Header};
 use il_base::{u8_at, u16_at, u32_at};
 
 /// The byte at `at`.
@@ -53,7 +53,7 @@ fn cut(bytes: &[u8]) -> Fault
 }
 
 /// InitLocals and MoreSects of a fat header, by the low byte of its flags.
-#[tactic(auto, unfolding(body_grammar::specs::Bodies::flags_of))]
+#[tactic(auto, unfolding(il_base::specs::body_grammar::Bodies::flags_of))]
 fn flags(first: u8) -> Option<(bool, bool)>
     ensures { result ≡ flags_of first }
 {
@@ -67,7 +67,7 @@ fn flags(first: u8) -> Option<(bool, bool)>
 }
 
 /// A header of twelve bytes (II.25.4.3).
-#[tactic(auto, unfolding(body_grammar::specs::Bodies::fat_at))]
+#[tactic(auto, unfolding(il_base::specs::body_grammar::Bodies::fat_at))]
 fn fat_header(first: u8, bytes: &[u8]) -> Result<Header, Fault>
     requires { length bytes.now < 2 ^ 32 }
     ensures exact { result ≡ fat_at first bytes.now }
@@ -94,7 +94,7 @@ fn fat_header(first: u8, bytes: &[u8]) -> Result<Header, Fault>
 }
 
 /// The header at the front of a body (II.25.4.1), or the first fault in it.
-#[tactic(auto, unfolding(body_grammar::specs::Bodies::header_at))]
+#[tactic(auto, unfolding(il_base::specs::body_grammar::Bodies::header_at))]
 pub fn read_header(bytes: &[u8]) -> Result<Header, Fault>
     requires { length bytes.now < 2 ^ 32 }
     ensures exact { result ≡ header_at bytes.now }

@@ -1,17 +1,17 @@
 ghost use Rattle.std.specs.Prelude.{◌≡◌, ◌+◌, ◌*◌, ◌≤◌, ◌<◌, ◌^◌, drop, length, IfOk, IfSome, option_map};
 ghost use Rattle.il_base.specs.Bytes.{number_at};
-ghost use Rattle.body_grammar.specs.Instructions as grammar;
+ghost use Rattle.il_base.specs.body_grammar.Instructions as grammar;
 ghost use Rattle.il_code.specs.Gives.{Gives, same};
 
 use crate::error::BodyError;
 use crate::opcodes::{float, kind};
-use body_grammar::{BODY, FLOAT, Fault, INSTRUCTION, Inline};
 use byteorder::{ByteOrder, LittleEndian};
+use il_base::body_grammar::{BODY, FLOAT, Fault, INSTRUCTION, Inline};
 use il_base::{Form, Instr, NoMemory, Operand, Seq, u8_at, u16_at, u32_at, u64_at};
 use std::alloc::Global;
 
 /// The opcode at the front, and how many bytes it has. `place` is that of the instruction.
-#[tactic(auto, unfolding(body_grammar::specs::Instructions::opcode_at))]
+#[tactic(auto, unfolding(il_base::specs::body_grammar::Instructions::opcode_at))]
 fn opcode(code: &[u8], place: u32) -> Result<(u16, usize), Fault>
     ensures exact { result ≡ grammar.opcode_at place code.now }
     ensures within { IfOk result (λ r. (0 < r.1) × (r.1 ≤ length code.now)) }
@@ -35,7 +35,7 @@ fn opcode(code: &[u8], place: u32) -> Result<(u16, usize), Fault>
 }
 
 /// The form and the inline argument of an opcode, or why it has no reading.
-#[tactic(auto, unfolding(body_grammar::specs::Instructions::kind_at))]
+#[tactic(auto, unfolding(il_base::specs::body_grammar::Instructions::kind_at))]
 fn known(place: u32, opcode: u16) -> Result<(Form, Inline), Fault>
     ensures { result ≡ grammar.kind_at place opcode }
 {
@@ -80,7 +80,7 @@ fn targets(alloc: Global, count: u32, end: u32, bytes: &[u8]) -> Result<Seq<u32>
 }
 
 /// The targets of a switch whose opcode ends at `next`, and how many bytes they take.
-#[tactic(auto, unfolding(body_grammar::specs::Instructions::switch_at))]
+#[tactic(auto, unfolding(il_base::specs::body_grammar::Instructions::switch_at))]
 fn switch(alloc: Global, next: u32, bytes: &[u8]) -> Result<Option<(Operand, usize)>, NoMemory>
     requires { next + length bytes.now < 2 ^ 32 }
     ensures exact { IfOk result (λ o. o ≡ grammar.switch_at next bytes.now) }
@@ -98,7 +98,7 @@ fn switch(alloc: Global, next: u32, bytes: &[u8]) -> Result<Option<(Operand, usi
 }
 
 /// The operand of an opcode that ends at `next`, and how many of the bytes behind it are its own.
-#[tactic(auto, unfolding(body_grammar::specs::Instructions::operand_at))]
+#[tactic(auto, unfolding(il_base::specs::body_grammar::Instructions::operand_at))]
 fn operand(
     alloc: Global,
     inline: Inline,
@@ -140,7 +140,7 @@ fn operand(
 }
 
 /// The instruction at the front, by its IL offset and its place, and how many bytes it takes.
-#[tactic(auto, unfolding(body_grammar::specs::Instructions::instr_at))]
+#[tactic(auto, unfolding(il_base::specs::body_grammar::Instructions::instr_at))]
 fn instruction(alloc: Global, at: u32, place: u32, code: &[u8]) -> Result<(Instr, usize), BodyError>
     requires { at + length code.now < 2 ^ 32 }
     ensures gives { Gives same result (grammar.instr_at at place code.now) }

@@ -1,11 +1,11 @@
 ghost use Rattle.std.specs.Prelude.{◌≡◌};
-ghost use Rattle.body_grammar.specs.Opcodes.{kind_in, kind_of, or_else, is_float, variables, constants, branches, arithmetic, objects, arrays, indirect};
+ghost use Rattle.il_base.specs.body_grammar.Opcodes.{kind_in, kind_of, or_else, is_float, variables, constants, branches, arithmetic, objects, arrays, indirect};
 
-use body_grammar::Inline;
 use il_base::Form;
+use il_base::body_grammar::Inline;
 
 /// Arguments and locals.
-#[tactic(auto, unfolding(body_grammar::specs::Opcodes::variables))]
+#[tactic(auto, unfolding(il_base::specs::body_grammar::Opcodes::variables))]
 fn variable(opcode: u16) -> Option<(Form, Inline)>
     ensures { result ≡ kind_in variables opcode }
 {
@@ -30,7 +30,7 @@ fn variable(opcode: u16) -> Option<(Form, Inline)>
 }
 
 /// Constants, and what only moves the stack.
-#[tactic(auto, unfolding(body_grammar::specs::Opcodes::constants))]
+#[tactic(auto, unfolding(il_base::specs::body_grammar::Opcodes::constants))]
 fn constant(opcode: u16) -> Option<(Form, Inline)>
     ensures { result ≡ kind_in constants opcode }
 {
@@ -50,7 +50,7 @@ fn constant(opcode: u16) -> Option<(Form, Inline)>
 }
 
 /// Branches.
-#[tactic(auto, unfolding(body_grammar::specs::Opcodes::branches))]
+#[tactic(auto, unfolding(il_base::specs::body_grammar::Opcodes::branches))]
 fn branch(opcode: u16) -> Option<(Form, Inline)>
     ensures { result ≡ kind_in branches opcode }
 {
@@ -68,7 +68,7 @@ fn branch(opcode: u16) -> Option<(Form, Inline)>
 }
 
 /// Arithmetic.
-#[tactic(auto, unfolding(body_grammar::specs::Opcodes::arithmetic))]
+#[tactic(auto, unfolding(il_base::specs::body_grammar::Opcodes::arithmetic))]
 fn operation(opcode: u16) -> Option<(Form, Inline)>
     ensures { result ≡ kind_in arithmetic opcode }
 {
@@ -82,7 +82,7 @@ fn operation(opcode: u16) -> Option<(Form, Inline)>
 }
 
 /// Calls, exceptions, objects, and the prefixes.
-#[tactic(auto, unfolding(body_grammar::specs::Opcodes::objects))]
+#[tactic(auto, unfolding(il_base::specs::body_grammar::Opcodes::objects))]
 fn object(opcode: u16) -> Option<(Form, Inline)>
     ensures { result ≡ kind_in objects opcode }
 {
@@ -103,7 +103,7 @@ fn object(opcode: u16) -> Option<(Form, Inline)>
 }
 
 /// Arrays.
-#[tactic(auto, unfolding(body_grammar::specs::Opcodes::arrays))]
+#[tactic(auto, unfolding(il_base::specs::body_grammar::Opcodes::arrays))]
 fn array(opcode: u16) -> Option<(Form, Inline)>
     ensures { result ≡ kind_in arrays opcode }
 {
@@ -118,7 +118,7 @@ fn array(opcode: u16) -> Option<(Form, Inline)>
 }
 
 /// What a managed reference leads to.
-#[tactic(auto, unfolding(body_grammar::specs::Opcodes::indirect))]
+#[tactic(auto, unfolding(il_base::specs::body_grammar::Opcodes::indirect))]
 fn reference(opcode: u16) -> Option<(Form, Inline)>
     ensures { result ≡ kind_in indirect opcode }
 {
@@ -142,7 +142,7 @@ fn either(first: Option<(Form, Inline)>, other: Option<(Form, Inline)>) -> Optio
 }
 
 /// The form and the inline argument of an opcode, None where it has no reading.
-#[tactic(auto, unfolding(body_grammar::specs::Opcodes::kind_of))]
+#[tactic(auto, unfolding(il_base::specs::body_grammar::Opcodes::kind_of))]
 pub fn kind(opcode: u16) -> Option<(Form, Inline)>
     ensures { result ≡ kind_of opcode }
 {
@@ -153,7 +153,7 @@ pub fn kind(opcode: u16) -> Option<(Form, Inline)>
 }
 
 /// Whether the opcode is one of floating-point numbers.
-#[tactic(auto, unfolding(body_grammar::specs::Opcodes::is_float))]
+#[tactic(auto, unfolding(il_base::specs::body_grammar::Opcodes::is_float))]
 pub fn float(opcode: u16) -> bool
     ensures { result ≡ is_float opcode }
 {

@@ -1,6 +1,6 @@
 ghost use Rattle.std.specs.Prelude.{◌≡◌, ℕ, ◌+◌, ◌≤◌, ◌<◌, ◌^◌, ◌++◌, List, length, take, drop, Ok, IfOk};
-ghost use Rattle.body_grammar.specs.Bodies as grammar;
-ghost use Rattle.body_grammar.specs.BodySpelling.{IsSpelledBy};
+ghost use Rattle.il_base.specs.body_grammar.Bodies as grammar;
+ghost use Rattle.il_base.specs.body_grammar.BodySpelling.{IsSpelledBy};
 ghost use Rattle.il_base.specs.declared.body.Body.{Body};
 ghost use Rattle.il_code.specs.Gives.{Gives, whole};
 
@@ -8,7 +8,7 @@ use crate::error::{BodyError, ReadBody};
 use crate::header::read_header;
 use crate::instructions::code;
 use crate::section::handlers;
-use body_grammar::{BODY, Header};
+use il_base::body_grammar::{BODY, Header};
 use il_base::{Body, Handler, Instr, Seq};
 use std::alloc::Global;
 
@@ -82,7 +82,7 @@ fn with_handlers(
 }
 
 /// The body at the front, by the grammar's reading.
-#[tactic(auto, unfolding(body_grammar::specs::Bodies::body_at))]
+#[tactic(auto, unfolding(il_base::specs::body_grammar::Bodies::body_at))]
 fn body(alloc: Global, bytes: &[u8]) -> Result<ReadBody, BodyError>
     requires { length bytes.now < 2 ^ 32 }
     ensures { Gives whole result (grammar.body_at bytes.now) }

@@ -1,9 +1,9 @@
 ghost use Rattle.std.specs.Prelude.{◌≡◌, ℕ, ◌<◌, ◌^◌, length, get_or, true, false, IfOk, IfSome};
-ghost use Rattle.body_grammar.specs.HandlerRules as nesting;
+ghost use Rattle.il_base.specs.body_grammar.HandlerRules as nesting;
 ghost use Rattle.il_code.specs.Nesting.{IsFirstMisfit};
 
 use crate::nesting::first_misfit;
-use body_grammar::Range;
+use il_base::body_grammar::Range;
 use il_base::{Handler, Instr, NoMemory, Seq};
 use std::alloc::Global;
 
@@ -56,7 +56,7 @@ fn is_start(starts: &[bool], at: u64) -> bool
 }
 
 /// Whether a range begins at an instruction, and ends at one or at the end of the code.
-#[tactic(auto, unfolding(body_grammar::specs::HandlerRules::is_range))]
+#[tactic(auto, unfolding(il_base::specs::body_grammar::HandlerRules::is_range))]
 fn is_range(starts: &[bool], size: u32, r: Range) -> bool
     ensures { result ≡ nesting.is_range (λ k. get_or starts.now k false) size r }
 {
@@ -64,7 +64,7 @@ fn is_range(starts: &[bool], size: u32, r: Range) -> bool
 }
 
 /// Whether a clause keeps what it has to keep by itself.
-#[tactic(auto, unfolding(body_grammar::specs::HandlerRules::is_clause))]
+#[tactic(auto, unfolding(il_base::specs::body_grammar::HandlerRules::is_clause))]
 fn is_clause(starts: &[bool], size: u32, h: Handler) -> bool
     ensures { result ≡ nesting.is_clause (λ k. get_or starts.now k false) size h }
 {

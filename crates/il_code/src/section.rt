@@ -1,16 +1,16 @@
 ghost use Rattle.std.specs.Prelude.{◌≡◌, ◌+◌, ◌*◌, ◌≤◌, ◌<◌, ◌^◌, [], length, IfOk, IfNone};
-ghost use Rattle.body_grammar.specs.Bodies as grammar;
+ghost use Rattle.il_base.specs.body_grammar.Bodies as grammar;
 ghost use Rattle.il_code.specs.Gives.{Gives, same};
 
 use crate::error::BodyError;
 use crate::header::{byte, half, word};
 use crate::rules::offender;
-use body_grammar::{BODY, FILTER, Fault};
+use il_base::body_grammar::{BODY, FILTER, Fault};
 use il_base::{Handler, Instr, NoMemory, Seq};
 use std::alloc::Global;
 
 /// The number of clauses of a small section at `at`.
-#[tactic(auto, unfolding(body_grammar::specs::Bodies::small_section_at))]
+#[tactic(auto, unfolding(il_base::specs::body_grammar::Bodies::small_section_at))]
 fn small_section(at: usize, bytes: &[u8]) -> Result<u32, Fault>
     requires bytes { length bytes.now < 2 ^ 32 }
     requires at { at < 2 ^ 34 }
@@ -29,7 +29,7 @@ fn small_section(at: usize, bytes: &[u8]) -> Result<u32, Fault>
 }
 
 /// The number of clauses of a fat section at `at`.
-#[tactic(auto, unfolding(body_grammar::specs::Bodies::fat_section_at))]
+#[tactic(auto, unfolding(il_base::specs::body_grammar::Bodies::fat_section_at))]
 fn fat_section(at: usize, bytes: &[u8]) -> Result<u32, Fault>
     requires bytes { length bytes.now < 2 ^ 32 }
     requires at { at < 2 ^ 34 }
@@ -56,7 +56,7 @@ fn fat_section(at: usize, bytes: &[u8]) -> Result<u32, Fault>
 }
 
 /// Whether the section at `at` is fat, and how many clauses it has.
-#[tactic(auto, unfolding(body_grammar::specs::Bodies::section_at))]
+#[tactic(auto, unfolding(il_base::specs::body_grammar::Bodies::section_at))]
 fn section(at: usize, bytes: &[u8]) -> Result<(bool, u32), Fault>
     requires bytes { length bytes.now < 2 ^ 32 }
     requires at { at < 2 ^ 34 }
@@ -81,7 +81,7 @@ fn section(at: usize, bytes: &[u8]) -> Result<(bool, u32), Fault>
 }
 
 /// The byte at `at`, which is 0.
-#[tactic(auto, unfolding(body_grammar::specs::Bodies::zero_at))]
+#[tactic(auto, unfolding(il_base::specs::body_grammar::Bodies::zero_at))]
 fn zero(bytes: &[u8], at: usize) -> Result<u8, Fault>
     requires { length bytes.now < 2 ^ 32 }
     ensures { result ≡ grammar.zero_at at bytes.now }
@@ -98,7 +98,7 @@ fn zero(bytes: &[u8], at: usize) -> Result<u8, Fault>
 }
 
 /// The kind of the clause at `at`.
-#[tactic(auto, unfolding(body_grammar::specs::Bodies::clause_kind_at))]
+#[tactic(auto, unfolding(il_base::specs::body_grammar::Bodies::clause_kind_at))]
 fn clause_kind(bytes: &[u8], at: usize) -> Result<u8, Fault>
     requires { length bytes.now < 2 ^ 32 }
     ensures { result ≡ grammar.clause_kind_at at bytes.now }
@@ -118,7 +118,7 @@ fn clause_kind(bytes: &[u8], at: usize) -> Result<u8, Fault>
 }
 
 /// A clause of 12 bytes.
-#[tactic(auto, unfolding(body_grammar::specs::Bodies::small_clause_at))]
+#[tactic(auto, unfolding(il_base::specs::body_grammar::Bodies::small_clause_at))]
 fn small_clause(bytes: &[u8], at: usize) -> Result<Handler, Fault>
     requires bytes { length bytes.now < 2 ^ 32 }
     requires at { at < 2 ^ 34 }
@@ -143,7 +143,7 @@ fn small_clause(bytes: &[u8], at: usize) -> Result<Handler, Fault>
 }
 
 /// A clause of 24 bytes.
-#[tactic(auto, unfolding(body_grammar::specs::Bodies::fat_clause_at))]
+#[tactic(auto, unfolding(il_base::specs::body_grammar::Bodies::fat_clause_at))]
 fn fat_clause(bytes: &[u8], at: usize) -> Result<Handler, Fault>
     requires bytes { length bytes.now < 2 ^ 32 }
     requires at { at < 2 ^ 34 }
@@ -226,7 +226,7 @@ fn clauses(
 }
 
 /// The handler section at `at`: whether it is fat, its clauses, and where it ends. `size` is the size of the code.
-#[tactic(auto, unfolding(body_grammar::specs::Bodies::handlers_at))]
+#[tactic(auto, unfolding(il_base::specs::body_grammar::Bodies::handlers_at))]
 pub fn handlers(
     alloc: Global,
     code: &[Instr],

@@ -1,12 +1,12 @@
 //! How many bytes an instruction takes, by its opcode and operand (III.1.2).
 
 ghost use Rattle.std.specs.Prelude.{◌≡◌, ◌%◌, ◌^◌, ◌<◌, length};
-ghost use Rattle.body_grammar.specs.BodySpelling as grammar;
-ghost use Rattle.body_grammar.specs.Opcodes.{kind_of};
+ghost use Rattle.il_base.specs.body_grammar.BodySpelling as grammar;
+ghost use Rattle.il_base.specs.body_grammar.Opcodes.{kind_of};
 ghost use Rattle.il_code.specs.Lengths.{operand_size};
 
 use crate::opcodes::kind;
-use body_grammar::Inline;
+use il_base::body_grammar::Inline;
 use il_base::{Instr, Operand};
 
 /// The inline argument of an opcode.

@@ -1,7 +1,7 @@
 ghost use Rattle.std.specs.Prelude.{◌<◌, ◌^◌, length};
 
 use super::*;
-use body_grammar::{BODY, FILTER, FLOAT, INSTRUCTION};
+use il_base::body_grammar::{BODY, FILTER, FLOAT, INSTRUCTION};
 use il_base::{Form, Handler, Instr, NoMemory, Operand};
 use std::test::Fail;
 

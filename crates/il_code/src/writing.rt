@@ -1,12 +1,12 @@
 ghost use Rattle.std.specs.Prelude.{◌≡◌, ◌+◌, ◌*◌, ◌%◌, ◌<◌, ◌≤◌, ◌^◌, ◌∷◌, ◌++◌, [], length, replicate, OnOk, OnErr, IfOk};
 ghost use Rattle.byteorder.specs.Endian.{little_bytes};
-ghost use Rattle.body_grammar.specs.Bodies.{aligned};
-ghost use Rattle.body_grammar.specs.BodySpelling as grammar;
-ghost use Rattle.body_grammar.specs.Opcodes.{kind_of};
+ghost use Rattle.il_base.specs.body_grammar.Bodies.{aligned};
+ghost use Rattle.il_base.specs.body_grammar.BodySpelling as grammar;
+ghost use Rattle.il_base.specs.body_grammar.Opcodes.{kind_of};
 ghost use Rattle.std.specs.List.{All};
 
 use crate::opcodes::kind;
-use body_grammar::Inline;
+use il_base::body_grammar::Inline;
 use il_base::{Body, Handler, Instr, NoMemory, Operand};
 use std::alloc::Global;
 
@@ -71,7 +71,7 @@ fn put_switch(out: &mut Vec<u8>, next: u64, targets: &[u32]) -> Result<(), NoMem
 }
 
 /// Puts the operand of an opcode that ends at `next`.
-#[tactic(auto, unfolding(body_grammar::specs::BodySpelling::operand_bytes))]
+#[tactic(auto, unfolding(il_base::specs::body_grammar::BodySpelling::operand_bytes))]
 fn put_operand(
     out: &mut Vec<u8>,
     inline: Inline,
@@ -103,7 +103,7 @@ fn put_operand(
 }
 
 /// Puts an opcode: one byte, or two where the first is fe.
-#[tactic(auto, unfolding(body_grammar::specs::BodySpelling::opcode_bytes))]
+#[tactic(auto, unfolding(il_base::specs::body_grammar::BodySpelling::opcode_bytes))]
 fn put_opcode(out: &mut Vec<u8>, opcode: u16) -> Result<(), NoMemory>
     ensures { OnOk result (out.new.items ≡ out.old.items ++ grammar.opcode_bytes opcode) }
 {
@@ -133,7 +133,7 @@ fn inline_of(opcode: u16) -> Inline
 }
 
 /// Puts an instruction.
-#[tactic(auto, unfolding(body_grammar::specs::BodySpelling::instr_bytes))]
+#[tactic(auto, unfolding(il_base::specs::body_grammar::BodySpelling::instr_bytes))]
 fn put_instruction(out: &mut Vec<u8>, i: &Instr) -> Result<(), NoMemory>
     requires { grammar.targets_fit i.now.operand }
     ensures { OnOk result (out.new.items ≡ out.old.items ++ grammar.instr_bytes i.now) }
@@ -168,7 +168,7 @@ fn flags(sects: bool, init: bool) -> u8
 }
 
 /// Puts a header, by whether a handler section stands behind the code and by the size of the code.
-#[tactic(auto, unfolding(body_grammar::specs::BodySpelling::header_bytes))]
+#[tactic(auto, unfolding(il_base::specs::body_grammar::BodySpelling::header_bytes))]
 fn put_header(out: &mut Vec<u8>, b: &Body, sects: bool, size: usize) -> Result<(), NoMemory>
     requires { size < 2 ^ 32 }
     ensures { OnOk result (out.new.items ≡ out.old.items ++ grammar.header_bytes b.now sects size) }
@@ -247,7 +247,7 @@ fn put_clauses(out: &mut Vec<u8>, fat: bool, handlers: &[Handler]) -> Result<(),
 }
 
 /// Puts the head of a section with so many clauses.
-#[tactic(auto, unfolding(body_grammar::specs::BodySpelling::section_head))]
+#[tactic(auto, unfolding(il_base::specs::body_grammar::BodySpelling::section_head))]
 fn put_section_head(out: &mut Vec<u8>, fat: bool, count: usize) -> Result<(), NoMemory>
     requires { count < 2 ^ 32 }
     ensures { OnOk result (out.new.items ≡ out.old.items ++ grammar.section_head fat count (0 ∷ 0 ∷ [])) }

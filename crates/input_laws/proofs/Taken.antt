@@ -1,16 +1,16 @@
 -- What is so of the records of files that are taken.
 use Rattle.std.proofs.Common.{◌≡◌, ℕ, zero, suc, List, [], ◌∷◌, map, Option, Some, None, refl, sym}
 use Rattle.std.specs.Prelude.{slice_get}
-use Rattle.cli_format.specs.declared.error.TablesError.{TablesError}
-use Rattle.cli_format.specs.declared.error.TablesError.TheVariants as unread
-use Rattle.cli_format.specs.Demand.{first_fault}
-use Rattle.world_model.specs.declared.record.AsmRec.{AsmRec}
-use Rattle.world_model.specs.Records.{IsRecord}
-use Rattle.record_format.specs.Record.{record_demands, record_at, HasRecord}
-use Rattle.link_rules.specs.declared.link_error.LinkError.{LinkError}
-use Rattle.link_rules.specs.declared.link_error.LinkError.TheVariants as unlinked
-use Rattle.link_rules.specs.Linked.{assemblies, link_fault_of, world_in, world_of}
-use Rattle.world_laws.specs.Inputs.{AreRecords}
+use Rattle.il_base.specs.declared.cli_format.error.TablesError.{TablesError}
+use Rattle.il_base.specs.declared.cli_format.error.TablesError.TheVariants as unread
+use Rattle.il_base.specs.cli_format.Demand.{first_fault}
+use Rattle.il_base.specs.declared.world_model.record.AsmRec.{AsmRec}
+use Rattle.il_base.specs.world_model.Records.{IsRecord}
+use Rattle.rules.specs.record_format.Record.{record_demands, record_at, HasRecord}
+use Rattle.rules.specs.declared.link_rules.link_error.LinkError.{LinkError}
+use Rattle.rules.specs.declared.link_rules.link_error.LinkError.TheVariants as unlinked
+use Rattle.rules.specs.link_rules.Linked.{assemblies, link_fault_of, world_in, world_of}
+use Rattle.base_laws.specs.world_laws.Inputs.{AreRecords}
 use Rattle.inputs.specs.declared.error.InputError.{InputError}
 use Rattle.inputs.specs.Files.{or_fault, limit_fault, unread_as, record_fault, records, unlinked_as, linking_fault, entry_fault, input_fault}
 

@@ -1,11 +1,11 @@
 ghost use Rattle.std.specs.Prelude.{◌≡◌, ℕ, List, None};
 ghost use Rattle.inputs.specs.Files.{input_fault, records};
-ghost use Rattle.link_rules.specs.Linked.{world_of};
-ghost use Rattle.world_laws.specs.Inputs.{AreRecords};
-ghost use Rattle.flaw_laws.specs.There.{RowsThere};
+ghost use Rattle.rules.specs.link_rules.Linked.{world_of};
+ghost use Rattle.base_laws.specs.world_laws.Inputs.{AreRecords};
+ghost use Rattle.base_laws.specs.flaw_laws.There.{RowsThere};
 
-use flaw_laws::laws::flaws_told;
-use record_laws::laws::file_has_record;
+use base_laws::flaw_laws::laws::flaws_told;
+use file_laws::record_laws::laws::file_has_record;
 
 /// Where files meet all demands and link, the record of each keeps the rules of II.22, and in their world the class and the
 /// body of each row of MethodImpl are there.

@@ -4,17 +4,17 @@ use Rattle.std.specs.Option.{is_some}
 use Rattle.il_base.specs.declared.ids.BadAt.{BadAt}
 use Rattle.il_base.specs.declared.limit.TheConstants as limit
 use Rattle.il_base.specs.declared.table.TheConstants.{METHOD_DEF}
-use Rattle.cli_format.specs.declared.error.TablesError.{TablesError}
-use Rattle.cli_format.specs.declared.error.TablesError.TheVariants as unread
-use Rattle.cli_format.specs.Demand.{first_fault}
-use Rattle.world_model.specs.declared.record.AsmRec.{AsmRec}
-use Rattle.world_model.specs.declared.world.World.{World}
-use Rattle.world_model.specs.Tokens.{index_in}
-use Rattle.world_model.specs.Worlds.{row_below}
-use Rattle.record_format.specs.Record.{record_demands, record_at, place_of_row}
-use Rattle.link_rules.specs.declared.link_error.LinkError.{LinkError}
-use Rattle.link_rules.specs.declared.link_error.LinkError.TheVariants as unlinked
-use Rattle.link_rules.specs.Linked.{link_fault_of, world_of}
+use Rattle.il_base.specs.declared.cli_format.error.TablesError.{TablesError}
+use Rattle.il_base.specs.declared.cli_format.error.TablesError.TheVariants as unread
+use Rattle.il_base.specs.cli_format.Demand.{first_fault}
+use Rattle.il_base.specs.declared.world_model.record.AsmRec.{AsmRec}
+use Rattle.il_base.specs.declared.world_model.world.World.{World}
+use Rattle.il_base.specs.world_model.Tokens.{index_in}
+use Rattle.il_base.specs.world_model.Worlds.{row_below}
+use Rattle.rules.specs.record_format.Record.{record_demands, record_at, place_of_row}
+use Rattle.rules.specs.declared.link_rules.link_error.LinkError.{LinkError}
+use Rattle.rules.specs.declared.link_rules.link_error.LinkError.TheVariants as unlinked
+use Rattle.rules.specs.link_rules.Linked.{link_fault_of, world_of}
 use Rattle.inputs.specs.declared.error.InputError.{InputError}
 use Rattle.inputs.specs.declared.error.InputError.TheVariants.{Limit, BadFile, NoEntry, NoMemory}
 

@@ -4,13 +4,13 @@ ghost use Rattle.std.specs.Prelude.{◌+◌, ◌≤◌, ◌<◌, ◌^◌, length
 ghost use Rattle.inputs.specs.Files.{Reads, ReadsOne, ReadsAll, AreShort};
 
 use crate::error::InputError;
+use il_base::world_model::AsmRec;
 use il_base::{NoMemory, Seq, Text};
 use std::alloc::Global;
-use world_model::AsmRec;
 use world_reader::{RecordError, read_record};
 
 /// Puts the record of a file at the end.
-#[tactic(auto, unfolding(cli_format::specs::Metadata::Refused))]
+#[tactic(auto, unfolding(il_base::specs::cli_format::Metadata::Refused))]
 fn push_record(alloc: Global, file: &[u8], i: u32, recs: &mut Seq<AsmRec>) -> Result<(), InputError>
     requires { length file.now < 2 ^ 32 }
     ensures { ReadsOne i file.now recs.old recs.new result }

@@ -6,11 +6,11 @@ ghost use Rattle.inputs.specs.Files.{Takes, LinksFiles, Passes, AreShort, record
 use crate::error::InputError;
 use crate::limits::within_limits;
 use crate::records::read_files;
+use il_base::world_model::{AsmRec, World, index_in};
 use il_base::{BadAt, NoMemory, Seq, Text, table};
-use link_rules::LinkError;
 use resolver::link;
+use rules::link_rules::LinkError;
 use std::alloc::Global;
-use world_model::{AsmRec, World, index_in};
 use world_reader::row_place;
 
 /// The offset of a row in a file, 0 where no row is named.

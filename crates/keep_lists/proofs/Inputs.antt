@@ -4,12 +4,12 @@ use Rattle.std.specs.Prelude.{slice_get}
 use Rattle.std.specs.List.{flat_map}
 use Rattle.std.proofs.lemmas.List.{append-nil}
 use Rattle.il_base.specs.declared.ids.Item.{Item}
-use Rattle.world_model.specs.declared.record.AsmRec.{AsmRec}
-use Rattle.link_rules.specs.Cycles.{listed}
-use Rattle.link_rules.specs.Types.{at_row}
-use Rattle.type_rules.specs.Texts.{row_name, name_at}
-use Rattle.type_rules.specs.Rows.{each_from}
-use Rattle.mark_rules.specs.KeepList.{input_lines}
+use Rattle.il_base.specs.declared.world_model.record.AsmRec.{AsmRec}
+use Rattle.rules.specs.link_rules.Cycles.{listed}
+use Rattle.rules.specs.link_rules.Types.{at_row}
+use Rattle.rules.specs.type_rules.Texts.{row_name, name_at}
+use Rattle.rules.specs.type_rules.Rows.{each_from}
+use Rattle.rules.specs.mark_rules.KeepList.{input_lines}
 
 -- the name of a type in the assembly's place
 pub name_here : (recs : List AsmRec) (a k : ℕ) (rec : AsmRec) → slice_get recs a ≡ Some rec → row_name rec (length rec.type_def) k ≡ name_at recs (at_row a k)

@@ -2,9 +2,9 @@
 use Rattle.std.proofs.Common.{◌≡◌, ℕ, List, [], ◌∷◌, ◌++◌, refl, append_assoc}
 use Rattle.std.specs.Prelude.{codes}
 use Rattle.std.proofs.lemmas.List.{append-nil}
-use Rattle.world_model.specs.declared.record.AsmRec.{AsmRec}
-use Rattle.link_rules.specs.Faults.{own_name}
-use Rattle.mark_rules.specs.KeepList.{line, hex_8}
+use Rattle.il_base.specs.declared.world_model.record.AsmRec.{AsmRec}
+use Rattle.rules.specs.link_rules.Faults.{own_name}
+use Rattle.rules.specs.mark_rules.KeepList.{line, hex_8}
 use Rattle.keep_lists.specs.Lists.{high_digits, low_digits}
 
 pub none_more : {A : Type 0} (out : List A) → out ++ [] ≡ out

@@ -1,6 +1,6 @@
 -- A type and its enclosers, from inside outwards.
 use Rattle.std.specs.Prelude.{ℕ, List, ◌++◌}
-use Rattle.world_model.specs.declared.record.AsmRec.{AsmRec}
+use Rattle.il_base.specs.declared.world_model.record.AsmRec.{AsmRec}
 use Rattle.type_names.specs.Chains.{outer_name, inner_names}
 use Rattle.keep_lists.specs.declared.chain.Chain.{Chain}
 

@@ -2,20 +2,20 @@
 use Rattle.std.specs.Prelude.{◌≡◌, ℕ, suc, List, ◌∷◌, [], codes, ◌/◌, ◌%◌, Bool}
 use Rattle.il_base.specs.declared.ids.Item.{Item}
 use Rattle.il_base.specs.declared.table.TheConstants.{TYPE_DEF, FIELD, METHOD_DEF, EVENT, PROPERTY}
-use Rattle.world_model.specs.declared.members.FieldRow.{FieldRow}
-use Rattle.world_model.specs.declared.members.MethodDefRow.{MethodDefRow}
-use Rattle.world_model.specs.declared.members.PropertyRow.{PropertyRow}
-use Rattle.world_model.specs.declared.members.EventRow.{EventRow}
-use Rattle.world_model.specs.declared.record.AsmRec.{AsmRec}
-use Rattle.world_model.specs.Tokens.{token_of}
-use Rattle.link_rules.specs.Types.{at_row}
-use Rattle.type_rules.specs.Slots.{type_of_method}
-use Rattle.type_rules.specs.Texts.{name_at}
-use Rattle.type_rules.specs.Rows.{owner_of_field}
-use Rattle.mark_rules.specs.Places.{type_item, method_item, field_item, prop_item, event_item}
-use Rattle.mark_rules.specs.Properties.{property_owner, event_owner}
-use Rattle.mark_rules.specs.KeepList.{hex_digit, line_if, member_text, row_in}
-use Rattle.mark_tables.specs.Assemblies.{recs_of, place_of, rec_of, all_of, IsMarker, IsAssembly}
+use Rattle.il_base.specs.declared.world_model.members.FieldRow.{FieldRow}
+use Rattle.il_base.specs.declared.world_model.members.MethodDefRow.{MethodDefRow}
+use Rattle.il_base.specs.declared.world_model.members.PropertyRow.{PropertyRow}
+use Rattle.il_base.specs.declared.world_model.members.EventRow.{EventRow}
+use Rattle.il_base.specs.declared.world_model.record.AsmRec.{AsmRec}
+use Rattle.il_base.specs.world_model.Tokens.{token_of}
+use Rattle.rules.specs.link_rules.Types.{at_row}
+use Rattle.rules.specs.type_rules.Slots.{type_of_method}
+use Rattle.rules.specs.type_rules.Texts.{name_at}
+use Rattle.rules.specs.type_rules.Rows.{owner_of_field}
+use Rattle.rules.specs.mark_rules.Places.{type_item, method_item, field_item, prop_item, event_item}
+use Rattle.rules.specs.mark_rules.Properties.{property_owner, event_owner}
+use Rattle.rules.specs.mark_rules.KeepList.{hex_digit, line_if, member_text, row_in}
+use Rattle.mark_parts.specs.mark_tables.Assemblies.{recs_of, place_of, rec_of, all_of, IsMarker, IsAssembly}
 use Rattle.merge_plan.specs.Kept.{kept_by}
 use Rattle.keep_lists.specs.declared.listed.Listed.{Listed}
 

@@ -1,15 +1,15 @@
 //! The names of types with `+` before the name of a nested type (II.22.32).
 
 ghost use Rattle.std.specs.Prelude.{◌≡◌, ◌++◌, length, IfOk, OnOk};
-ghost use Rattle.type_rules.specs.Texts.{full_name, row_name};
+ghost use Rattle.rules.specs.type_rules.Texts.{full_name, row_name};
 ghost use Rattle.type_names.specs.Chains.{bare_name, own_name, inner_names};
-ghost use Rattle.mark_tables.specs.Assemblies.{rec_of, IsAssembly};
+ghost use Rattle.mark_parts.specs.mark_tables.Assemblies.{rec_of, IsAssembly};
 ghost use Rattle.keep_lists.specs.Chains.{chain_name};
 
+use il_base::world_model::{AsmRec, TypeDefRow};
 use il_base::{NoMemory, Seq, Text};
-use mark_tables::assembly::Assembly;
+use mark_parts::mark_tables::assembly::Assembly;
 use std::alloc::Global;
-use world_model::{AsmRec, TypeDefRow};
 
 /// A type and its enclosers, by their rows from 0.
 #[derive(Drop)]
@@ -21,7 +21,7 @@ struct Chain {
 }
 
 /// A type and its enclosers, at most as many as the assembly has types.
-#[tactic(auto, unfolding(type_rules::specs::Texts::row_name))]
+#[tactic(auto, unfolding(rules::specs::type_rules::Texts::row_name))]
 fn chain_of(alloc: Global, asm: &Assembly<'_>, row: u32) -> Result<Chain, NoMemory>
     requires { IsAssembly asm.now }
     ensures { IfOk result (λ c. chain_name (rec_of asm.now) c ≡ row_name (rec_of asm.now) (length (rec_of asm.now).type_def) row) }

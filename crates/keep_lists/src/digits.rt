@@ -1,7 +1,7 @@
 //! Tokens in hexadecimal.
 
 ghost use Rattle.std.specs.Prelude.{◌≡◌, ◌++◌, ◌<◌, OnOk};
-ghost use Rattle.mark_rules.specs.KeepList.{hex_digit, hex_8};
+ghost use Rattle.rules.specs.mark_rules.KeepList.{hex_digit, hex_8};
 ghost use Rattle.keep_lists.specs.Lists.{high_digits, low_digits};
 
 use il_base::{NoMemory, Text};

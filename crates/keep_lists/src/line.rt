@@ -1,12 +1,12 @@
 //! Lines of a keep list: `ASM:TOKEN KIND TEXT`.
 
 ghost use Rattle.std.specs.Prelude.{◌≡◌, ◌++◌, OnOk};
-ghost use Rattle.link_rules.specs.Faults.{own_name};
-ghost use Rattle.mark_rules.specs.KeepList.{line};
+ghost use Rattle.rules.specs.link_rules.Faults.{own_name};
+ghost use Rattle.rules.specs.mark_rules.KeepList.{line};
 
 use crate::digits::put_token;
+use il_base::world_model::AsmRec;
 use il_base::{NoMemory, Text};
-use world_model::AsmRec;
 
 /// The simple name of an assembly; empty where it has none.
 fn own_name(rec: &AsmRec) -> &[u8]

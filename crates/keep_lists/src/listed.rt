@@ -1,17 +1,17 @@
 //! An assembly whose kept items are listed.
 
 ghost use Rattle.std.specs.Prelude.{◌≡◌, IfOk};
-ghost use Rattle.link_rules.specs.Types.{at_row};
-ghost use Rattle.mark_facts.specs.Kinds.{item_at};
+ghost use Rattle.rules.specs.link_rules.Types.{at_row};
+ghost use Rattle.mark_parts.specs.mark_facts.Kinds.{item_at};
 ghost use Rattle.keep_lists.specs.Lists.{recs_in, place_in, kept_in};
 
 use il_base::NoMemory;
-use link_rules::RowAt;
-use mark_facts::kinds::Kind;
-use mark_facts::rows::item_at;
-use mark_tables::assembly::Assembly;
-use mark_tables::marker::Marker;
+use mark_parts::mark_facts::kinds::Kind;
+use mark_parts::mark_facts::rows::item_at;
+use mark_parts::mark_tables::assembly::Assembly;
+use mark_parts::mark_tables::marker::Marker;
 use merge_plan::KeptItems;
+use rules::link_rules::RowAt;
 
 /// An assembly of a world, with the kept items.
 #[derive(Clone, Copy)]

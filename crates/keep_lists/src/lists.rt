@@ -2,10 +2,10 @@
 
 ghost use Rattle.std.specs.Prelude.{◌≡◌, ◌++◌, length, slice_get, IfOk, OnOk};
 ghost use Rattle.std.specs.List.{flat_map};
-ghost use Rattle.link_rules.specs.Cycles.{listed};
-ghost use Rattle.type_rules.specs.Rows.{each_row};
-ghost use Rattle.mark_rules.specs.KeepList.{lines_of, input_lines, keep_list};
-ghost use Rattle.mark_tables.specs.Assemblies.{all_of, IsMarker};
+ghost use Rattle.rules.specs.link_rules.Cycles.{listed};
+ghost use Rattle.rules.specs.type_rules.Rows.{each_row};
+ghost use Rattle.rules.specs.mark_rules.KeepList.{lines_of, input_lines, keep_list};
+ghost use Rattle.mark_parts.specs.mark_tables.Assemblies.{all_of, IsMarker};
 ghost use Rattle.merge_plan.specs.Kept.{kept_by};
 ghost use Rattle.keep_lists.specs.Lists.{recs_in, place_in, rec_in, kept_in, IsListed};
 
@@ -13,10 +13,10 @@ use crate::listed::Listed;
 use crate::mapped::{put_events, put_properties};
 use crate::members::{put_fields, put_methods, put_types};
 use il_base::{NoMemory, Seq, Text};
-use mark_tables::marker::Marker;
-use member_search::counted::row_of;
+use mark_parts::mark_tables::marker::Marker;
 use merge_plan::KeptItems;
 use std::alloc::Global;
+use type_tables::member_search::counted::row_of;
 
 /// Puts the lines of an assembly's kept items at the end.
 #[tactic(auto, using(crate::proofs::Lines::five_put))]
@@ -83,7 +83,7 @@ fn put_inputs<'a>(
 }
 
 /// The text of the keep list.
-#[tactic(auto, unfolding(mark_rules::specs::KeepList::keep_list))]
+#[tactic(auto, unfolding(rules::specs::mark_rules::KeepList::keep_list))]
 pub fn keep_list<'a>(
     alloc: Global,
     marker: &'a Marker<'a>,

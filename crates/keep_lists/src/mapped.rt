@@ -2,20 +2,20 @@
 
 ghost use Rattle.std.specs.Prelude.{◌≡◌, ◌++◌, suc, codes, OnOk};
 ghost use Rattle.il_base.specs.declared.table.TheConstants.{EVENT, PROPERTY};
-ghost use Rattle.world_model.specs.Tokens.{token_of};
-ghost use Rattle.type_rules.specs.Rows.{each_row};
-ghost use Rattle.mark_rules.specs.Properties.{property_owner, event_owner};
-ghost use Rattle.mark_rules.specs.KeepList.{line, member_text};
+ghost use Rattle.il_base.specs.world_model.Tokens.{token_of};
+ghost use Rattle.rules.specs.type_rules.Rows.{each_row};
+ghost use Rattle.rules.specs.mark_rules.Properties.{property_owner, event_owner};
+ghost use Rattle.rules.specs.mark_rules.KeepList.{line, member_text};
 ghost use Rattle.keep_lists.specs.Lists.{recs_in, place_in, rec_in, kept_in, event_line, property_line, IsListed};
 
 use crate::listed::{Listed, keeps};
 use crate::members::put_member;
+use il_base::world_model::{EventRow, PropertyRow};
 use il_base::{NoMemory, Text, table};
-use mark_facts::kinds::Kind;
-use mark_rows::rows::{event_owner, property_owner};
-use member_search::counted::row_of;
+use mark_parts::mark_facts::kinds::Kind;
+use mark_parts::mark_rows::rows::{event_owner, property_owner};
 use std::alloc::Global;
-use world_model::{EventRow, PropertyRow};
+use type_tables::member_search::counted::row_of;
 
 /// Puts the line of an event in a row, from 0, at the end.
 fn put_event(

@@ -3,25 +3,25 @@
 ghost use Rattle.std.specs.Prelude.{◌≡◌, ◌++◌, suc, codes, OnOk, IfOk};
 ghost use Rattle.std.specs.Option.{option_map};
 ghost use Rattle.il_base.specs.declared.table.TheConstants.{TYPE_DEF, FIELD, METHOD_DEF};
-ghost use Rattle.world_model.specs.Tokens.{token_of};
-ghost use Rattle.link_rules.specs.declared.row_at.RowAt.{RowAt};
-ghost use Rattle.link_rules.specs.Types.{at_row};
-ghost use Rattle.type_rules.specs.Slots.{type_of_method};
-ghost use Rattle.type_rules.specs.Rows.{each_row, owner_of_field};
-ghost use Rattle.type_rules.specs.Texts.{name_at};
-ghost use Rattle.mark_rules.specs.KeepList.{line, member_text, row_in};
+ghost use Rattle.il_base.specs.world_model.Tokens.{token_of};
+ghost use Rattle.rules.specs.declared.link_rules.row_at.RowAt.{RowAt};
+ghost use Rattle.rules.specs.link_rules.Types.{at_row};
+ghost use Rattle.rules.specs.type_rules.Slots.{type_of_method};
+ghost use Rattle.rules.specs.type_rules.Rows.{each_row, owner_of_field};
+ghost use Rattle.rules.specs.type_rules.Texts.{name_at};
+ghost use Rattle.rules.specs.mark_rules.KeepList.{line, member_text, row_in};
 ghost use Rattle.keep_lists.specs.Lists.{recs_in, place_in, rec_in, kept_in, type_line, field_line, method_line, IsListed};
 
 use crate::line::put_line;
 use crate::listed::{Listed, keeps};
 use crate::texts::{member_text, type_text};
+use il_base::world_model::{FieldRow, MethodDefRow, TypeDefRow, token_of};
 use il_base::{NoMemory, Text, table};
-use link_rules::RowAt;
-use mark_facts::kinds::Kind;
-use member_search::counted::row_of;
+use mark_parts::mark_facts::kinds::Kind;
+use rules::link_rules::RowAt;
 use std::alloc::Global;
+use type_tables::member_search::counted::row_of;
 use type_tables::methods::type_of_method;
-use world_model::{FieldRow, MethodDefRow, TypeDefRow, token_of};
 
 /// Puts the line of a member at the end: of the row, from 0, of a table, with the kind's name, its type's row and its name.
 pub(crate) fn put_member(

@@ -2,15 +2,15 @@
 
 ghost use Rattle.std.specs.Prelude.{◌≡◌, ◌++◌, IfOk, OnOk};
 ghost use Rattle.std.specs.List.{flat_map};
-ghost use Rattle.link_rules.specs.Types.{at_row};
-ghost use Rattle.link_rules.specs.Cycles.{listed};
-ghost use Rattle.type_rules.specs.Texts.{name_at};
-ghost use Rattle.mark_rules.specs.KeepList.{member_text};
-ghost use Rattle.mark_tables.specs.Assemblies.{recs_of, place_of, IsAssembly};
+ghost use Rattle.rules.specs.link_rules.Types.{at_row};
+ghost use Rattle.rules.specs.link_rules.Cycles.{listed};
+ghost use Rattle.rules.specs.type_rules.Texts.{name_at};
+ghost use Rattle.rules.specs.mark_rules.KeepList.{member_text};
+ghost use Rattle.mark_parts.specs.mark_tables.Assemblies.{recs_of, place_of, IsAssembly};
 
 use crate::chain::put_name;
 use il_base::{NoMemory, Seq, Text};
-use mark_tables::assembly::Assembly;
+use mark_parts::mark_tables::assembly::Assembly;
 use std::alloc::Global;
 
 /// Puts the name of a type of an assembly, by its row from 0, at the end.

@@ -5,13 +5,13 @@ use Rattle.std.specs.List.{range_with_len, list_any}
 use Rattle.std.specs.Option.{is_some}
 use Rattle.std.proofs.lemmas.Bool.{lt-ltb, le-ltb, ltb-true, ltb-false}
 use Rattle.std.proofs.lemmas.List.{append-nil}
-use Rattle.world_model.specs.declared.record.AsmRec.{AsmRec}
-use Rattle.world_model.specs.Worlds.{rows_before}
-use Rattle.link_rules.specs.Types.{at_row}
-use Rattle.link_rules.specs.Members.{home_from}
-use Rattle.link_rules.specs.Cycles.{listed}
-use Rattle.mark_rules.specs.Places.{asm_row}
-use Rattle.world_laws.specs.Homes.{rows_of}
+use Rattle.il_base.specs.declared.world_model.record.AsmRec.{AsmRec}
+use Rattle.il_base.specs.world_model.Worlds.{rows_before}
+use Rattle.rules.specs.link_rules.Types.{at_row}
+use Rattle.rules.specs.link_rules.Members.{home_from}
+use Rattle.rules.specs.link_rules.Cycles.{listed}
+use Rattle.rules.specs.mark_rules.Places.{asm_row}
+use Rattle.base_laws.specs.world_laws.Homes.{rows_of}
 
 -- ---- flags
 

@@ -7,13 +7,13 @@ use Rattle.il_base.specs.declared.bits.Bits.{Bits}
 use Rattle.il_base.specs.declared.ids.Item.{Item}
 use Rattle.il_base.specs.declared.ids.Item.TheVariants as item
 use Rattle.il_base.specs.declared.ids.TypeId.{TypeId}
-use Rattle.world_model.specs.declared.record.AsmRec.{AsmRec}
-use Rattle.world_model.specs.Worlds.{types_in}
-use Rattle.link_rules.specs.Members.{methods_in, fields_in}
-use Rattle.mark_rules.specs.Facts.Fact.{marked, shown}
-use Rattle.mark_rules.specs.Places.{props_in, events_in, impls_in, row_of}
+use Rattle.il_base.specs.declared.world_model.record.AsmRec.{AsmRec}
+use Rattle.il_base.specs.world_model.Worlds.{types_in}
+use Rattle.rules.specs.link_rules.Members.{methods_in, fields_in}
+use Rattle.rules.specs.mark_rules.Facts.Fact.{marked, shown}
+use Rattle.rules.specs.mark_rules.Places.{props_in, events_in, impls_in, row_of}
 use Rattle.mark_numbers.specs.Numbers.{is_there}
-use Rattle.world_laws.specs.Homes.{rows_of}
+use Rattle.base_laws.specs.world_laws.Homes.{rows_of}
 use Rattle.marking.specs.declared.marked.Marked.{Marked}
 use Rattle.marking.specs.Holding.{holds}
 use Rattle.merge_plan.specs.declared.kept.KeptItems.{KeptItems}

@@ -3,8 +3,8 @@ use Rattle.std.specs.Prelude.{◌≡◌, List, false, IsTrue}
 use Rattle.il_base.specs.declared.bits.Bits.{Bits}
 use Rattle.il_base.specs.declared.ids.Item.{Item}
 use Rattle.il_base.specs.declared.ids.TypeId.{TypeId}
-use Rattle.world_model.specs.declared.record.AsmRec.{AsmRec}
-use Rattle.mark_rules.specs.Facts.Fact.{marked, shown}
+use Rattle.il_base.specs.declared.world_model.record.AsmRec.{AsmRec}
+use Rattle.rules.specs.mark_rules.Facts.Fact.{marked, shown}
 use Rattle.mark_numbers.specs.Numbers.{is_there}
 use Rattle.marking.specs.declared.marked.Marked.{Marked}
 use Rattle.marking.specs.Holding.{holds}

@@ -2,19 +2,19 @@
 
 ghost use Rattle.std.specs.Prelude.{◌≡◌, length, IfOk};
 ghost use Rattle.il_base.specs.declared.ids.Item.TheVariants as item;
-ghost use Rattle.mark_rules.specs.Facts.Fact.{marked, shown};
-ghost use Rattle.mark_facts.specs.Kinds.{count_in, item_numbered};
-ghost use Rattle.world_laws.specs.Homes.{rows_of};
+ghost use Rattle.rules.specs.mark_rules.Facts.Fact.{marked, shown};
+ghost use Rattle.mark_parts.specs.mark_facts.Kinds.{count_in, item_numbered};
+ghost use Rattle.base_laws.specs.world_laws.Homes.{rows_of};
 ghost use Rattle.marking.specs.Holding.{holds};
 ghost use Rattle.kept_marks.specs.Flags.{HasFlags};
 
+use il_base::world_model::AsmRec;
 use il_base::{AsmId, Bits, Item, NoMemory, Seq, TypeId};
-use mark_facts::kinds::{Kind, item_numbered};
-use mark_facts::rows::rows_before;
+use mark_parts::mark_facts::kinds::{Kind, item_numbered};
+use mark_parts::mark_facts::rows::rows_before;
 use marking::Marked;
-use member_search::counted::row_of;
 use std::alloc::Global;
-use world_model::AsmRec;
+use type_tables::member_search::counted::row_of;
 
 /// How many items of a kind there are.
 fn count_of(all: &[AsmRec], kind: Kind) -> Result<u32, NoMemory>

@@ -2,12 +2,12 @@ ghost use Rattle.std.specs.Prelude.{IfOk};
 ghost use Rattle.kept_marks.specs.Keeping.{KeepsMarked, ShowsMarked};
 
 use crate::flags::{assembly_flags, item_flags, shown_flags};
+use il_base::world_model::World;
 use il_base::{Bits, NoMemory};
-use mark_facts::kinds::Kind;
+use mark_parts::mark_facts::kinds::Kind;
 use marking::Marked;
 use merge_plan::KeptItems;
 use std::alloc::Global;
-use world_model::World;
 
 /// The items of a world that are marked, the core library's among them.
 pub fn kept_items(alloc: Global, world: &World, marked: &Marked) -> Result<KeptItems, NoMemory>

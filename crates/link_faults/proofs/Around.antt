@@ -2,12 +2,12 @@
 use Rattle.std.proofs.Common.{◌≡◌, ℕ, suc, ◌+◌, ◌<◌, ◌==◌, Bool, true, false, nat_eq, List, [], ◌∷◌, length, drop, get_or, Option, Some, None, refl, sym, ap, subst, ◌∙◌, arith}
 use Rattle.std.specs.Prelude.{if◌then◌else◌}
 use Rattle.std.proofs.lemmas.List.{map-id, drop_all}
-use Rattle.world_model.specs.declared.types.NestedClassRow.{NestedClassRow}
-use Rattle.world_model.specs.declared.record.AsmRec.{AsmRec}
-use Rattle.world_model.specs.Tokens.{token_of, index_in}
-use Rattle.link_rules.specs.Types.{encloser_in, encloser}
-use Rattle.link_rules.specs.Cycles.{listed, is_on_cycle, around}
-use Rattle.link_rules.specs.Faults.{first_of, is_cyclic_around, cyclic_nesting_row}
+use Rattle.il_base.specs.declared.world_model.types.NestedClassRow.{NestedClassRow}
+use Rattle.il_base.specs.declared.world_model.record.AsmRec.{AsmRec}
+use Rattle.il_base.specs.world_model.Tokens.{token_of, index_in}
+use Rattle.rules.specs.link_rules.Types.{encloser_in, encloser}
+use Rattle.rules.specs.link_rules.Cycles.{listed, is_on_cycle, around}
+use Rattle.rules.specs.link_rules.Faults.{first_of, is_cyclic_around, cyclic_nesting_row}
 use Rattle.link_faults.specs.Graphs.{next_in, IsAcyclic}
 use Rattle.link_faults.specs.Nesting.{IsAround}
 use Rattle.link_faults.proofs.Each.{Each}

@@ -5,13 +5,13 @@ use Rattle.std.specs.Option.{option_map, option_and_then}
 use Rattle.std.proofs.lemmas.Bool.{lt-ltb, le-ltb, and_parts, and_from, eqb-true, eq-eqb}
 use Rattle.std.proofs.lemmas.Bool.Decides.{same_from_decides}
 use Rattle.il_base.specs.declared.ids.TypeId.{TypeId}
-use Rattle.world_model.specs.declared.expr.TypeExpr.{TypeExpr}
-use Rattle.world_model.specs.declared.record.AsmRec.{AsmRec}
-use Rattle.world_model.specs.Worlds.{rows_before, types_in}
-use Rattle.link_rules.specs.declared.row_at.RowAt.{RowAt}
-use Rattle.link_rules.specs.Types.{at_row}
-use Rattle.link_rules.specs.Members.{home_from, type_home, type_count, owner_of}
-use Rattle.link_rules.specs.Cycles.{same_row, listed, home_of}
+use Rattle.il_base.specs.declared.world_model.expr.TypeExpr.{TypeExpr}
+use Rattle.il_base.specs.declared.world_model.record.AsmRec.{AsmRec}
+use Rattle.il_base.specs.world_model.Worlds.{rows_before, types_in}
+use Rattle.rules.specs.declared.link_rules.row_at.RowAt.{RowAt}
+use Rattle.rules.specs.link_rules.Types.{at_row}
+use Rattle.rules.specs.link_rules.Members.{home_from, type_home, type_count, owner_of}
+use Rattle.rules.specs.link_rules.Cycles.{same_row, listed, home_of}
 use Rattle.link_faults.specs.Targets.{id_of, id_below, target_of}
 use Rattle.link_faults.proofs.Each.{Each}
 use Rattle.link_faults.proofs.Ids.{Stands, home_at, home_is, below_count, none_past}

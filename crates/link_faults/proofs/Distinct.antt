@@ -8,17 +8,17 @@ use Rattle.std.specs.Str.{bytes_eq}
 use Rattle.std.proofs.lemmas.Bool.{eqb-true, eq-eqb, and_from}
 use Rattle.std.proofs.lemmas.Bool.Decides.{same_from_decides}
 use Rattle.std.proofs.lemmas.Slice.Eq.{bytes_eq-Decides}
-use Rattle.world_model.specs.declared.expr.TypeExpr.{TypeExpr, fold-roll-TypeExpr, ind-TypeExpr, out-TypeExpr, roll-TypeExpr, roll-out-TypeExpr}
-use Rattle.world_model.specs.declared.expr.TypeExpr.TheFolds.{map-TypeExpr}
-use Rattle.world_model.specs.declared.expr.TypeExpr.TheOpen.{TypeExpr-F}
-use Rattle.world_model.specs.Core.{same_name}
-use Rattle.world_model.specs.Exprs.{same_bool, same_expr, same_exprs}
-use Rattle.world_model.proofs.SameExpr.{same_decides, all_decide}
-use Rattle.link_rules.specs.declared.member_type.MethodType.{MethodType}
-use Rattle.link_rules.specs.Types.{same_place}
-use Rattle.link_rules.specs.Signatures.{same_method_type}
-use Rattle.link_rules.specs.Cycles.{listed}
-use Rattle.link_rules.specs.Faults.{TypeKey, same_type_key, MemberKey, same_member_key}
+use Rattle.il_base.specs.declared.world_model.expr.TypeExpr.{TypeExpr, fold-roll-TypeExpr, ind-TypeExpr, out-TypeExpr, roll-TypeExpr, roll-out-TypeExpr}
+use Rattle.il_base.specs.declared.world_model.expr.TypeExpr.TheFolds.{map-TypeExpr}
+use Rattle.il_base.specs.declared.world_model.expr.TypeExpr.TheOpen.{TypeExpr-F}
+use Rattle.il_base.specs.world_model.Core.{same_name}
+use Rattle.il_base.specs.world_model.Exprs.{same_bool, same_expr, same_exprs}
+use Rattle.il_base.proofs.lemmas.world_model.SameExpr.{same_decides, all_decide}
+use Rattle.rules.specs.declared.link_rules.member_type.MethodType.{MethodType}
+use Rattle.rules.specs.link_rules.Types.{same_place}
+use Rattle.rules.specs.link_rules.Signatures.{same_method_type}
+use Rattle.rules.specs.link_rules.Cycles.{listed}
+use Rattle.rules.specs.link_rules.Faults.{TypeKey, same_type_key, MemberKey, same_member_key}
 use Rattle.link_faults.specs.Codes.{bit, code_layer, type_code, method_code, with_text, member_code, type_key_code}
 
 -- ---- types

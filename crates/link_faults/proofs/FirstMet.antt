@@ -3,7 +3,7 @@ use Rattle.std.proofs.Common.{◌≡◌, ℕ, suc, ◌+◌, ◌<◌, Bool, true,
 use Rattle.std.specs.Prelude.{if◌then◌else◌, bytes_eq}
 use Rattle.std.specs.List.{list_any}
 use Rattle.std.specs.Option.{option_map}
-use Rattle.link_rules.specs.Faults.{same_key, repeat_from, first_repeat}
+use Rattle.rules.specs.link_rules.Faults.{same_key, repeat_from, first_repeat}
 use Rattle.link_faults.specs.Repeats.{repeat_by}
 use Rattle.link_faults.proofs.Taken.{name_symmetric}
 use Rattle.link_faults.proofs.Walks.{next_of}

@@ -4,9 +4,9 @@ use Rattle.std.specs.Prelude.{if◌then◌else◌, slice_get, unwrap_or}
 use Rattle.std.specs.List.{flat_map}
 use Rattle.std.proofs.lemmas.List.{append-nil}
 use Rattle.il_base.specs.declared.ids.TypeId.{TypeId}
-use Rattle.world_model.specs.declared.expr.TypeExpr.{TypeExpr, fold-TypeExpr, fold-roll-TypeExpr}
-use Rattle.world_model.specs.declared.expr.TypeExpr.TheOpen.{TypeExpr-F}
-use Rattle.world_model.specs.declared.expr.TypeExpr.TheVariants as expr
+use Rattle.il_base.specs.declared.world_model.expr.TypeExpr.{TypeExpr, fold-TypeExpr, fold-roll-TypeExpr}
+use Rattle.il_base.specs.declared.world_model.expr.TypeExpr.TheOpen.{TypeExpr-F}
+use Rattle.il_base.specs.declared.world_model.expr.TypeExpr.TheVariants as expr
 use Rattle.link_faults.specs.Values.{flagged, with_parts, held_layer, held_in}
 
 module _ (values : List Bool) where

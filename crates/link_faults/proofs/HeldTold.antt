@@ -6,21 +6,21 @@ use Rattle.std.proofs.lemmas.List.{append-nil, map-append}
 use Rattle.std.proofs.lemmas.Option.{slice_get_past}
 use Rattle.il_base.specs.declared.ids.TypeId.{TypeId}
 use Rattle.il_base.specs.declared.sig.Sig.{Sig}
-use Rattle.world_model.specs.declared.known.Known.{Known}
-use Rattle.world_model.specs.declared.known.Known.TheVariants.{Good, Bad}
-use Rattle.world_model.specs.declared.expr.TypeExpr.{TypeExpr, fold-roll-TypeExpr, ind-TypeExpr, roll-TypeExpr}
-use Rattle.world_model.specs.declared.expr.TypeExpr.TheFolds.{map-TypeExpr}
-use Rattle.world_model.specs.declared.expr.TypeExpr.TheOpen.{TypeExpr-F}
-use Rattle.world_model.specs.declared.types.TypeDefRow.{TypeDefRow}
-use Rattle.world_model.specs.declared.members.FieldRow.{FieldRow}
-use Rattle.world_model.specs.declared.record.AsmRec.{AsmRec}
-use Rattle.world_model.specs.declared.world.TypeLink.{TypeLink}
-use Rattle.world_model.specs.Worlds.{known_then, sig_expr, names_by}
-use Rattle.link_rules.specs.declared.row_at.RowAt.{RowAt}
-use Rattle.link_rules.specs.Signatures.{names_at}
-use Rattle.link_rules.specs.Members.{type_home, good_type, run_of}
-use Rattle.link_rules.specs.Cycles.{listed, is_value_type, value_rows, instance_rows, values_layer, values_in, is_static_field, values_in_field, values_in_row, field_values}
-use Rattle.link_rules.specs.Laws.{TellTokens, TellSignatures}
+use Rattle.il_base.specs.declared.world_model.known.Known.{Known}
+use Rattle.il_base.specs.declared.world_model.known.Known.TheVariants.{Good, Bad}
+use Rattle.il_base.specs.declared.world_model.expr.TypeExpr.{TypeExpr, fold-roll-TypeExpr, ind-TypeExpr, roll-TypeExpr}
+use Rattle.il_base.specs.declared.world_model.expr.TypeExpr.TheFolds.{map-TypeExpr}
+use Rattle.il_base.specs.declared.world_model.expr.TypeExpr.TheOpen.{TypeExpr-F}
+use Rattle.il_base.specs.declared.world_model.types.TypeDefRow.{TypeDefRow}
+use Rattle.il_base.specs.declared.world_model.members.FieldRow.{FieldRow}
+use Rattle.il_base.specs.declared.world_model.record.AsmRec.{AsmRec}
+use Rattle.il_base.specs.declared.world_model.world.TypeLink.{TypeLink}
+use Rattle.il_base.specs.world_model.Worlds.{known_then, sig_expr, names_by}
+use Rattle.rules.specs.declared.link_rules.row_at.RowAt.{RowAt}
+use Rattle.rules.specs.link_rules.Signatures.{names_at}
+use Rattle.rules.specs.link_rules.Members.{type_home, good_type, run_of}
+use Rattle.rules.specs.link_rules.Cycles.{listed, is_value_type, value_rows, instance_rows, values_layer, values_in, is_static_field, values_in_field, values_in_row, field_values}
+use Rattle.rules.specs.link_rules.Laws.{TellTokens, TellSignatures}
 use Rattle.link_faults.specs.Graphs.{next_in}
 use Rattle.link_faults.specs.Targets.{id_of}
 use Rattle.link_faults.specs.Values.{is_value, all_values, flagged, with_parts, held_layer, held_in, field_type, held_in_field, held_by, all_held}

@@ -4,20 +4,20 @@ use Rattle.std.specs.Prelude.{if◌then◌else◌, slice_get, bytes_eq}
 use Rattle.std.specs.Option.{option_map}
 use Rattle.il_base.specs.declared.sig.Sig.{Sig}
 use Rattle.il_base.specs.declared.sig.MethodSig.{MethodSig}
-use Rattle.world_model.specs.declared.known.Known.{Known}
-use Rattle.world_model.specs.declared.known.Known.TheVariants.{Good, Bad}
-use Rattle.world_model.specs.declared.expr.TypeExpr.{TypeExpr}
-use Rattle.world_model.specs.declared.members.FieldRow.{FieldRow}
-use Rattle.world_model.specs.declared.members.MethodDefRow.{MethodDefRow}
-use Rattle.world_model.specs.declared.record.AsmRec.{AsmRec}
-use Rattle.world_model.specs.declared.world.TypeLink.{TypeLink}
-use Rattle.world_model.specs.Exprs.{same_expr}
-use Rattle.world_model.specs.Worlds.{known_then, sig_expr, names_by}
-use Rattle.link_rules.specs.declared.member_type.MethodType.{MethodType}
-use Rattle.link_rules.specs.Signatures.{names_at, method_type, same_method_type}
-use Rattle.link_rules.specs.Members.{is_compiler_controlled, good_type}
-use Rattle.link_rules.specs.Laws.{TellSignatures, TellMethods}
-use Rattle.link_rules.specs.Faults.{numbered, same_type_key, type_key, same_member_key, member_key, field_key, method_key, first_repeat, repeated_row, repeated_type, repeated_field, repeated_method}
+use Rattle.il_base.specs.declared.world_model.known.Known.{Known}
+use Rattle.il_base.specs.declared.world_model.known.Known.TheVariants.{Good, Bad}
+use Rattle.il_base.specs.declared.world_model.expr.TypeExpr.{TypeExpr}
+use Rattle.il_base.specs.declared.world_model.members.FieldRow.{FieldRow}
+use Rattle.il_base.specs.declared.world_model.members.MethodDefRow.{MethodDefRow}
+use Rattle.il_base.specs.declared.world_model.record.AsmRec.{AsmRec}
+use Rattle.il_base.specs.declared.world_model.world.TypeLink.{TypeLink}
+use Rattle.il_base.specs.world_model.Exprs.{same_expr}
+use Rattle.il_base.specs.world_model.Worlds.{known_then, sig_expr, names_by}
+use Rattle.rules.specs.declared.link_rules.member_type.MethodType.{MethodType}
+use Rattle.rules.specs.link_rules.Signatures.{names_at, method_type, same_method_type}
+use Rattle.rules.specs.link_rules.Members.{is_compiler_controlled, good_type}
+use Rattle.rules.specs.link_rules.Laws.{TellSignatures, TellMethods}
+use Rattle.rules.specs.link_rules.Faults.{numbered, same_type_key, type_key, same_member_key, member_key, field_key, method_key, first_repeat, repeated_row, repeated_type, repeated_field, repeated_method}
 use Rattle.link_faults.specs.declared.owners.Member.TheVariants as member
 use Rattle.link_faults.specs.Codes.{type_code, method_code, member_code, type_key_code}
 use Rattle.link_faults.specs.Keys.{good, type_codes, code_of_member, owner_in, code_of_field, field_codes, code_of_method, method_codes}

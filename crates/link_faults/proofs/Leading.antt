@@ -7,7 +7,7 @@ use Rattle.std.proofs.Math.Seq.{take-append_seam}
 use Rattle.std.proofs.lemmas.Grind.{flat_map-append}
 use Rattle.std.specs.Prelude.{if◌then◌else◌}
 use Rattle.std.specs.List.{list_any, flat_map}
-use Rattle.link_rules.specs.Cycles.{add_new, add_all, led_to}
+use Rattle.rules.specs.link_rules.Cycles.{add_new, add_all, led_to}
 use Rattle.link_faults.proofs.Each.{Each}
 
 module _ {A : Type 0} (same : A → A → Bool) where

@@ -2,7 +2,7 @@
 use Rattle.std.proofs.Common.{◌≡◌, ℕ, zero, suc, ◌+◌, ◌<◌, ◌≤◌, Bool, true, false, nat_eq, List, [], ◌∷◌, refl, sym, subst, ◌∙◌, arith}
 use Rattle.std.specs.List.{list_all}
 use Rattle.std.proofs.lemmas.Bool.{and_parts, and_from, leb-true, le-leb}
-use Rattle.link_rules.specs.Cycles.{led_to, is_on_cycle}
+use Rattle.rules.specs.link_rules.Cycles.{led_to, is_on_cycle}
 use Rattle.link_faults.specs.Graphs.{next_in, rank_of, is_lower, is_within, never_up, AreLevels}
 use Rattle.link_faults.proofs.Each.{Each, each_led}
 use Rattle.link_faults.proofs.Ranked.{IsBelow, lower_each, none_same}

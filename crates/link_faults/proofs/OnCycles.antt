@@ -2,15 +2,15 @@
 use Rattle.std.proofs.Common.{◌≡◌, ℕ, Bool, true, false, ◌||◌, nat_eq, List, take, Some, None, refl, sym, ap, subst, ◌∙◌}
 use Rattle.std.specs.Prelude.{slice_get}
 use Rattle.il_base.specs.declared.ids.TypeId.{TypeId}
-use Rattle.world_model.specs.declared.record.AsmRec.{AsmRec}
-use Rattle.world_model.specs.declared.types.TypeDefRow.{TypeDefRow}
-use Rattle.world_model.specs.declared.world.TypeLink.{TypeLink}
-use Rattle.world_model.specs.Worlds.{type_id}
-use Rattle.link_rules.specs.declared.row_at.RowAt.{RowAt}
-use Rattle.link_rules.specs.Types.{at_row}
-use Rattle.link_rules.specs.Members.{type_count}
-use Rattle.link_rules.specs.Cycles.{is_on_cycle, same_row, base_rows, interface_rows, field_values}
-use Rattle.link_rules.specs.Faults.{first_of, is_cyclic_type, cyclic_type, cyclic_types}
+use Rattle.il_base.specs.declared.world_model.record.AsmRec.{AsmRec}
+use Rattle.il_base.specs.declared.world_model.types.TypeDefRow.{TypeDefRow}
+use Rattle.il_base.specs.declared.world_model.world.TypeLink.{TypeLink}
+use Rattle.il_base.specs.world_model.Worlds.{type_id}
+use Rattle.rules.specs.declared.link_rules.row_at.RowAt.{RowAt}
+use Rattle.rules.specs.link_rules.Types.{at_row}
+use Rattle.rules.specs.link_rules.Members.{type_count}
+use Rattle.rules.specs.link_rules.Cycles.{is_on_cycle, same_row, base_rows, interface_rows, field_values}
+use Rattle.rules.specs.link_rules.Faults.{first_of, is_cyclic_type, cyclic_type, cyclic_types}
 use Rattle.link_faults.specs.Graphs.{next_in, IsAcyclic}
 use Rattle.link_faults.specs.Targets.{id_of}
 use Rattle.link_faults.specs.TypeCycles.{Tells, AreGraphs, HasType}

@@ -5,12 +5,12 @@ use Rattle.std.specs.Option.{option_map}
 use Rattle.std.proofs.lemmas.List.{length-map}
 use Rattle.il_base.specs.declared.sig.Sig.{Sig}
 use Rattle.il_base.specs.declared.sig.MethodSig.{MethodSig}
-use Rattle.world_model.specs.declared.known.Known.{Known}
-use Rattle.world_model.specs.declared.known.Known.TheVariants.{Good, Bad}
-use Rattle.world_model.specs.declared.expr.TypeExpr.{TypeExpr}
-use Rattle.world_model.specs.Worlds.{Names, known_map, known_then, all_known, sig_expr}
-use Rattle.link_rules.specs.Signatures.{method_type, method_type_of}
-use Rattle.link_rules.specs.Members.{good_type}
+use Rattle.il_base.specs.declared.world_model.known.Known.{Known}
+use Rattle.il_base.specs.declared.world_model.known.Known.TheVariants.{Good, Bad}
+use Rattle.il_base.specs.declared.world_model.expr.TypeExpr.{TypeExpr}
+use Rattle.il_base.specs.world_model.Worlds.{Names, known_map, known_then, all_known, sig_expr}
+use Rattle.rules.specs.link_rules.Signatures.{method_type, method_type_of}
+use Rattle.rules.specs.link_rules.Members.{good_type}
 use Rattle.link_faults.specs.Codes.{bit, type_code, method_code}
 use Rattle.link_faults.specs.Keys.{good, code_of_parts}
 

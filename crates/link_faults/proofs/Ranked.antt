@@ -2,7 +2,7 @@
 use Rattle.std.proofs.Common.{◌≡◌, ℕ, zero, suc, ◌+◌, ◌<◌, true, false, nat_eq, List, [], ◌∷◌, refl, ap, arith}
 use Rattle.std.specs.List.{list_any, list_all}
 use Rattle.std.proofs.lemmas.Bool.{and_parts, ltb-true, ne_eqb, or_from}
-use Rattle.link_rules.specs.Cycles.{led_to, is_on_cycle}
+use Rattle.rules.specs.link_rules.Cycles.{led_to, is_on_cycle}
 use Rattle.link_faults.specs.Graphs.{next_in, rank_of, is_lower, goes_down, IsAcyclic}
 use Rattle.link_faults.proofs.Each.{Each, each_led}
 

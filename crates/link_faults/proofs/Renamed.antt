@@ -3,7 +3,7 @@ use Rattle.std.proofs.Common.{◌≡◌, ℕ, zero, suc, Bool, true, false, nat_
 use Rattle.std.specs.Prelude.{if◌then◌else◌, ◌||◌}
 use Rattle.std.specs.List.{list_any, flat_map}
 use Rattle.std.proofs.lemmas.List.{map-append, map_push}
-use Rattle.link_rules.specs.Cycles.{add_new, add_all, led_to, is_on_cycle}
+use Rattle.rules.specs.link_rules.Cycles.{add_new, add_all, led_to, is_on_cycle}
 use Rattle.link_faults.proofs.Each.{Each, each_next, each_new, each_added, each_led}
 
 -- an item and its number lead to the same

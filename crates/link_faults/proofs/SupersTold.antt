@@ -5,17 +5,17 @@ use Rattle.std.specs.List.{list_any, flat_map}
 use Rattle.std.specs.Option.{option_map, option_and_then}
 use Rattle.std.proofs.lemmas.List.{append-nil, map-append}
 use Rattle.std.proofs.lemmas.Grind.{flat_map-append}
-use Rattle.world_model.specs.declared.expr.TypeExpr.{TypeExpr}
-use Rattle.world_model.specs.declared.types.TypeDefRow.{TypeDefRow}
-use Rattle.world_model.specs.declared.types.InterfaceImplRow.{InterfaceImplRow}
-use Rattle.world_model.specs.declared.record.AsmRec.{AsmRec}
-use Rattle.world_model.specs.declared.world.TypeLink.{TypeLink}
-use Rattle.world_model.specs.Tokens.{token_of}
-use Rattle.link_rules.specs.declared.row_at.RowAt.{RowAt}
-use Rattle.link_rules.specs.Signatures.{token_type}
-use Rattle.link_rules.specs.Members.{good_type, only_named, is_interface_row, base_in, base_at}
-use Rattle.link_rules.specs.Cycles.{listed, home_of, is_row_of, is_interface_at, is_interface, only_interface, interface_of, interfaces_in, interfaces_at, base_rows, interface_rows}
-use Rattle.link_rules.specs.Laws.{TellTokens}
+use Rattle.il_base.specs.declared.world_model.expr.TypeExpr.{TypeExpr}
+use Rattle.il_base.specs.declared.world_model.types.TypeDefRow.{TypeDefRow}
+use Rattle.il_base.specs.declared.world_model.types.InterfaceImplRow.{InterfaceImplRow}
+use Rattle.il_base.specs.declared.world_model.record.AsmRec.{AsmRec}
+use Rattle.il_base.specs.declared.world_model.world.TypeLink.{TypeLink}
+use Rattle.il_base.specs.world_model.Tokens.{token_of}
+use Rattle.rules.specs.declared.link_rules.row_at.RowAt.{RowAt}
+use Rattle.rules.specs.link_rules.Signatures.{token_type}
+use Rattle.rules.specs.link_rules.Members.{good_type, only_named, is_interface_row, base_in, base_at}
+use Rattle.rules.specs.link_rules.Cycles.{listed, home_of, is_row_of, is_interface_at, is_interface, only_interface, interface_of, interfaces_in, interfaces_at, base_rows, interface_rows}
+use Rattle.rules.specs.link_rules.Laws.{TellTokens}
 use Rattle.link_faults.specs.Graphs.{next_in}
 use Rattle.link_faults.specs.Targets.{id_of, target_of, target_at, named_target_at}
 use Rattle.link_faults.specs.Supertypes.{base_target, bases_of, all_bases, interface_flag, interface_flags, if_flagged, interface_at, interfaces_by, interfaces_of, all_interfaces}

@@ -3,7 +3,7 @@ use Rattle.std.proofs.Common.{◌≡◌, ℕ, zero, suc, ◌/◌, ◌%◌, ◌<�
 use Rattle.std.specs.Prelude.{if◌then◌else◌}
 use Rattle.std.proofs.lemmas.Bool.{eqb-true, eq-eqb, ne_eqb}
 use Rattle.std.proofs.lemmas.Bool.Decides.{same_from_decides, Decides-eqb, Decides-like}
-use Rattle.world_model.specs.Tokens.{token_of, index_from, index_in}
+use Rattle.il_base.specs.world_model.Tokens.{token_of, index_from, index_in}
 
 -- what a token of TypeDef is that names a row
 pub record Names (token k : ℕ) : Type 0 where

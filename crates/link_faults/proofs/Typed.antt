@@ -2,14 +2,14 @@
 use Rattle.std.proofs.Common.{◌≡◌, ℕ, zero, suc, ◌+◌, ◌<◌, List, [], ◌∷◌, length, length-append, Some, refl, ap, subst, ◌∙◌, arith}
 use Rattle.std.specs.Prelude.{slice_get}
 use Rattle.std.specs.Option.{option_map}
-use Rattle.world_model.specs.declared.types.TypeDefRow.{TypeDefRow}
-use Rattle.world_model.specs.declared.record.AsmRec.{AsmRec}
-use Rattle.world_model.specs.Worlds.{rows_before, types_in}
-use Rattle.link_rules.specs.declared.row_at.RowAt.{RowAt}
-use Rattle.link_rules.specs.Faults.{numbered}
-use Rattle.link_rules.specs.Linked.{links_from}
-use Rattle.link_laws.proofs.Lists.{get_numbered, length_numbered}
-use Rattle.link_laws.proofs.Places.{link_in}
+use Rattle.il_base.specs.declared.world_model.types.TypeDefRow.{TypeDefRow}
+use Rattle.il_base.specs.declared.world_model.record.AsmRec.{AsmRec}
+use Rattle.il_base.specs.world_model.Worlds.{rows_before, types_in}
+use Rattle.rules.specs.declared.link_rules.row_at.RowAt.{RowAt}
+use Rattle.rules.specs.link_rules.Faults.{numbered}
+use Rattle.rules.specs.link_rules.Linked.{links_from}
+use Rattle.base_laws.proofs.lemmas.link_laws.Lists.{get_numbered, length_numbered}
+use Rattle.base_laws.proofs.lemmas.link_laws.Places.{link_in}
 use Rattle.link_faults.specs.Targets.{id_of}
 use Rattle.link_faults.proofs.Ids.{home_is}
 use Rattle.link_faults.proofs.Defined.{IsType}

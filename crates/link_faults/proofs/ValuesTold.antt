@@ -5,16 +5,16 @@ use Rattle.std.specs.List.{list_any}
 use Rattle.std.specs.Option.{option_map, option_and_then}
 use Rattle.std.proofs.lemmas.Bool.{cases_lt, and_parts, and_from, eqb-true, eq-eqb}
 use Rattle.std.proofs.lemmas.Bool.Decides.{same_from_decides, Decides-eqb, Decides-like}
-use Rattle.world_model.specs.declared.expr.TypeExpr.{TypeExpr}
-use Rattle.world_model.specs.declared.record.AsmRec.{AsmRec}
-use Rattle.world_model.specs.declared.world.TypeLink.{TypeLink}
-use Rattle.world_model.specs.Tokens.{token_of}
-use Rattle.world_model.specs.Worlds.{rows_before, types_in}
-use Rattle.core_table.specs.declared.tokens.TheConstants.{VALUE_TYPE, ENUM}
-use Rattle.link_rules.specs.declared.row_at.RowAt.{RowAt}
-use Rattle.link_rules.specs.Members.{is_interface_row, base_at}
-use Rattle.link_rules.specs.Cycles.{listed, home_of, is_core_row_at, extends_core, is_value_type}
-use Rattle.link_rules.specs.Laws.{TellTokens}
+use Rattle.il_base.specs.declared.world_model.expr.TypeExpr.{TypeExpr}
+use Rattle.il_base.specs.declared.world_model.record.AsmRec.{AsmRec}
+use Rattle.il_base.specs.declared.world_model.world.TypeLink.{TypeLink}
+use Rattle.il_base.specs.world_model.Tokens.{token_of}
+use Rattle.il_base.specs.world_model.Worlds.{rows_before, types_in}
+use Rattle.il_base.specs.declared.core_table.tokens.TheConstants.{VALUE_TYPE, ENUM}
+use Rattle.rules.specs.declared.link_rules.row_at.RowAt.{RowAt}
+use Rattle.rules.specs.link_rules.Members.{is_interface_row, base_at}
+use Rattle.rules.specs.link_rules.Cycles.{listed, home_of, is_core_row_at, extends_core, is_value_type}
+use Rattle.rules.specs.link_rules.Laws.{TellTokens}
 use Rattle.link_faults.specs.Targets.{id_of, target_of}
 use Rattle.link_faults.specs.Supertypes.{base_target}
 use Rattle.link_faults.specs.Values.{is_core_type, is_value, all_values}

@@ -1,7 +1,7 @@
 -- What an answer says of the first fault.
 use Rattle.std.specs.Prelude.{◌≡◌, Option, Some, None, Result, Ok, Err}
-use Rattle.link_rules.specs.declared.link_error.LinkError.{LinkError}
-use Rattle.link_rules.specs.declared.link_error.LinkError.TheVariants as fault
+use Rattle.rules.specs.declared.link_rules.link_error.LinkError.{LinkError}
+use Rattle.rules.specs.declared.link_rules.link_error.LinkError.TheVariants as fault
 
 -- Ok where there is none, and else the fault; want of memory is free
 abbrev pub Answers : Option LinkError → Result Unit LinkError → Type 0

@@ -1,7 +1,7 @@
 -- Graphs as lists: for each node, counted from 0, the nodes that it leads to.
 use Rattle.std.specs.Prelude.{◌≡◌, ◌<◌, ℕ, suc, List, [], ◌∷◌, length, Bool, true, false, ◌&&◌, nat_eq, nat_lt, nat_le, slice_get, slice_set, get_or, unwrap_or, if◌then◌else◌}
 use Rattle.std.specs.List.{list_all, list_any}
-use Rattle.link_rules.specs.Cycles.{is_on_cycle}
+use Rattle.rules.specs.link_rules.Cycles.{is_on_cycle}
 
 abbrev pub next_in : List (List ℕ) → ℕ → List ℕ
 next_in graph node = unwrap_or (slice_get graph node) []

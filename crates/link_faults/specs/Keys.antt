@@ -4,19 +4,19 @@ use Rattle.std.specs.List.{flat_map, position_from}
 use Rattle.std.specs.Option.{option_map}
 use Rattle.il_base.specs.declared.sig.Sig.{Sig}
 use Rattle.il_base.specs.declared.sig.MethodSig.{MethodSig}
-use Rattle.world_model.specs.declared.known.Known.{Known}
-use Rattle.world_model.specs.declared.known.Known.TheVariants.{Good, Bad}
-use Rattle.world_model.specs.declared.types.TypeDefRow.{TypeDefRow}
-use Rattle.world_model.specs.declared.members.FieldRow.{FieldRow}
-use Rattle.world_model.specs.declared.members.MethodDefRow.{MethodDefRow}
-use Rattle.world_model.specs.declared.record.AsmRec.{AsmRec}
-use Rattle.world_model.specs.declared.world.TypeLink.{TypeLink}
-use Rattle.world_model.specs.Worlds.{known_then, all_known, sig_expr, names_by}
-use Rattle.link_rules.specs.Types.{encloser}
-use Rattle.link_rules.specs.Signatures.{method_type}
-use Rattle.link_rules.specs.Cycles.{listed}
-use Rattle.link_rules.specs.Members.{is_compiler_controlled}
-use Rattle.link_rules.specs.Faults.{numbered}
+use Rattle.il_base.specs.declared.world_model.known.Known.{Known}
+use Rattle.il_base.specs.declared.world_model.known.Known.TheVariants.{Good, Bad}
+use Rattle.il_base.specs.declared.world_model.types.TypeDefRow.{TypeDefRow}
+use Rattle.il_base.specs.declared.world_model.members.FieldRow.{FieldRow}
+use Rattle.il_base.specs.declared.world_model.members.MethodDefRow.{MethodDefRow}
+use Rattle.il_base.specs.declared.world_model.record.AsmRec.{AsmRec}
+use Rattle.il_base.specs.declared.world_model.world.TypeLink.{TypeLink}
+use Rattle.il_base.specs.world_model.Worlds.{known_then, all_known, sig_expr, names_by}
+use Rattle.rules.specs.link_rules.Types.{encloser}
+use Rattle.rules.specs.link_rules.Signatures.{method_type}
+use Rattle.rules.specs.link_rules.Cycles.{listed}
+use Rattle.rules.specs.link_rules.Members.{is_compiler_controlled}
+use Rattle.rules.specs.link_rules.Faults.{numbered}
 use Rattle.link_faults.specs.declared.owners.Member.{Member}
 use Rattle.link_faults.specs.declared.owners.Member.TheVariants as member
 use Rattle.link_faults.specs.Owners.{owns}

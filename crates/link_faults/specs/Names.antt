@@ -1,10 +1,10 @@
 -- Names of assemblies that are taken, with a test for those that were met.
 use Rattle.std.specs.Prelude.{ℕ, suc, List, [], ◌∷◌, Bool, true, ◌||◌, Option, Some, None, if◌then◌else◌}
-use Rattle.world_model.specs.declared.record.AsmRec.{AsmRec}
-use Rattle.world_model.specs.Core.{same_name, is_core_name}
-use Rattle.link_rules.specs.declared.link_error.LinkError.{LinkError}
-use Rattle.link_rules.specs.declared.link_error.LinkError.TheVariants as fault
-use Rattle.link_rules.specs.Faults.{own_name}
+use Rattle.il_base.specs.declared.world_model.record.AsmRec.{AsmRec}
+use Rattle.il_base.specs.world_model.Core.{same_name, is_core_name}
+use Rattle.rules.specs.declared.link_rules.link_error.LinkError.{LinkError}
+use Rattle.rules.specs.declared.link_rules.link_error.LinkError.TheVariants as fault
+use Rattle.rules.specs.link_rules.Faults.{own_name}
 
 abbrev pub taken_by : (List ℕ → Bool) → ℕ → List AsmRec → Option LinkError
 taken_by met i [] = None

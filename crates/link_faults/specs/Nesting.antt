@@ -1,10 +1,10 @@
 -- A graph of enclosers.
 use Rattle.std.specs.Prelude.{◌≡◌, ℕ, suc, ◌<◌, List}
 use Rattle.il_base.specs.declared.table.TheConstants.{TYPE_DEF}
-use Rattle.world_model.specs.declared.types.NestedClassRow.{NestedClassRow}
-use Rattle.world_model.specs.Tokens.{token_of}
-use Rattle.link_rules.specs.Types.{encloser_in}
-use Rattle.link_rules.specs.Cycles.{listed}
+use Rattle.il_base.specs.declared.world_model.types.NestedClassRow.{NestedClassRow}
+use Rattle.il_base.specs.world_model.Tokens.{token_of}
+use Rattle.rules.specs.link_rules.Types.{encloser_in}
+use Rattle.rules.specs.link_rules.Cycles.{listed}
 use Rattle.link_faults.specs.Graphs.{next_in}
 
 -- what these rows say of each type that a token can name

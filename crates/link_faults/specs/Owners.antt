@@ -1,8 +1,8 @@
 -- The types that members are in.
 use Rattle.std.specs.Prelude.{◌≡◌, ℕ, suc, ◌<◌, List, length, slice_index_or, Option, None}
 use Rattle.std.specs.List.{position_from}
-use Rattle.world_model.specs.declared.types.TypeDefRow.{TypeDefRow}
-use Rattle.link_rules.specs.Members.{is_in_run}
+use Rattle.il_base.specs.declared.world_model.types.TypeDefRow.{TypeDefRow}
+use Rattle.rules.specs.link_rules.Members.{is_in_run}
 use Rattle.link_faults.specs.declared.owners.Member.{Member}
 use Rattle.link_faults.specs.declared.owners.Member.TheVariants as member
 use Rattle.std.specs.Prelude.{Bool}

@@ -3,16 +3,16 @@ use Rattle.std.specs.Prelude.{ℕ, suc, ◌-◌, List, [], ◌∷◌, ◌++◌, 
 use Rattle.std.specs.List.{flat_map}
 use Rattle.std.specs.Option.{option_and_then}
 use Rattle.il_base.specs.declared.table.TheConstants.{TYPE_DEF}
-use Rattle.world_model.specs.declared.tokens.TheConstants.{FIRST_TYPE_DEF}
-use Rattle.world_model.specs.declared.types.TypeDefRow.{TypeDefRow}
-use Rattle.world_model.specs.declared.types.InterfaceImplRow.{InterfaceImplRow}
-use Rattle.world_model.specs.declared.record.AsmRec.{AsmRec}
-use Rattle.world_model.specs.declared.world.TypeLink.{TypeLink}
-use Rattle.world_model.specs.Tokens.{token_of}
-use Rattle.link_rules.specs.Members.{is_interface_row}
-use Rattle.link_rules.specs.Cycles.{listed, is_row_of}
-use Rattle.link_rules.specs.Faults.{numbered}
-use Rattle.link_rules.specs.Linked.{links_from}
+use Rattle.il_base.specs.declared.world_model.tokens.TheConstants.{FIRST_TYPE_DEF}
+use Rattle.il_base.specs.declared.world_model.types.TypeDefRow.{TypeDefRow}
+use Rattle.il_base.specs.declared.world_model.types.InterfaceImplRow.{InterfaceImplRow}
+use Rattle.il_base.specs.declared.world_model.record.AsmRec.{AsmRec}
+use Rattle.il_base.specs.declared.world_model.world.TypeLink.{TypeLink}
+use Rattle.il_base.specs.world_model.Tokens.{token_of}
+use Rattle.rules.specs.link_rules.Members.{is_interface_row}
+use Rattle.rules.specs.link_rules.Cycles.{listed, is_row_of}
+use Rattle.rules.specs.link_rules.Faults.{numbered}
+use Rattle.rules.specs.link_rules.Linked.{links_from}
 use Rattle.link_faults.specs.Graphs.{next_in}
 use Rattle.link_faults.specs.Targets.{target_at, named_target_at}
 

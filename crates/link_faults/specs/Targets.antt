@@ -2,12 +2,12 @@
 use Rattle.std.specs.Prelude.{ℕ, ◌+◌, List, Option, Some, None, nat_lt, if◌then◌else◌}
 use Rattle.std.specs.Option.{option_and_then}
 use Rattle.il_base.specs.declared.ids.TypeId.{TypeId}
-use Rattle.world_model.specs.declared.expr.TypeExpr.{TypeExpr}
-use Rattle.world_model.specs.declared.record.AsmRec.{AsmRec}
-use Rattle.world_model.specs.declared.world.TypeLink.{TypeLink}
-use Rattle.world_model.specs.Worlds.{known_or, type_link_at, rows_before, types_in}
-use Rattle.link_rules.specs.declared.row_at.RowAt.{RowAt}
-use Rattle.link_rules.specs.Members.{type_count, owner_of, only_named, good_type}
+use Rattle.il_base.specs.declared.world_model.expr.TypeExpr.{TypeExpr}
+use Rattle.il_base.specs.declared.world_model.record.AsmRec.{AsmRec}
+use Rattle.il_base.specs.declared.world_model.world.TypeLink.{TypeLink}
+use Rattle.il_base.specs.world_model.Worlds.{known_or, type_link_at, rows_before, types_in}
+use Rattle.rules.specs.declared.link_rules.row_at.RowAt.{RowAt}
+use Rattle.rules.specs.link_rules.Members.{type_count, owner_of, only_named, good_type}
 
 abbrev pub id_of : List AsmRec → RowAt → ℕ
 id_of all at = rows_before types_in all at.asm + at.row

@@ -1,11 +1,11 @@
 -- The graphs over the types of a world, and the types that they speak of.
 use Rattle.std.specs.Prelude.{◌≡◌, ℕ, List, Some, slice_get}
-use Rattle.world_model.specs.declared.record.AsmRec.{AsmRec}
-use Rattle.world_model.specs.declared.world.TypeLink.{TypeLink}
-use Rattle.world_model.specs.Worlds.{type_id}
-use Rattle.link_rules.specs.Types.{at_row}
-use Rattle.link_rules.specs.Members.{type_home}
-use Rattle.link_rules.specs.Laws.{TellTokens, TellSignatures, TellMethods}
+use Rattle.il_base.specs.declared.world_model.record.AsmRec.{AsmRec}
+use Rattle.il_base.specs.declared.world_model.world.TypeLink.{TypeLink}
+use Rattle.il_base.specs.world_model.Worlds.{type_id}
+use Rattle.rules.specs.link_rules.Types.{at_row}
+use Rattle.rules.specs.link_rules.Members.{type_home}
+use Rattle.rules.specs.link_rules.Laws.{TellTokens, TellSignatures, TellMethods}
 use Rattle.link_faults.specs.Supertypes.{all_bases, interface_flags, all_interfaces}
 use Rattle.link_faults.specs.Values.{all_values, all_held}
 use Rattle.link_faults.specs.declared.cycles.Graphs.{Graphs}

@@ -1,22 +1,22 @@
 -- Value types in the fields of value types, by their ids, with the links of type tokens in place of the tables.
 use Rattle.std.specs.Prelude.{ℕ, suc, ◌-◌, List, [], ◌∷◌, ◌++◌, length, Option, Some, None, slice_get, unwrap_or, nat_eq, ◌&&◌, ◌||◌, Bool, false, not, if◌then◌else◌}
 use Rattle.std.specs.List.{flat_map}
-use Rattle.world_model.specs.declared.known.Known.{Known}
+use Rattle.il_base.specs.declared.world_model.known.Known.{Known}
 use Rattle.il_base.specs.declared.ids.TypeId.{TypeId}
 use Rattle.il_base.specs.declared.sig.Sig.{Sig}
-use Rattle.world_model.specs.declared.tokens.TheConstants.{FIRST_TYPE_DEF}
-use Rattle.world_model.specs.declared.expr.TypeExpr.{TypeExpr, fold-TypeExpr}
-use Rattle.world_model.specs.declared.expr.TypeExpr.TheOpen.{TypeExpr-F}
-use Rattle.world_model.specs.declared.types.TypeDefRow.{TypeDefRow}
-use Rattle.world_model.specs.declared.members.FieldRow.{FieldRow}
-use Rattle.world_model.specs.declared.record.AsmRec.{AsmRec}
-use Rattle.world_model.specs.declared.world.TypeLink.{TypeLink}
-use Rattle.world_model.specs.Worlds.{known_then, sig_expr, names_by, type_id}
-use Rattle.core_table.specs.declared.tokens.TheConstants.{VALUE_TYPE, ENUM}
-use Rattle.link_rules.specs.Members.{good_type, run_of}
-use Rattle.link_rules.specs.Cycles.{listed, is_static_field}
-use Rattle.link_rules.specs.Faults.{numbered}
-use Rattle.link_rules.specs.Linked.{links_from}
+use Rattle.il_base.specs.declared.world_model.tokens.TheConstants.{FIRST_TYPE_DEF}
+use Rattle.il_base.specs.declared.world_model.expr.TypeExpr.{TypeExpr, fold-TypeExpr}
+use Rattle.il_base.specs.declared.world_model.expr.TypeExpr.TheOpen.{TypeExpr-F}
+use Rattle.il_base.specs.declared.world_model.types.TypeDefRow.{TypeDefRow}
+use Rattle.il_base.specs.declared.world_model.members.FieldRow.{FieldRow}
+use Rattle.il_base.specs.declared.world_model.record.AsmRec.{AsmRec}
+use Rattle.il_base.specs.declared.world_model.world.TypeLink.{TypeLink}
+use Rattle.il_base.specs.world_model.Worlds.{known_then, sig_expr, names_by, type_id}
+use Rattle.il_base.specs.declared.core_table.tokens.TheConstants.{VALUE_TYPE, ENUM}
+use Rattle.rules.specs.link_rules.Members.{good_type, run_of}
+use Rattle.rules.specs.link_rules.Cycles.{listed, is_static_field}
+use Rattle.rules.specs.link_rules.Faults.{numbered}
+use Rattle.rules.specs.link_rules.Linked.{links_from}
 use Rattle.link_faults.specs.Supertypes.{base_target}
 
 -- ---- which types are value types (II.13)

@@ -1,16 +1,16 @@
 //! What each type leads to by its base.
 
 ghost use Rattle.std.specs.Prelude.{◌≡◌, IfOk};
-ghost use Rattle.link_rules.specs.Members.{is_interface_row};
-ghost use Rattle.link_rules.specs.Faults.{numbered};
+ghost use Rattle.rules.specs.link_rules.Members.{is_interface_row};
+ghost use Rattle.rules.specs.link_rules.Faults.{numbered};
 ghost use Rattle.link_faults.specs.Supertypes.{base_target, bases_of, all_bases};
 
 use crate::graph::list_of;
 use crate::scope::Scope;
 use il_base::type_flags::INTERFACE;
+use il_base::world_model::{AsmRec, TypeDefRow};
 use il_base::{AsmId, NoMemory, Seq, has_type_flag};
 use std::alloc::Global;
-use world_model::{AsmRec, TypeDefRow};
 
 /// Whether a row is an interface's (II.23.1.15).
 pub(crate) fn is_interface_row(row: &TypeDefRow) -> bool

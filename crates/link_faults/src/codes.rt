@@ -4,8 +4,8 @@ ghost use Rattle.std.specs.Prelude.{◌≡◌, ◌∷◌, ◌++◌, [], IfOk, On
 ghost use Rattle.std.specs.List.{flat_map};
 ghost use Rattle.link_faults.specs.Codes.{bit, type_code, with_text};
 
+use il_base::world_model::TypeExpr;
 use il_base::{NoMemory, Seq};
-use world_model::TypeExpr;
 
 /// The number of a flag.
 pub(crate) fn bit(flag: bool) -> u32

@@ -2,9 +2,9 @@
 
 ghost use Rattle.std.specs.Prelude.{◌≡◌, ◌≤◌, length, take, IfOk};
 ghost use Rattle.std.specs.Bool.{OnTrue};
-ghost use Rattle.link_rules.specs.Types.{at_row};
-ghost use Rattle.link_rules.specs.Faults.{first_of, is_cyclic_type, cyclic_type, cyclic_types};
-ghost use Rattle.link_rules.specs.Laws.{AreTypeLinks};
+ghost use Rattle.rules.specs.link_rules.Types.{at_row};
+ghost use Rattle.rules.specs.link_rules.Faults.{first_of, is_cyclic_type, cyclic_type, cyclic_types};
+ghost use Rattle.rules.specs.link_rules.Laws.{AreTypeLinks};
 ghost use Rattle.link_faults.specs.Graphs.{IsAcyclic};
 ghost use Rattle.link_faults.specs.TypeCycles.{Tells, AreGraphs, AreLeveled, HasType, HasAssembly};
 
@@ -16,11 +16,11 @@ use crate::levels::{is_on_cycle, levels_of};
 use crate::ranks::is_acyclic;
 use crate::scope::Scope;
 use crate::value_types::all_values;
+use base_laws::link_laws::laws::links_tell;
+use il_base::world_model::{AsmRec, TypeLink, type_id};
 use il_base::{NoMemory, Seq, reason, table};
-use link_laws::laws::links_tell;
-use link_rules::LinkError;
+use rules::link_rules::LinkError;
 use std::alloc::Global;
-use world_model::{AsmRec, TypeLink, type_id};
 
 /// What each type leads to, in the order of ids.
 #[derive(Drop)]
@@ -86,7 +86,7 @@ impl Graphs {
     }
 
     /// Whether the type in this row of an assembly is on a cycle.
-    #[tactic(auto, unfolding(link_rules::specs::Faults::is_cyclic_type))]
+    #[tactic(auto, unfolding(rules::specs::link_rules::Faults::is_cyclic_type))]
     fn is_cyclic(
         &self,
         alloc: Global,
@@ -139,7 +139,7 @@ impl Graphs {
     }
 
     /// The first type of these assemblies that is on a cycle, looked for one by one.
-    #[tactic(auto, unfolding(link_rules::specs::Faults::cyclic_types))]
+    #[tactic(auto, unfolding(rules::specs::link_rules::Faults::cyclic_types))]
     fn first_cyclic(
         &self,
         alloc: Global,

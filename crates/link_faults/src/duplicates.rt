@@ -1,8 +1,8 @@
 //! Types, fields and methods that are there twice.
 
 ghost use Rattle.std.specs.Prelude.{◌≡◌, ◌≤◌, length, take, bytes_eq, IfOk};
-ghost use Rattle.link_rules.specs.Faults.{first_of, first_repeat, repeated_row, repeated_type, repeated_field, repeated_method, repeated_in, duplicate_member};
-ghost use Rattle.link_rules.specs.Laws.{AreTypeLinks};
+ghost use Rattle.rules.specs.link_rules.Faults.{first_of, first_repeat, repeated_row, repeated_type, repeated_field, repeated_method, repeated_in, duplicate_member};
+ghost use Rattle.rules.specs.link_rules.Laws.{AreTypeLinks};
 ghost use Rattle.link_faults.specs.TypeCycles.{Tells, HasAssembly};
 
 use crate::found::row_fault;
@@ -10,11 +10,11 @@ use crate::member_keys::{field_codes, method_codes};
 use crate::repeats::first_repeat;
 use crate::scope::Scope;
 use crate::type_keys::type_codes;
+use base_laws::link_laws::laws::links_tell;
+use il_base::world_model::{AsmRec, TypeLink};
 use il_base::{AsmId, NoMemory, Seq, reason, table};
-use link_laws::laws::links_tell;
-use link_rules::LinkError;
+use rules::link_rules::LinkError;
 use std::alloc::Global;
-use world_model::{AsmRec, TypeLink};
 
 /// The fault of the first row whose numbers an earlier one has.
 fn repeated_row(
@@ -99,7 +99,7 @@ fn repeated_in(
 }
 
 /// The first type, field or method that is there twice in one of these assemblies.
-#[tactic(auto, unfolding(link_rules::specs::Faults::duplicate_member))]
+#[tactic(auto, unfolding(rules::specs::link_rules::Faults::duplicate_member))]
 fn first_duplicate(
     alloc: Global,
     scope: &Scope<'_>,

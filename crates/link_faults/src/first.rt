@@ -1,8 +1,8 @@
 //! The first fault of several assemblies.
 
 ghost use Rattle.std.specs.Prelude.{◌≡◌, ◌≤◌, length, take, IfOk};
-ghost use Rattle.link_rules.specs.Faults.{link_fault};
-ghost use Rattle.link_rules.specs.Laws.{AreTypeLinks};
+ghost use Rattle.rules.specs.link_rules.Faults.{link_fault};
+ghost use Rattle.rules.specs.link_rules.Laws.{AreTypeLinks};
 ghost use Rattle.link_faults.specs.Answer.{Answers};
 
 use crate::cycles::cyclic_types;
@@ -10,12 +10,12 @@ use crate::duplicates::duplicate_member;
 use crate::names::duplicate_assembly;
 use crate::nesting::cyclic_nesting;
 use il_base::NoMemory;
-use link_rules::LinkError;
+use il_base::world_model::{AsmRec, TypeLink};
+use rules::link_rules::LinkError;
 use std::alloc::Global;
-use world_model::{AsmRec, TypeLink};
 
 /// The first fault of the first assemblies, `inputs` of them, in the world of all.
-#[tactic(auto, unfolding(link_rules::specs::Faults::link_fault))]
+#[tactic(auto, unfolding(rules::specs::link_rules::Faults::link_fault))]
 fn first_fault(
     alloc: Global,
     all: &[AsmRec],

@@ -1,12 +1,12 @@
 //! Faults of rows.
 
 ghost use Rattle.std.specs.Prelude.{◌≡◌, suc, IfOk};
-ghost use Rattle.world_model.specs.Tokens.{token_of};
-ghost use Rattle.link_rules.specs.declared.link_error.LinkError.TheVariants as fault;
+ghost use Rattle.il_base.specs.world_model.Tokens.{token_of};
+ghost use Rattle.rules.specs.declared.link_rules.link_error.LinkError.TheVariants as fault;
 
 use il_base::NoMemory;
-use link_rules::LinkError;
-use world_model::token_of;
+use il_base::world_model::token_of;
+use rules::link_rules::LinkError;
 
 /// The fault of a row of this table; rows and files count from 0. Where its token has more than 32 bits, there is no
 /// memory for such a row.

@@ -2,7 +2,7 @@
 
 ghost use Rattle.std.specs.Prelude.{◌≡◌, ◌≤◌, [], ◌∷◌, ◌++◌, drop, length, nat_eq, IfOk, OnOk};
 ghost use Rattle.std.specs.List.{flat_map, list_any};
-ghost use Rattle.link_rules.specs.Cycles.{listed, add_new, add_all, led_to, is_on_cycle};
+ghost use Rattle.rules.specs.link_rules.Cycles.{listed, add_new, add_all, led_to, is_on_cycle};
 ghost use Rattle.link_faults.specs.Graphs.{next_in, marked, AreMarked};
 
 use il_base::{NoMemory, Seq};
@@ -168,7 +168,7 @@ fn led_to(alloc: Global, graph: &[Seq<u32>], steps: usize, nodes: &[u32]) -> Res
 }
 
 /// Whether a node leads to itself over at most `steps` further nodes.
-#[tactic(auto, unfolding(link_rules::specs::Cycles::is_on_cycle))]
+#[tactic(auto, unfolding(rules::specs::link_rules::Cycles::is_on_cycle))]
 pub(crate) fn leads_to_itself(
     alloc: Global,
     graph: &[Seq<u32>],

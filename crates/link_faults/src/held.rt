@@ -2,16 +2,16 @@
 
 ghost use Rattle.std.specs.Prelude.{◌≡◌, ◌++◌, unwrap_or, slice_get, false, IfOk, OnOk};
 ghost use Rattle.std.specs.List.{flat_map};
-ghost use Rattle.link_rules.specs.Cycles.{is_static_field};
-ghost use Rattle.link_rules.specs.Faults.{numbered};
-ghost use Rattle.link_rules.specs.Members.{run_of};
+ghost use Rattle.rules.specs.link_rules.Cycles.{is_static_field};
+ghost use Rattle.rules.specs.link_rules.Faults.{numbered};
+ghost use Rattle.rules.specs.link_rules.Members.{run_of};
 ghost use Rattle.link_faults.specs.Values.{flagged, held_in, held_in_field, held_by, all_held};
 
 use crate::scope::Scope;
 use crate::value_types::is_value;
+use il_base::world_model::{AsmRec, FieldRow, TypeDefRow, TypeExpr};
 use il_base::{AsmId, NoMemory, Seq, TypeId, field_flags};
 use std::alloc::Global;
-use world_model::{AsmRec, FieldRow, TypeDefRow, TypeExpr};
 
 /// Whether the type of an id has a flag among these, which are in the order of ids.
 pub(crate) fn has_flag(flags: &[bool], id: TypeId) -> bool

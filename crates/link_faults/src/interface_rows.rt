@@ -1,16 +1,16 @@
 //! What each type leads to by the interfaces that its rows name (II.22.23).
 
 ghost use Rattle.std.specs.Prelude.{◌≡◌, [], ◌∷◌, ◌++◌, slice_set, IfOk, OnOk};
-ghost use Rattle.link_rules.specs.Faults.{numbered};
+ghost use Rattle.rules.specs.link_rules.Faults.{numbered};
 ghost use Rattle.link_faults.specs.Graphs.{next_in};
 ghost use Rattle.link_faults.specs.Supertypes.{interface_flag, interface_flags, interface_at, place_of, led_on, nothing_of, interfaces_of, all_interfaces};
 
 use crate::bases::is_interface_row;
 use crate::held::has_flag;
 use crate::scope::Scope;
+use il_base::world_model::{AsmRec, FIRST_TYPE_DEF, InterfaceImplRow};
 use il_base::{AsmId, NoMemory, Seq, TypeId};
 use std::alloc::Global;
-use world_model::{AsmRec, FIRST_TYPE_DEF, InterfaceImplRow};
 
 /// Adds which types of an assembly are interfaces.
 fn add_flags(rec: &AsmRec, flags: &mut Vec<bool>) -> Result<(), NoMemory>

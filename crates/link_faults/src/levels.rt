@@ -3,7 +3,7 @@
 
 ghost use Rattle.std.specs.Prelude.{◌≡◌, nat_eq, IfOk};
 ghost use Rattle.std.specs.List.{list_all};
-ghost use Rattle.link_rules.specs.Cycles.{is_on_cycle};
+ghost use Rattle.rules.specs.link_rules.Cycles.{is_on_cycle};
 ghost use Rattle.link_faults.specs.Graphs.{next_in, rank_of, is_lower, is_within, never_up, AreLevels};
 
 use crate::graph::{leads_to_itself, next_in};

@@ -2,8 +2,8 @@
 
 ghost use Rattle.std.specs.Prelude.{◌≡◌, ◌<◌, length, slice_index_or, None, IfOk};
 ghost use Rattle.std.specs.Option.{option_map};
-ghost use Rattle.world_model.specs.Worlds.{sig_expr, names_by};
-ghost use Rattle.link_rules.specs.Members.{good_type, is_compiler_controlled};
+ghost use Rattle.il_base.specs.world_model.Worlds.{sig_expr, names_by};
+ghost use Rattle.rules.specs.link_rules.Members.{good_type, is_compiler_controlled};
 ghost use Rattle.link_faults.specs.Codes.{type_code};
 ghost use Rattle.link_faults.specs.Keys.{code_of_member, code_of_field, field_codes, codes_of_types, code_of_parts, code_of_signature, code_of_known, code_of_method, method_codes};
 
@@ -11,9 +11,9 @@ use crate::codes::{add_count, add_text, add_type, bit};
 use crate::owners::{Member, owners};
 use crate::scope::Scope;
 use il_base::method_flags::COMPILER_CONTROLLED;
+use il_base::world_model::{AsmRec, FieldRow, Known, MethodDefRow};
 use il_base::{AsmId, MethodSig, NoMemory, Seq, Sig, access_of};
 use std::alloc::Global;
-use world_model::{AsmRec, FieldRow, Known, MethodDefRow};
 
 /// Whether a member is compiler-controlled (II.23.1.5, II.23.1.10).
 fn is_compiler_controlled(flags: u16) -> bool

@@ -3,15 +3,15 @@
 ghost use Rattle.std.specs.Prelude.{◌≡◌, ◌||◌, Some, IfOk};
 ghost use Rattle.std.specs.HashSet.{contains_by};
 ghost use Rattle.il_base.specs.declared.reason.TheConstants.{DUPLICATE_ASSEMBLY};
-ghost use Rattle.world_model.specs.Core.{same_name, is_core_name};
-ghost use Rattle.link_rules.specs.declared.link_error.LinkError.TheVariants as fault;
-ghost use Rattle.link_rules.specs.Faults.{own_name, duplicate_assembly};
+ghost use Rattle.il_base.specs.world_model.Core.{same_name, is_core_name};
+ghost use Rattle.rules.specs.declared.link_rules.link_error.LinkError.TheVariants as fault;
+ghost use Rattle.rules.specs.link_rules.Faults.{own_name, duplicate_assembly};
 
+use il_base::world_model::{AsmRec, is_core_name};
 use il_base::{NoMemory, reason};
-use link_rules::LinkError;
+use rules::link_rules::LinkError;
 use std::alloc::Global;
 use std::collections::HashSet;
-use world_model::{AsmRec, is_core_name};
 
 /// The name in the row of Assembly (II.22.2), empty where there is none.
 fn own_name(rec: &AsmRec) -> &[u8]
@@ -45,7 +45,7 @@ fn is_taken(names: &HashSet<&[u8]>, name: &[u8]) -> bool
 }
 
 /// The first assembly whose name is one of the core library's, or that of an earlier assembly.
-#[tactic(auto, unfolding(link_rules::specs::Faults::duplicate_assembly))]
+#[tactic(auto, unfolding(rules::specs::link_rules::Faults::duplicate_assembly))]
 pub fn duplicate_assembly(alloc: Global, recs: &[AsmRec]) -> Result<Option<LinkError>, NoMemory>
     ensures { IfOk result (λ found. found ≡ duplicate_assembly recs.now) }
 {

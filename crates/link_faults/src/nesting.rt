@@ -1,11 +1,11 @@
 //! Cycles of enclosing types.
 
 ghost use Rattle.std.specs.Prelude.{◌≡◌, ℕ, suc, ◌<◌, ◌≤◌, ◌==◌, length, IfOk, OnOk, if◌then◌else◌};
-ghost use Rattle.link_rules.specs.Faults.{first_of, is_cyclic_around, cyclic_nesting_row, cyclic_nesting};
-ghost use Rattle.link_rules.specs.Types.{encloser};
-ghost use Rattle.link_rules.specs.Cycles.{listed};
+ghost use Rattle.rules.specs.link_rules.Faults.{first_of, is_cyclic_around, cyclic_nesting_row, cyclic_nesting};
+ghost use Rattle.rules.specs.link_rules.Types.{encloser};
+ghost use Rattle.rules.specs.link_rules.Cycles.{listed};
 ghost use Rattle.il_base.specs.declared.table.TheConstants.{TYPE_DEF};
-ghost use Rattle.world_model.specs.Tokens.{index_in};
+ghost use Rattle.il_base.specs.world_model.Tokens.{index_in};
 ghost use Rattle.link_faults.specs.Graphs.{next_in, AreLevels};
 ghost use Rattle.link_faults.specs.Nesting.{IsAround};
 
@@ -13,10 +13,10 @@ use crate::found::row_fault;
 use crate::graph::{list_of, next_in};
 use crate::levels::{is_on_cycle, levels_of};
 use crate::ranks::is_acyclic;
+use il_base::world_model::{AsmRec, NestedClassRow, index_in};
 use il_base::{NoMemory, Seq, reason, table};
-use link_rules::LinkError;
+use rules::link_rules::LinkError;
 use std::alloc::Global;
-use world_model::{AsmRec, NestedClassRow, index_in};
 
 /// The greatest number of a row, from 1, in a token.
 const LAST_ROW: u32 = 0xff_ffff;
@@ -151,7 +151,7 @@ fn cyclic_nesting_in(
 }
 
 /// The first row of NestedClass (II.22.32) whose encloser is on a cycle, assembly by assembly.
-#[tactic(auto, unfolding(link_rules::specs::Faults::cyclic_nesting))]
+#[tactic(auto, unfolding(rules::specs::link_rules::Faults::cyclic_nesting))]
 pub fn cyclic_nesting(alloc: Global, recs: &[AsmRec]) -> Result<Option<LinkError>, NoMemory>
     ensures { IfOk result (λ found. found ≡ cyclic_nesting recs.now) }
 {

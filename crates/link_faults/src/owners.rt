@@ -1,12 +1,12 @@
 //! The types that members are in: the first whose run holds the member's row (II.22.37).
 
 ghost use Rattle.std.specs.Prelude.{◌≡◌, ℕ, suc, ◌<◌, ◌≤◌, length, slice_index_or, Some, None, nat_le, nat_lt, ◌&&◌, if◌then◌else◌, IfOk};
-ghost use Rattle.link_rules.specs.Members.{is_in_run};
+ghost use Rattle.rules.specs.link_rules.Members.{is_in_run};
 ghost use Rattle.link_faults.specs.Owners.{first_in, end_in, Owns};
 
 use il_base::NoMemory;
+use il_base::world_model::TypeDefRow;
 use std::alloc::Global;
-use world_model::TypeDefRow;
 
 /// A kind of member.
 #[derive(Clone, Copy, Debug, PartialEq, Eq)]

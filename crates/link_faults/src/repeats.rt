@@ -1,7 +1,7 @@
 //! The first of some lists that an earlier one is the same as.
 
 ghost use Rattle.std.specs.Prelude.{◌≡◌, bytes_eq, IfOk};
-ghost use Rattle.link_rules.specs.Faults.{first_repeat};
+ghost use Rattle.rules.specs.link_rules.Faults.{first_repeat};
 
 use il_base::{NoMemory, Seq};
 use std::alloc::Global;

@@ -1,10 +1,10 @@
 //! The assemblies of a world, and what their type tokens name.
 
 ghost use Rattle.std.specs.Prelude.{◌≡◌, IfOk};
-ghost use Rattle.link_rules.specs.Members.{type_count};
+ghost use Rattle.rules.specs.link_rules.Members.{type_count};
 
 use il_base::NoMemory;
-use world_model::{AsmRec, TypeLink};
+use il_base::world_model::{AsmRec, TypeLink};
 
 /// The assemblies and the links of all their type tokens.
 #[derive(Clone, Copy)]

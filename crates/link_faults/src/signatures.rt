@@ -1,13 +1,13 @@
 //! The types that signatures of members name.
 
 ghost use Rattle.std.specs.Prelude.{◌≡◌, IfOk};
-ghost use Rattle.world_model.specs.Worlds.{known_then, sig_expr, names_by};
-ghost use Rattle.link_rules.specs.Members.{good_type};
+ghost use Rattle.il_base.specs.world_model.Worlds.{known_then, sig_expr, names_by};
+ghost use Rattle.rules.specs.link_rules.Members.{good_type};
 
 use crate::scope::Scope;
+use il_base::world_model::{Known, TypeExpr, expr_by};
 use il_base::{AsmId, NoMemory, Sig};
 use std::alloc::Global;
-use world_model::{Known, TypeExpr, expr_by};
 
 impl Scope<'_> {
     /// The type that a signature of an assembly names, where it names one.

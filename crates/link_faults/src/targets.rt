@@ -2,13 +2,15 @@
 
 ghost use Rattle.std.specs.Prelude.{◌≡◌, IfOk, nat_lt, if◌then◌else◌, Some, None};
 ghost use Rattle.std.specs.Option.{option_copied, option_map};
-ghost use Rattle.link_rules.specs.Members.{array_type, owner_of, is_named, only_named};
+ghost use Rattle.rules.specs.link_rules.Members.{array_type, owner_of, is_named, only_named};
 ghost use Rattle.link_faults.specs.Targets.{linked, id_below, target_of, target_at, named_target_at};
 
 use crate::scope::Scope;
-use core_table::ARRAY;
+use il_base::core_table::ARRAY;
+use il_base::world_model::{
+    AsmRec, FIRST_TYPE_DEF, Known, TypeExpr, prim_type, type_id, type_link_at,
+};
 use il_base::{AsmId, NoMemory, TypeId};
-use world_model::{AsmRec, FIRST_TYPE_DEF, Known, TypeExpr, prim_type, type_id, type_link_at};
 
 /// The type `System.Array` of the core library, whether it is there or not.
 fn array_type(all: &[AsmRec]) -> Result<Option<TypeId>, NoMemory>
@@ -22,7 +24,7 @@ fn array_type(all: &[AsmRec]) -> Result<Option<TypeId>, NoMemory>
 }
 
 /// The type whose members a type has.
-#[tactic(auto, unfolding(link_rules::specs::Members::owner_of))]
+#[tactic(auto, unfolding(rules::specs::link_rules::Members::owner_of))]
 fn owner_of(all: &[AsmRec], ty: &TypeExpr) -> Result<Option<TypeId>, NoMemory>
     ensures { IfOk result (λ id. id ≡ owner_of all.now ty.now) }
 {
@@ -39,7 +41,7 @@ fn owner_of(all: &[AsmRec], ty: &TypeExpr) -> Result<Option<TypeId>, NoMemory>
 }
 
 /// Whether a type is a class or an interface, alone or with arguments.
-#[tactic(auto, unfolding(link_rules::specs::Members::is_named))]
+#[tactic(auto, unfolding(rules::specs::link_rules::Members::is_named))]
 fn is_named(ty: &TypeExpr) -> bool
     ensures { result ≡ is_named ty.now }
 {

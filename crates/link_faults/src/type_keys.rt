@@ -5,9 +5,9 @@ ghost use Rattle.link_faults.specs.Keys.{code_of_type, type_codes};
 
 use crate::codes::add_text;
 use crate::nesting::{encloser, enclosers};
+use il_base::world_model::{AsmRec, TypeDefRow};
 use il_base::{NoMemory, Seq};
 use std::alloc::Global;
-use world_model::{AsmRec, TypeDefRow};
 
 /// The numbers of a type that this type encloses, if one does.
 fn code_of_type(alloc: Global, around: &[u32], row: &TypeDefRow) -> Result<Seq<u32>, NoMemory>

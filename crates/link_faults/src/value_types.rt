@@ -1,16 +1,16 @@
 //! Which types are value types (II.13).
 
 ghost use Rattle.std.specs.Prelude.{◌≡◌, ◌≤◌, ◌++◌, IfOk, OnOk};
-ghost use Rattle.world_model.specs.declared.tokens.TheConstants.{FIRST_TYPE_DEF};
-ghost use Rattle.link_rules.specs.Faults.{numbered};
+ghost use Rattle.il_base.specs.declared.world_model.tokens.TheConstants.{FIRST_TYPE_DEF};
+ghost use Rattle.rules.specs.link_rules.Faults.{numbered};
 ghost use Rattle.link_faults.specs.Values.{core_type, is_core_type, is_enum_itself, is_value, all_values};
 
 use crate::bases::base_target;
 use crate::scope::Scope;
-use core_table::{ENUM, VALUE_TYPE};
+use il_base::core_table::{ENUM, VALUE_TYPE};
+use il_base::world_model::{AsmRec, FIRST_TYPE_DEF, TypeDefRow, type_id};
 use il_base::{AsmId, NoMemory, TypeId};
 use std::alloc::Global;
-use world_model::{AsmRec, FIRST_TYPE_DEF, TypeDefRow, type_id};
 
 /// The id of a type of the core library by its token, whether it is there or not.
 fn core_type(all: &[AsmRec], token: u32) -> Result<TypeId, NoMemory>

@@ -4,3 +4,4 @@ pub mod Seeking
 pub mod Needing
 pub mod Naming
 pub mod Wanted
+pub mod lemmas

@@ -2,8 +2,8 @@
 use Rattle.std.proofs.Common.{◌≡◌, ℕ, suc, ◌<◌, ◌≤◌, ◌-◌, get_or, List, [], ◌∷◌, length, take, drop, Bool, true, false, refl, sym, ap, ◌∙◌, arith}
 use Rattle.std.specs.Prelude.{codes, ◌||◌, if◌then◌else◌}
 use Rattle.std.proofs.lemmas.List.{take_all}
-use Rattle.world_model.specs.Core.{same_name}
-use Rattle.mark_rules.specs.Dependencies.{plain}
+use Rattle.il_base.specs.world_model.Core.{same_name}
+use Rattle.rules.specs.mark_rules.Dependencies.{plain}
 use Rattle.mark_dependencies.specs.Names.{first_letter}
 
 pub short : (name : List ℕ) → length name < 6 → name ≡ take 6 name

@@ -3,15 +3,15 @@ use Rattle.std.proofs.Common.{◌≡◌, List, [], ◌∷◌, ◌++◌, map, Opt
 use Rattle.std.specs.List.{flat_map}
 use Rattle.std.proofs.lemmas.List.{append-nil}
 use Rattle.il_base.specs.declared.ids.Item.{Item}
-use Rattle.world_model.specs.declared.record.AsmRec.{AsmRec}
-use Rattle.link_rules.specs.declared.row_at.RowAt.{RowAt}
-use Rattle.link_rules.specs.Cycles.{listed}
-use Rattle.mark_rules.specs.Facts.{Fact}
-use Rattle.mark_rules.specs.Annotations.{dependencies}
-use Rattle.mark_rules.specs.Places.{row_of}
-use Rattle.mark_rules.specs.Dependencies.{sought_in, dependency_facts, dependency_needs}
-use Rattle.dependency_forms.specs.declared.dependency.Dependency.{Dependency}
-use Rattle.dependency_forms.specs.Told.{sought_told, dependency_told}
+use Rattle.il_base.specs.declared.world_model.record.AsmRec.{AsmRec}
+use Rattle.rules.specs.declared.link_rules.row_at.RowAt.{RowAt}
+use Rattle.rules.specs.link_rules.Cycles.{listed}
+use Rattle.rules.specs.mark_rules.Facts.{Fact}
+use Rattle.rules.specs.mark_rules.Annotations.{dependencies}
+use Rattle.rules.specs.mark_rules.Places.{row_of}
+use Rattle.rules.specs.mark_rules.Dependencies.{sought_in, dependency_facts, dependency_needs}
+use Rattle.attribute_values.specs.declared.dependency_forms.dependency.Dependency.{Dependency}
+use Rattle.attribute_values.specs.dependency_forms.Told.{sought_told, dependency_told}
 use Rattle.mark_dependencies.specs.Lookups.{told_facts, kept_of}
 use Rattle.mark_dependencies.proofs.Lists.{flat_told}
 

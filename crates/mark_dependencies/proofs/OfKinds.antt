@@ -1,13 +1,13 @@
 -- The members that kinds name, in two parts.
 use Rattle.std.proofs.Common.{◌≡◌, ℕ, ◌<◌, ◌≤◌, List, [], ◌∷◌, ◌++◌, length, map, refl, sym, ap, ◌∙◌, append_assoc, arith}
 use Rattle.std.proofs.lemmas.List.{append-nil}
-use Rattle.world_model.specs.declared.record.AsmRec.{AsmRec}
-use Rattle.link_rules.specs.declared.row_at.RowAt.{RowAt}
-use Rattle.mark_rules.specs.Facts.{Fact}
-use Rattle.world_model.specs.Worlds.{type_id}
-use Rattle.mark_rules.specs.Facts.Fact.{marked, instantiated}
-use Rattle.mark_rules.specs.Members.{constructors_by, members_by}
-use Rattle.mark_rules.specs.Dependencies.{members_of_kinds}
+use Rattle.il_base.specs.declared.world_model.record.AsmRec.{AsmRec}
+use Rattle.rules.specs.declared.link_rules.row_at.RowAt.{RowAt}
+use Rattle.rules.specs.mark_rules.Facts.{Fact}
+use Rattle.il_base.specs.world_model.Worlds.{type_id}
+use Rattle.rules.specs.mark_rules.Facts.Fact.{marked, instantiated}
+use Rattle.rules.specs.mark_rules.Members.{constructors_by, members_by}
+use Rattle.rules.specs.mark_rules.Dependencies.{members_of_kinds}
 use Rattle.mark_dependencies.specs.Names.{made_by}
 
 by_constructors : (recs : List AsmRec) (kinds : ℕ) (t : RowAt) (cs : List RowAt) → constructors_by recs kinds t ≡ cs → made_by recs t cs ++ map marked (members_by recs kinds t) ≡ members_of_kinds recs kinds t

@@ -2,18 +2,18 @@
 use Rattle.std.specs.Prelude.{◌≡◌, List, ◌∷◌, map}
 use Rattle.std.specs.List.{flat_map}
 use Rattle.il_base.specs.declared.ids.Item.{Item}
-use Rattle.world_model.specs.declared.record.AsmRec.{AsmRec}
-use Rattle.link_rules.specs.declared.row_at.RowAt.{RowAt}
-use Rattle.link_rules.specs.Types.{at_row}
-use Rattle.link_rules.specs.Cycles.{listed}
-use Rattle.type_rules.specs.Rows.{owner_of_field, rec_at}
-use Rattle.mark_rules.specs.Facts.{Fact}
-use Rattle.mark_rules.specs.Places.{marks_type}
-use Rattle.mark_rules.specs.Dependencies.{dependency_members, dependency_facts}
-use Rattle.dependency_forms.specs.declared.dependency.Dependency.{Dependency}
-use Rattle.dependency_forms.specs.Told.{dependency_told}
-use Rattle.mark_tables.specs.Assemblies.{all_of, IsMarker}
-use Rattle.nested_types.specs.Nested.{AreNested}
+use Rattle.il_base.specs.declared.world_model.record.AsmRec.{AsmRec}
+use Rattle.rules.specs.declared.link_rules.row_at.RowAt.{RowAt}
+use Rattle.rules.specs.link_rules.Types.{at_row}
+use Rattle.rules.specs.link_rules.Cycles.{listed}
+use Rattle.rules.specs.type_rules.Rows.{owner_of_field, rec_at}
+use Rattle.rules.specs.mark_rules.Facts.{Fact}
+use Rattle.rules.specs.mark_rules.Places.{marks_type}
+use Rattle.rules.specs.mark_rules.Dependencies.{dependency_members, dependency_facts}
+use Rattle.attribute_values.specs.declared.dependency_forms.dependency.Dependency.{Dependency}
+use Rattle.attribute_values.specs.dependency_forms.Told.{dependency_told}
+use Rattle.mark_parts.specs.mark_tables.Assemblies.{all_of, IsMarker}
+use Rattle.descriptor_texts.specs.nested_types.Nested.{AreNested}
 use Rattle.mark_dependencies.specs.declared.lookup.Lookup.{Lookup}
 
 abbrev pub recs_in : Lookup → List AsmRec

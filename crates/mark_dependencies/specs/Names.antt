@@ -1,20 +1,20 @@
 -- Members by name and by kinds.
 use Rattle.std.specs.Prelude.{ℕ, List, [], ◌∷◌, ◌++◌, map, take, codes, ◌||◌, Bool, if◌then◌else◌}
 use Rattle.std.specs.List.{filter}
-use Rattle.world_model.specs.declared.members.MethodDefRow.{MethodDefRow}
-use Rattle.world_model.specs.declared.record.AsmRec.{AsmRec}
-use Rattle.world_model.specs.Core.{same_name}
-use Rattle.world_model.specs.Worlds.{type_id}
-use Rattle.link_rules.specs.declared.row_at.RowAt.{RowAt}
-use Rattle.type_rules.specs.Rows.{fields_of_type}
-use Rattle.mark_rules.specs.Facts.{Fact}
-use Rattle.mark_rules.specs.Facts.Fact.{marked, instantiated}
-use Rattle.mark_rules.specs.Places.{marks_field, prop_item, event_item}
-use Rattle.mark_rules.specs.Members.{properties_of_type, events_of_type}
-use Rattle.mark_rules.specs.Attributes.{is_field_named, is_property_called}
-use Rattle.mark_rules.specs.Dependencies.{has_parameters, has_doc_name, is_event_called}
-use Rattle.mark_facts.specs.declared.kinds.Kind.{Kind}
-use Rattle.mark_facts.specs.Kinds.{item_at}
+use Rattle.il_base.specs.declared.world_model.members.MethodDefRow.{MethodDefRow}
+use Rattle.il_base.specs.declared.world_model.record.AsmRec.{AsmRec}
+use Rattle.il_base.specs.world_model.Core.{same_name}
+use Rattle.il_base.specs.world_model.Worlds.{type_id}
+use Rattle.rules.specs.declared.link_rules.row_at.RowAt.{RowAt}
+use Rattle.rules.specs.type_rules.Rows.{fields_of_type}
+use Rattle.rules.specs.mark_rules.Facts.{Fact}
+use Rattle.rules.specs.mark_rules.Facts.Fact.{marked, instantiated}
+use Rattle.rules.specs.mark_rules.Places.{marks_field, prop_item, event_item}
+use Rattle.rules.specs.mark_rules.Members.{properties_of_type, events_of_type}
+use Rattle.rules.specs.mark_rules.Attributes.{is_field_named, is_property_called}
+use Rattle.rules.specs.mark_rules.Dependencies.{has_parameters, has_doc_name, is_event_called}
+use Rattle.mark_parts.specs.declared.mark_facts.kinds.Kind.{Kind}
+use Rattle.mark_parts.specs.mark_facts.Kinds.{item_at}
 
 -- the first letter of a name, where `#ctor` is `.ctor`
 abbrev pub first_letter : List ℕ → ℕ → ℕ

@@ -2,27 +2,27 @@
 
 ghost use Rattle.std.specs.Prelude.{◌≡◌, ◌++◌, map, IfOk, OnOk};
 ghost use Rattle.std.specs.List.{filter};
-ghost use Rattle.type_rules.specs.Rows.{fields_of_type};
-ghost use Rattle.mark_facts.specs.Kinds.{item_at};
-ghost use Rattle.mark_rules.specs.Attributes.{is_field_named, is_property_called};
-ghost use Rattle.mark_rules.specs.Dependencies.{others_called, members_called};
-ghost use Rattle.mark_tables.specs.Assemblies.{all_of, IsMarker};
+ghost use Rattle.rules.specs.type_rules.Rows.{fields_of_type};
+ghost use Rattle.mark_parts.specs.mark_facts.Kinds.{item_at};
+ghost use Rattle.rules.specs.mark_rules.Attributes.{is_field_named, is_property_called};
+ghost use Rattle.rules.specs.mark_rules.Dependencies.{others_called, members_called};
+ghost use Rattle.mark_parts.specs.mark_tables.Assemblies.{all_of, IsMarker};
 ghost use Rattle.mark_dependencies.specs.Names.{marks_item, fields_called, mapped_called};
 ghost use Rattle.mark_dependencies.specs.Lookups.{recs_in, IsLookup};
 
 use crate::lookup::Lookup;
 use crate::methods::add_methods;
 use crate::names::has_parameters;
-use called_members::mapped::{events_called, properties_called};
 use il_base::NoMemory;
-use link_rules::RowAt;
-use mark_facts::facts::Facts;
-use mark_facts::kinds::Kind;
-use mark_named::fields::is_field_named;
-use mark_rows::members::{events_of_type, fields_of_type, properties_of_type};
-use mark_tables::marker::Marker;
+use il_base::world_model::AsmRec;
+use mark_items::mark_named::fields::is_field_named;
+use mark_members::called_members::mapped::{events_called, properties_called};
+use mark_parts::mark_facts::facts::Facts;
+use mark_parts::mark_facts::kinds::Kind;
+use mark_parts::mark_rows::members::{events_of_type, fields_of_type, properties_of_type};
+use mark_parts::mark_tables::marker::Marker;
+use rules::link_rules::RowAt;
 use std::alloc::Global;
-use world_model::AsmRec;
 
 /// Marks the items of rows.
 fn mark_rows(all: &[AsmRec], kind: Kind, rows: &[RowAt], facts: &mut Facts) -> Result<(), NoMemory>
@@ -107,7 +107,7 @@ fn add_others(
 }
 
 /// Puts the members of a type itself that have this name at the end, of all kinds; a name with parameters is that of methods alone.
-#[tactic(auto, unfolding(mark_rules::specs::Dependencies::members_called), using(crate::proofs::Lists::two_put, crate::proofs::Lists::none_more))]
+#[tactic(auto, unfolding(rules::specs::mark_rules::Dependencies::members_called), using(crate::proofs::Lists::two_put, crate::proofs::Lists::none_more))]
 pub(crate) fn add_called(
     alloc: Global,
     lookup: &Lookup<'_, '_>,

@@ -2,24 +2,24 @@
 
 ghost use Rattle.std.specs.Prelude.{◌≡◌, ◌++◌, ◌∷◌, map, Some, OnOk};
 ghost use Rattle.std.specs.List.{flat_map};
-ghost use Rattle.link_rules.specs.Cycles.{listed};
-ghost use Rattle.mark_rules.specs.Annotations.{dependencies};
-ghost use Rattle.mark_rules.specs.Places.{marks_type};
-ghost use Rattle.mark_rules.specs.Dependencies.{dependency_members, dependency_facts, dependency_needs};
-ghost use Rattle.dependency_forms.specs.Told.{dependency_told};
+ghost use Rattle.rules.specs.link_rules.Cycles.{listed};
+ghost use Rattle.rules.specs.mark_rules.Annotations.{dependencies};
+ghost use Rattle.rules.specs.mark_rules.Places.{marks_type};
+ghost use Rattle.rules.specs.mark_rules.Dependencies.{dependency_members, dependency_facts, dependency_needs};
+ghost use Rattle.attribute_values.specs.dependency_forms.Told.{dependency_told};
 ghost use Rattle.mark_dependencies.specs.Lookups.{recs_in, told_facts, kept_of, IsLookup};
 
 use crate::called::add_called;
 use crate::kinds::add_of_kinds;
 use crate::lookup::Lookup;
 use crate::sought::sought_in;
-use dependency_forms::dependencies::Dependencies;
-use dependency_forms::dependency::Dependency;
+use attribute_values::dependency_forms::dependencies::Dependencies;
+use attribute_values::dependency_forms::dependency::Dependency;
 use il_base::{Item, NoMemory};
-use link_rules::RowAt;
-use mark_facts::facts::Facts;
-use mark_facts::kinds::Kind;
-use mark_facts::rows::row_of;
+use mark_parts::mark_facts::facts::Facts;
+use mark_parts::mark_facts::kinds::Kind;
+use mark_parts::mark_facts::rows::row_of;
+use rules::link_rules::RowAt;
 use std::alloc::Global;
 
 /// Puts the members of a type that a dependency names at the end, by their name or their kinds.

@@ -1,20 +1,20 @@
 //! Members of a type that kinds name.
 
 ghost use Rattle.std.specs.Prelude.{◌≡◌, ◌++◌, map, OnOk};
-ghost use Rattle.mark_rules.specs.Facts.Fact.{marked};
-ghost use Rattle.mark_rules.specs.Dependencies.{members_of_kinds};
-ghost use Rattle.mark_rules.specs.Members.{members_by};
+ghost use Rattle.rules.specs.mark_rules.Facts.Fact.{marked};
+ghost use Rattle.rules.specs.mark_rules.Dependencies.{members_of_kinds};
+ghost use Rattle.rules.specs.mark_rules.Members.{members_by};
 ghost use Rattle.mark_dependencies.specs.Names.{made_by};
 ghost use Rattle.mark_dependencies.specs.Lookups.{recs_in, IsLookup};
 
 use crate::lookup::Lookup;
+use il_base::world_model::AsmRec;
 use il_base::{Item, NoMemory};
-use link_rules::RowAt;
-use mark_facts::facts::Facts;
-use mark_kinds::methods::constructors_by;
+use mark_members::mark_kinds::methods::constructors_by;
 use mark_members::members::add_members_by;
+use mark_parts::mark_facts::facts::Facts;
+use rules::link_rules::RowAt;
 use std::alloc::Global;
-use world_model::AsmRec;
 
 /// Makes a type instantiated, where it has such constructors.
 #[tactic(auto, using(crate::proofs::Lists::none_more))]

@@ -1,5 +1,5 @@
-use mark_tables::marker::Marker;
-use nested_types::nested::NestedTypes;
+use descriptor_texts::nested_types::nested::NestedTypes;
+use mark_parts::mark_tables::marker::Marker;
 use type_names::TypeNames;
 
 /// A world with what is made of it once, its types by their enclosers, and their names.

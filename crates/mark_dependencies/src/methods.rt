@@ -2,26 +2,26 @@
 
 ghost use Rattle.std.specs.Prelude.{◌≡◌, ◌++◌, IfOk, OnOk};
 ghost use Rattle.std.specs.List.{filter, list_any, flat_map};
-ghost use Rattle.world_model.specs.Core.{same_name};
-ghost use Rattle.link_rules.specs.Cycles.{listed};
-ghost use Rattle.type_rules.specs.Rows.{methods_of_type};
-ghost use Rattle.mark_rules.specs.Dependencies.{doc_name, has_doc_name, is_method_called, with_made, methods_called};
+ghost use Rattle.il_base.specs.world_model.Core.{same_name};
+ghost use Rattle.rules.specs.link_rules.Cycles.{listed};
+ghost use Rattle.rules.specs.type_rules.Rows.{methods_of_type};
+ghost use Rattle.rules.specs.mark_rules.Dependencies.{doc_name, has_doc_name, is_method_called, with_made, methods_called};
 ghost use Rattle.mark_dependencies.specs.Names.{is_row_called};
 ghost use Rattle.mark_dependencies.specs.Lookups.{recs_in, IsLookup};
 
 use crate::lookup::Lookup;
 use crate::names::{has_parameters, plain};
-use called_members::signatures::good_signature;
-use doc_texts::doc_name;
+use descriptor_texts::doc_texts::doc_name;
 use il_base::NoMemory;
-use link_rules::{MethodType, RowAt};
-use mark_facts::facts::Facts;
-use mark_rows::members::methods_of_type;
-use mark_whole::methods::keep_methods;
+use il_base::world_model::MethodDefRow;
+use mark_members::called_members::signatures::good_signature;
+use mark_members::mark_whole::methods::keep_methods;
+use mark_parts::mark_facts::facts::Facts;
+use mark_parts::mark_rows::members::methods_of_type;
+use rules::link_rules::{MethodType, RowAt};
 use std::alloc::Global;
 use type_names::TypeNames;
 use type_tables::methods::method_row_at;
-use world_model::MethodDefRow;
 
 /// Whether a name is that of a method with the texts of its parameters.
 fn is_doc_name(

@@ -1,8 +1,8 @@
 //! The names of members, as dependencies have them.
 
 ghost use Rattle.std.specs.Prelude.{◌≡◌, ◌∷◌, ◌||◌, take, codes, IfOk};
-ghost use Rattle.world_model.specs.Core.{same_name};
-ghost use Rattle.mark_rules.specs.Dependencies.{plain, has_parameters};
+ghost use Rattle.il_base.specs.world_model.Core.{same_name};
+ghost use Rattle.rules.specs.mark_rules.Dependencies.{plain, has_parameters};
 ghost use Rattle.mark_dependencies.specs.Names.{first_letter};
 
 use il_base::{NoMemory, Seq, Text};

@@ -3,24 +3,24 @@
 ghost use Rattle.std.specs.Prelude.{◌≡◌, IfOk};
 ghost use Rattle.attr_blobs.specs.declared.name.NameRead.TheVariants as read;
 ghost use Rattle.attr_blobs.specs.Values.{name_of_text};
-ghost use Rattle.link_rules.specs.Cycles.{listed};
-ghost use Rattle.mark_rules.specs.Dependencies.{owner_of_item, found_by_name, found_there, type_rows, text_there, sought_in};
-ghost use Rattle.dependency_forms.specs.Told.{sought_told};
-ghost use Rattle.mark_tables.specs.Assemblies.{all_of, IsMarker};
+ghost use Rattle.rules.specs.link_rules.Cycles.{listed};
+ghost use Rattle.rules.specs.mark_rules.Dependencies.{owner_of_item, found_by_name, found_there, type_rows, text_there, sought_in};
+ghost use Rattle.attribute_values.specs.dependency_forms.Told.{sought_told};
+ghost use Rattle.mark_parts.specs.mark_tables.Assemblies.{all_of, IsMarker};
 ghost use Rattle.mark_dependencies.specs.Lookups.{recs_in, field_owner, IsLookup};
 
 use crate::lookup::Lookup;
 use attr_blobs::{NameRead, TypeName};
-use dependency_forms::dependency::Sought;
+use attribute_values::dependency_forms::dependency::Sought;
+use descriptor_texts::name_texts::name_of_text;
+use il_base::world_model::AsmRec;
 use il_base::{AsmId, Item, NoMemory, Seq, Text, TypeId};
-use link_rules::RowAt;
-use mark_tables::marker::Marker;
-use member_search::homes::type_home;
-use name_texts::name_of_text;
+use mark_parts::mark_tables::marker::Marker;
+use rules::link_rules::RowAt;
 use std::alloc::Global;
 use type_names::TypeNames;
+use type_tables::member_search::homes::type_home;
 use type_tables::methods::type_of_method;
-use world_model::AsmRec;
 
 /// The type that has a field.
 #[tactic(auto, using(crate::proofs::Seeking::no_owner, crate::proofs::Seeking::owner_listed))]
@@ -75,7 +75,7 @@ fn found_by_name(
 }
 
 /// The type of a name without an assembly in the assembly of a simple name.
-#[tactic(auto, unfolding(type_rules::specs::Searches::find_type))]
+#[tactic(auto, unfolding(rules::specs::type_rules::Searches::find_type))]
 fn type_there(
     alloc: Global,
     names: &TypeNames<'_>,

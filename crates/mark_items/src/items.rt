@@ -2,22 +2,22 @@
 
 ghost use Rattle.std.specs.Prelude.{◌≡◌, ◌++◌, OnOk};
 ghost use Rattle.std.specs.List.{flat_map};
-ghost use Rattle.link_rules.specs.Cycles.{listed};
-ghost use Rattle.mark_rules.specs.Places.{row_of};
-ghost use Rattle.mark_rules.specs.Attributes.{attribute_needs};
-ghost use Rattle.mark_rules.specs.Dependencies.{dependency_needs};
-ghost use Rattle.mark_rules.specs.Roots.{waiting_facts};
-ghost use Rattle.mark_rules.specs.Marking.{row_needs, item_needs};
-ghost use Rattle.mark_tables.specs.Assemblies.{all_of, IsMarker};
+ghost use Rattle.rules.specs.link_rules.Cycles.{listed};
+ghost use Rattle.rules.specs.mark_rules.Places.{row_of};
+ghost use Rattle.rules.specs.mark_rules.Attributes.{attribute_needs};
+ghost use Rattle.rules.specs.mark_rules.Dependencies.{dependency_needs};
+ghost use Rattle.rules.specs.mark_rules.Roots.{waiting_facts};
+ghost use Rattle.rules.specs.mark_rules.Marking.{row_needs, item_needs};
+ghost use Rattle.mark_parts.specs.mark_tables.Assemblies.{all_of, IsMarker};
 ghost use Rattle.mark_items.specs.Needs.{named_needs};
 
+use crate::mark_needs::shown::add_item_shows;
+use crate::mark_steps::row_needs::add_row_needs;
+use crate::named_rules::NamedRules;
 use il_base::{Item, NoMemory};
-use mark_facts::facts::Facts;
-use mark_facts::rows::row_of;
-use mark_needs::shown::add_item_shows;
-use mark_steps::row_needs::add_row_needs;
-use mark_tables::marker::Marker;
-use named_rules::NamedRules;
+use mark_parts::mark_facts::facts::Facts;
+use mark_parts::mark_facts::rows::row_of;
+use mark_parts::mark_tables::marker::Marker;
 use std::alloc::Global;
 
 /// Puts what the row of a marked item needs at the end, where it is there.

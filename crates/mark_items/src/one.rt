@@ -1,21 +1,21 @@
 //! What one fact gives.
 
 ghost use Rattle.std.specs.Prelude.{◌≡◌, ◌++◌, OnOk};
-ghost use Rattle.mark_rules.specs.Marking.{one};
-ghost use Rattle.mark_facts.specs.Told.{fact_told};
-ghost use Rattle.mark_tables.specs.Assemblies.{all_of, IsMarker};
+ghost use Rattle.rules.specs.mark_rules.Marking.{one};
+ghost use Rattle.mark_parts.specs.mark_facts.Told.{fact_told};
+ghost use Rattle.mark_parts.specs.mark_tables.Assemblies.{all_of, IsMarker};
 
 use crate::items::add_item_needs;
+use crate::mark_needs::shown::add_encloser_shown;
+use crate::named_rules::NamedRules;
 use il_base::NoMemory;
-use mark_facts::fact::Fact;
-use mark_facts::facts::Facts;
-use mark_needs::shown::add_encloser_shown;
-use mark_tables::marker::Marker;
-use named_rules::NamedRules;
+use mark_parts::mark_facts::fact::Fact;
+use mark_parts::mark_facts::facts::Facts;
+use mark_parts::mark_tables::marker::Marker;
 use std::alloc::Global;
 
 /// Puts what a fact gives alone at the end.
-#[tactic(auto, unfolding(mark_rules::specs::Marking::one), using(crate::proofs::Lists::none_more))]
+#[tactic(auto, unfolding(rules::specs::mark_rules::Marking::one), using(crate::proofs::Lists::none_more))]
 pub fn add_one<N: NamedRules>(
     alloc: Global,
     marker: &Marker<'_>,

@@ -6,10 +6,10 @@ use Rattle.std.proofs.lemmas.List.{append-nil}
 use Rattle.std.proofs.lemmas.List.Concat.{flat_map-cons}
 use Rattle.std.proofs.lemmas.List.Sums.{sum_by-cons}
 use Rattle.il_base.specs.declared.ids.Item.{Item}
-use Rattle.world_model.specs.declared.record.AsmRec.{AsmRec}
-use Rattle.link_rules.specs.declared.row_at.RowAt.{RowAt}
-use Rattle.link_rules.specs.Cycles.{listed}
-use Rattle.mark_rules.specs.Members.{nested_in, whole_type, whole_within, whole_nested}
+use Rattle.il_base.specs.declared.world_model.record.AsmRec.{AsmRec}
+use Rattle.rules.specs.declared.link_rules.row_at.RowAt.{RowAt}
+use Rattle.rules.specs.link_rules.Cycles.{listed}
+use Rattle.rules.specs.mark_rules.Members.{nested_in, whole_type, whole_within, whole_nested}
 use Rattle.mark_members.specs.declared.levels.Level.{Level}
 use Rattle.mark_members.specs.Levels.{level, pushed, left_items, size_within, total}
 

@@ -2,12 +2,12 @@
 use Rattle.std.specs.Prelude.{ℕ, List, ◌∷◌, ◌++◌, map}
 use Rattle.std.specs.List.{flat_map}
 use Rattle.il_base.specs.declared.ids.Item.{Item}
-use Rattle.world_model.specs.declared.record.AsmRec.{AsmRec}
-use Rattle.link_rules.specs.declared.row_at.RowAt.{RowAt}
-use Rattle.type_rules.specs.Rows.{fields_of_type, methods_of_type}
-use Rattle.mark_rules.specs.Places.{type_item, method_item, field_item, prop_item, event_item, impl_item}
-use Rattle.mark_rules.specs.Properties.{property_accessors, event_accessors}
-use Rattle.mark_rules.specs.Members.{constructors_by, methods_by, fields_by, properties_by, events_by, nested_by, impls_by}
+use Rattle.il_base.specs.declared.world_model.record.AsmRec.{AsmRec}
+use Rattle.rules.specs.declared.link_rules.row_at.RowAt.{RowAt}
+use Rattle.rules.specs.type_rules.Rows.{fields_of_type, methods_of_type}
+use Rattle.rules.specs.mark_rules.Places.{type_item, method_item, field_item, prop_item, event_item, impl_item}
+use Rattle.rules.specs.mark_rules.Properties.{property_accessors, event_accessors}
+use Rattle.rules.specs.mark_rules.Members.{constructors_by, methods_by, fields_by, properties_by, events_by, nested_by, impls_by}
 
 -- with accessors
 abbrev pub property_items : List AsmRec → RowAt → List Item

@@ -2,20 +2,22 @@
 
 ghost use Rattle.std.specs.Prelude.{◌≡◌, ◌++◌, ◌∷◌, [], map, OnOk};
 ghost use Rattle.std.specs.List.{flat_map};
-ghost use Rattle.mark_rules.specs.Members.{whole_type};
-ghost use Rattle.mark_facts.specs.Kinds.{item_at};
-ghost use Rattle.mark_tables.specs.Assemblies.{all_of, IsMarker};
+ghost use Rattle.rules.specs.mark_rules.Members.{whole_type};
+ghost use Rattle.mark_parts.specs.mark_facts.Kinds.{item_at};
+ghost use Rattle.mark_parts.specs.mark_tables.Assemblies.{all_of, IsMarker};
 ghost use Rattle.mark_members.specs.Items.{property_items, event_items, simple_items};
 
+use crate::mark_whole::accessors::{event_accessors, property_accessors};
+use il_base::world_model::AsmRec;
 use il_base::{Item, NoMemory};
-use link_rules::RowAt;
-use mark_facts::kinds::Kind;
-use mark_facts::rows::item_at;
-use mark_rows::members::{events_of_type, fields_of_type, methods_of_type, properties_of_type};
-use mark_tables::marker::Marker;
-use mark_whole::accessors::{event_accessors, property_accessors};
+use mark_parts::mark_facts::kinds::Kind;
+use mark_parts::mark_facts::rows::item_at;
+use mark_parts::mark_rows::members::{
+    events_of_type, fields_of_type, methods_of_type, properties_of_type,
+};
+use mark_parts::mark_tables::marker::Marker;
+use rules::link_rules::RowAt;
 use std::alloc::Global;
-use world_model::AsmRec;
 
 /// Puts the item of a row at the end.
 fn add_item(all: &[AsmRec], kind: Kind, at: RowAt, items: &mut Vec<Item>) -> Result<(), NoMemory>

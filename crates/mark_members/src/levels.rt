@@ -1,18 +1,18 @@
 //! A type with all types nested in it (II.22.32). The types that wait stand in a list, so that no chain of them is too deep.
 
 ghost use Rattle.std.specs.Prelude.{◌≡◌, ◌++◌, ◌+◌, OnOk};
-ghost use Rattle.mark_rules.specs.Members.{whole_within, whole_nested};
-ghost use Rattle.mark_tables.specs.Assemblies.{all_of, IsMarker};
-ghost use Rattle.nested_types.specs.Nested.{AreNested};
+ghost use Rattle.rules.specs.mark_rules.Members.{whole_within, whole_nested};
+ghost use Rattle.mark_parts.specs.mark_tables.Assemblies.{all_of, IsMarker};
+ghost use Rattle.descriptor_texts.specs.nested_types.Nested.{AreNested};
 ghost use Rattle.mark_members.specs.Levels.{pushed, left_items, size_within, total};
 
 use crate::items::add_whole;
+use descriptor_texts::nested_types::nested::NestedTypes;
 use il_base::{Item, NoMemory, Seq};
-use link_rules::RowAt;
-use mark_tables::marker::Marker;
-use member_search::counted::sum;
-use nested_types::nested::NestedTypes;
+use mark_parts::mark_tables::marker::Marker;
+use rules::link_rules::RowAt;
 use std::alloc::Global;
+use type_tables::member_search::counted::sum;
 
 /// A type that waits, with how many levels of types it counts, its own first.
 #[derive(Clone, Copy)]

@@ -1,22 +1,22 @@
 //! All kinds of members.
 
 ghost use Rattle.std.specs.Prelude.{◌≡◌, ◌++◌, OnOk};
-ghost use Rattle.mark_rules.specs.Members.{members_by};
-ghost use Rattle.mark_tables.specs.Assemblies.{all_of, IsMarker};
-ghost use Rattle.nested_types.specs.Nested.{AreNested};
+ghost use Rattle.rules.specs.mark_rules.Members.{members_by};
+ghost use Rattle.mark_parts.specs.mark_tables.Assemblies.{all_of, IsMarker};
+ghost use Rattle.descriptor_texts.specs.nested_types.Nested.{AreNested};
 ghost use Rattle.mark_members.specs.Items.{methods_and_fields, mapped_items, other_items};
 
 use crate::items::{add_events, add_items, add_properties};
+use crate::mark_kinds::fields::fields_by;
+use crate::mark_kinds::impls::impls_by;
+use crate::mark_kinds::mapped::{events_by, properties_by};
+use crate::mark_kinds::methods::{constructors_by, methods_by};
 use crate::nested::add_nested_by;
+use descriptor_texts::nested_types::nested::NestedTypes;
 use il_base::{Item, NoMemory};
-use link_rules::RowAt;
-use mark_facts::kinds::Kind;
-use mark_kinds::fields::fields_by;
-use mark_kinds::impls::impls_by;
-use mark_kinds::mapped::{events_by, properties_by};
-use mark_kinds::methods::{constructors_by, methods_by};
-use mark_tables::marker::Marker;
-use nested_types::nested::NestedTypes;
+use mark_parts::mark_facts::kinds::Kind;
+use mark_parts::mark_tables::marker::Marker;
+use rules::link_rules::RowAt;
 use std::alloc::Global;
 
 /// Puts the constructors, methods and fields that kinds name at the end.
@@ -84,7 +84,7 @@ fn add_others(
 
 /// Puts the members of a type that kinds name at the end: constructors of the type itself; methods, fields, properties and events
 /// of the type and its bases, the last two with all their accessors; nested types with all that they hold; interface rows.
-#[tactic(auto, unfolding(mark_rules::specs::Members::members_by), using(crate::proofs::Lists::members_put))]
+#[tactic(auto, unfolding(rules::specs::mark_rules::Members::members_by), using(crate::proofs::Lists::members_put))]
 pub fn add_members_by(
     alloc: Global,
     marker: &Marker<'_>,

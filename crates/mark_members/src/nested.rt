@@ -3,18 +3,18 @@
 ghost use Rattle.std.specs.Prelude.{◌≡◌, ◌++◌, IfOk, OnOk};
 ghost use Rattle.std.specs.List.{filter, flat_map};
 ghost use Rattle.il_base.specs.Flags.{access_of};
-ghost use Rattle.mark_rules.specs.Members.{is_nested_public, nested_counts, whole_nested, nested_by};
-ghost use Rattle.mark_tables.specs.Assemblies.{all_of, IsMarker};
-ghost use Rattle.nested_types.specs.Nested.{AreNested};
+ghost use Rattle.rules.specs.mark_rules.Members.{is_nested_public, nested_counts, whole_nested, nested_by};
+ghost use Rattle.mark_parts.specs.mark_tables.Assemblies.{all_of, IsMarker};
+ghost use Rattle.descriptor_texts.specs.nested_types.Nested.{AreNested};
 
 use crate::levels::add_whole_nested;
+use descriptor_texts::nested_types::nested::NestedTypes;
+use il_base::world_model::AsmRec;
 use il_base::{Item, NoMemory, has_type_flag, type_flags};
-use link_rules::RowAt;
-use mark_rules::member_kinds;
-use mark_tables::marker::Marker;
-use nested_types::nested::NestedTypes;
+use mark_parts::mark_tables::marker::Marker;
+use rules::link_rules::RowAt;
+use rules::mark_rules::member_kinds;
 use std::alloc::Global;
-use world_model::AsmRec;
 
 /// The visibility of a type: its low three flags (II.23.1.15).
 fn visibility(bits: u32) -> u32
@@ -83,7 +83,7 @@ fn add_all_nested(
 }
 
 /// Puts the nested types of a type that kinds name at the end, with all that they hold.
-#[tactic(auto, unfolding(mark_rules::specs::Members::nested_by))]
+#[tactic(auto, unfolding(rules::specs::mark_rules::Members::nested_by))]
 pub(crate) fn add_nested_by(
     alloc: Global,
     marker: &Marker<'_>,

@@ -5,15 +5,15 @@ use Rattle.std.specs.Option.{is_some}
 use Rattle.std.proofs.lemmas.Bool.{lt-ltb, le-ltb, ltb-true, ltb-false}
 use Rattle.il_base.specs.declared.ids.TypeId.{TypeId}
 use Rattle.il_base.specs.declared.ids.Item.{Item}
-use Rattle.world_model.specs.declared.record.AsmRec.{AsmRec}
-use Rattle.world_model.specs.declared.world.Home.{Home}
-use Rattle.world_model.specs.declared.world.World.{World}
-use Rattle.link_rules.specs.declared.row_at.RowAt.{RowAt}
-use Rattle.mark_rules.specs.Facts.{Fact}
-use Rattle.mark_rules.specs.Facts.Fact.{marked, instantiated, reflected, shown}
-use Rattle.mark_rules.specs.Places.{row_of}
-use Rattle.world_laws.specs.Tokens.{InWorlds}
-use Rattle.world_laws.specs.Homes.{TellsHomes, TellsItems, ListsItems, IsHome, home_at, table_for, item_count, place_of}
+use Rattle.il_base.specs.declared.world_model.record.AsmRec.{AsmRec}
+use Rattle.il_base.specs.declared.world_model.world.Home.{Home}
+use Rattle.il_base.specs.declared.world_model.world.World.{World}
+use Rattle.rules.specs.declared.link_rules.row_at.RowAt.{RowAt}
+use Rattle.rules.specs.mark_rules.Facts.{Fact}
+use Rattle.rules.specs.mark_rules.Facts.Fact.{marked, instantiated, reflected, shown}
+use Rattle.rules.specs.mark_rules.Places.{row_of}
+use Rattle.base_laws.specs.world_laws.Tokens.{InWorlds}
+use Rattle.base_laws.specs.world_laws.Homes.{TellsHomes, TellsItems, ListsItems, IsHome, home_at, table_for, item_count, place_of}
 use Rattle.mark_numbers.specs.Numbers.{type_total, before_shown, before_reflected, universe, number_of, is_there, of_home, fact_numbered, FactsFound, NumbersFound}
 
 below_length : {A : Type 0} (xs : List A) (i : ℕ) (x : A) → slice_get xs i ≡ Some x → i < length xs

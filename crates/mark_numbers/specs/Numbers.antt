@@ -3,15 +3,15 @@ use Rattle.std.specs.Prelude.{◌≡◌, ◌<◌, ℕ, ◌+◌, ◌-◌, List, O
 use Rattle.std.specs.Option.{option_map, is_some}
 use Rattle.il_base.specs.declared.ids.TypeId.{TypeId}
 use Rattle.il_base.specs.declared.ids.Item.{Item}
-use Rattle.world_model.specs.declared.record.AsmRec.{AsmRec}
-use Rattle.world_model.specs.Worlds.{types_in}
-use Rattle.world_model.specs.declared.world.Home.{Home}
-use Rattle.world_model.specs.declared.world.World.{World}
-use Rattle.link_rules.specs.Linked.{IsWorld}
-use Rattle.mark_rules.specs.Facts.{Fact}
-use Rattle.mark_rules.specs.Facts.Fact.{marked, instantiated, reflected, shown}
-use Rattle.mark_rules.specs.Places.{row_of}
-use Rattle.world_laws.specs.Homes.{rows_of, item_count, place_of}
+use Rattle.il_base.specs.declared.world_model.record.AsmRec.{AsmRec}
+use Rattle.il_base.specs.world_model.Worlds.{types_in}
+use Rattle.il_base.specs.declared.world_model.world.Home.{Home}
+use Rattle.il_base.specs.declared.world_model.world.World.{World}
+use Rattle.rules.specs.link_rules.Linked.{IsWorld}
+use Rattle.rules.specs.mark_rules.Facts.{Fact}
+use Rattle.rules.specs.mark_rules.Facts.Fact.{marked, instantiated, reflected, shown}
+use Rattle.rules.specs.mark_rules.Places.{row_of}
+use Rattle.base_laws.specs.world_laws.Homes.{rows_of, item_count, place_of}
 
 abbrev pub type_total : List AsmRec → ℕ
 type_total recs = rows_of types_in recs

@@ -3,11 +3,11 @@ use Rattle.std.specs.Prelude.{◌≡◌, ℕ, ◌+◌, List, Option, Some, None,
 use Rattle.std.specs.Option.{option_map, is_some}
 use Rattle.il_base.specs.declared.ids.TypeId.{TypeId}
 use Rattle.il_base.specs.declared.ids.Item.{Item}
-use Rattle.world_model.specs.declared.world.Home.{Home}
-use Rattle.world_model.specs.declared.world.World.{World}
-use Rattle.mark_rules.specs.Places.{row_of}
-use Rattle.world_model.specs.declared.record.AsmRec.{AsmRec}
-use Rattle.world_laws.specs.Homes.{before_types, before_methods, before_fields, before_props, before_events, before_impls, item_count, place_of}
+use Rattle.il_base.specs.declared.world_model.world.Home.{Home}
+use Rattle.il_base.specs.declared.world_model.world.World.{World}
+use Rattle.rules.specs.mark_rules.Places.{row_of}
+use Rattle.il_base.specs.declared.world_model.record.AsmRec.{AsmRec}
+use Rattle.base_laws.specs.world_laws.Homes.{before_types, before_methods, before_fields, before_props, before_events, before_impls, item_count, place_of}
 use Rattle.mark_numbers.specs.declared.starts.Starts.{Starts}
 use Rattle.mark_numbers.specs.declared.numbers.Numbers.{Numbers}
 use Rattle.mark_numbers.specs.Numbers.{type_total, before_shown, before_reflected, universe}

@@ -2,7 +2,7 @@
 
 ghost use Rattle.mark_numbers.specs.Numbers.{FactsFound, NumbersFound};
 
-use world_laws::laws::homes_told;
+use base_laws::world_laws::laws::homes_told;
 
 /// In a world that a link gave each fact that is there has a number of its own below the bound, and each number of a fact is
 /// that of a fact that is there.

@@ -4,5 +4,6 @@
 #![tactic(auto)]
 
 pub mod laws;
+pub mod mark_laws;
 pub mod numbers;
 pub mod starts;

@@ -2,17 +2,17 @@
 
 ghost use Rattle.std.specs.Prelude.{◌≡◌, slice_get, IfOk};
 ghost use Rattle.std.specs.Option.{option_map};
-ghost use Rattle.mark_rules.specs.Facts.Fact.{marked, reflected};
-ghost use Rattle.mark_facts.specs.Told.{fact_told};
+ghost use Rattle.rules.specs.mark_rules.Facts.Fact.{marked, reflected};
+ghost use Rattle.mark_parts.specs.mark_facts.Told.{fact_told};
 ghost use Rattle.mark_numbers.specs.Numbers.{universe, number_there, of_home, fact_numbered};
 ghost use Rattle.mark_numbers.specs.Starts.{AreNumbers, item_number, type_number, item_in};
 
 use crate::starts::Starts;
+use il_base::world_model::World;
 use il_base::{Item, NoMemory, TypeId};
-use mark_facts::fact::Fact;
-use mark_facts::rows::row_of;
-use member_search::counted::sum;
-use world_model::World;
+use mark_parts::mark_facts::fact::Fact;
+use mark_parts::mark_facts::rows::row_of;
+use type_tables::member_search::counted::sum;
 
 /// A world, and the numbers at which each kind of fact begins.
 #[derive(Clone, Copy)]

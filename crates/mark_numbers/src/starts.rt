@@ -1,16 +1,16 @@
 //! Where each kind of item and of fact begins.
 
 ghost use Rattle.std.specs.Prelude.{◌≡◌, ◌+◌, IfOk};
-ghost use Rattle.world_laws.specs.Homes.{before_types, before_methods, before_fields, before_props, before_events, before_impls, item_count, rows_of, place_of};
-ghost use Rattle.mark_facts.specs.Kinds.{count_in};
+ghost use Rattle.base_laws.specs.world_laws.Homes.{before_types, before_methods, before_fields, before_props, before_events, before_impls, item_count, rows_of, place_of};
+ghost use Rattle.mark_parts.specs.mark_facts.Kinds.{count_in};
 ghost use Rattle.mark_numbers.specs.Numbers.{before_shown, before_reflected, universe};
 ghost use Rattle.mark_numbers.specs.Starts.{AreStarts};
 
+use il_base::world_model::AsmRec;
 use il_base::{Item, NoMemory};
-use mark_facts::kinds::Kind;
-use mark_facts::rows::rows_before;
-use member_search::counted::{row_of, sum};
-use world_model::AsmRec;
+use mark_parts::mark_facts::kinds::Kind;
+use mark_parts::mark_facts::rows::rows_before;
+use type_tables::member_search::counted::{row_of, sum};
 
 /// The first number of each kind of item, and of each kind of fact after the marked items.
 #[derive(Clone, Copy, Debug, PartialEq, Eq)]
@@ -93,7 +93,7 @@ impl Starts {
     }
 
     /// The place of an item among all.
-    #[tactic(auto, unfolding(world_laws::specs::Homes::place_of))]
+    #[tactic(auto, unfolding(base_laws::specs::world_laws::Homes::place_of))]
     pub fn place_of(&self, all: &[AsmRec], item: Item) -> Result<u32, NoMemory>
         requires { AreStarts all.now self.now }
         ensures { IfOk result (λ place. place ≡ place_of all.now item) }

@@ -4,16 +4,16 @@ use Rattle.std.specs.Prelude.{slice_get}
 use Rattle.std.specs.List.{flat_map}
 use Rattle.std.specs.Option.{option_map_or}
 use Rattle.il_base.specs.declared.table.TheConstants.{GENERIC_PARAM}
-use Rattle.world_model.specs.declared.types.GenericParamRow.{GenericParamRow}
-use Rattle.world_model.specs.declared.types.GenericParamConstraintRow.{GenericParamConstraintRow}
-use Rattle.world_model.specs.declared.record.AsmRec.{AsmRec}
-use Rattle.world_model.specs.Tokens.{token_of}
-use Rattle.type_rules.specs.Rows.{each_row}
+use Rattle.il_base.specs.declared.world_model.types.GenericParamRow.{GenericParamRow}
+use Rattle.il_base.specs.declared.world_model.types.GenericParamConstraintRow.{GenericParamConstraintRow}
+use Rattle.il_base.specs.declared.world_model.record.AsmRec.{AsmRec}
+use Rattle.il_base.specs.world_model.Tokens.{token_of}
+use Rattle.rules.specs.type_rules.Rows.{each_row}
 use Rattle.type_tables.specs.declared.groups.Groups.{Groups}
 use Rattle.type_tables.specs.Groups.{rows_with, AreGroups}
-use Rattle.mark_rules.specs.Naming.{Part}
-use Rattle.mark_rules.specs.Types.{constraint_of, constraints_of_param, constraints_of}
-use Rattle.mark_tables.specs.Owners.{param_owners, constraint_owners}
+use Rattle.rules.specs.mark_rules.Naming.{Part}
+use Rattle.rules.specs.mark_rules.Types.{constraint_of, constraints_of_param, constraints_of}
+use Rattle.mark_parts.specs.mark_tables.Owners.{param_owners, constraint_owners}
 use Rattle.mark_parts.specs.Constraints.{constraint_part, param_part}
 use Rattle.mark_parts.proofs.Grouped.{each_grouped}
 

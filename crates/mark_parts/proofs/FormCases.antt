@@ -2,8 +2,8 @@
 use Rattle.std.proofs.Common.{◌≡◌, ℕ, List, refl}
 use Rattle.il_base.specs.declared.body.Form.{Form}
 use Rattle.il_base.specs.declared.body.Form.TheVariants as form
-use Rattle.world_model.specs.declared.record.AsmRec.{AsmRec}
-use Rattle.mark_rules.specs.Bodies.{token_parts}
+use Rattle.il_base.specs.declared.world_model.record.AsmRec.{AsmRec}
+use Rattle.rules.specs.mark_rules.Bodies.{token_parts}
 use Rattle.mark_parts.specs.Forms.{names_of, parts_by}
 
 pub by_forms : (recs : List AsmRec) (a : ℕ) (rec : AsmRec) (place offset token : ℕ) (f : Form) → parts_by recs a rec place offset (names_of f) token ≡ token_parts recs a rec place offset f token

@@ -4,8 +4,8 @@ use Rattle.std.specs.Prelude.{slice_get, ◌==◌, if◌then◌else◌}
 use Rattle.std.specs.List.{flat_map}
 use Rattle.std.specs.Option.{option_map_or}
 use Rattle.std.proofs.lemmas.List.Concat.{flat_map-cons}
-use Rattle.type_rules.specs.Rows.{each_from, each_row}
-use Rattle.member_search.specs.Names.{places}
+use Rattle.rules.specs.type_rules.Rows.{each_from, each_row}
+use Rattle.type_tables.specs.member_search.Names.{places}
 use Rattle.type_tables.specs.declared.groups.Groups.{Groups}
 use Rattle.type_tables.specs.Groups.{is_key, rows_with, AreGroups}
 

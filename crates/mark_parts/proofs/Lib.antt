@@ -4,3 +4,4 @@ pub mod Constraining
 pub mod Texting
 pub mod FormCases
 pub mod Links
+pub mod lemmas

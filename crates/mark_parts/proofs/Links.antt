@@ -1,12 +1,12 @@
 -- What links tell of the tokens of an assembly.
 use Rattle.std.proofs.Common.{◌≡◌, ℕ, List, Some, sym, subst}
 use Rattle.std.specs.Prelude.{slice_get}
-use Rattle.world_model.specs.declared.record.AsmRec.{AsmRec}
-use Rattle.world_model.specs.declared.world.World.{World}
-use Rattle.world_model.specs.Worlds.{known_or, method_at, field_at}
-use Rattle.link_rules.specs.Linked.{IsWorld}
-use Rattle.mark_rules.specs.Naming.{method_named, field_named}
-use Rattle.world_laws.specs.Tokens.{InWorlds, NamesMethods, NamesFields}
+use Rattle.il_base.specs.declared.world_model.record.AsmRec.{AsmRec}
+use Rattle.il_base.specs.declared.world_model.world.World.{World}
+use Rattle.il_base.specs.world_model.Worlds.{known_or, method_at, field_at}
+use Rattle.rules.specs.link_rules.Linked.{IsWorld}
+use Rattle.rules.specs.mark_rules.Naming.{method_named, field_named}
+use Rattle.base_laws.specs.world_laws.Tokens.{InWorlds, NamesMethods, NamesFields}
 
 pub method_by_links : (w : World) (recs : List AsmRec) (a : ℕ) (rec : AsmRec) (token : ℕ) → InWorlds NamesMethods → IsWorld w → recs ≡ w.recs → slice_get recs a ≡ Some rec
     → known_or (method_at w a token) ≡ method_named recs a rec token

@@ -2,13 +2,13 @@
 use Rattle.std.proofs.Common.{◌≡◌, ℕ, List, Bool, true, false, refl}
 use Rattle.std.specs.Prelude.{◌==◌, if◌then◌else◌}
 use Rattle.std.specs.List.{list_any}
-use Rattle.world_model.specs.declared.record.UserText.{UserText}
-use Rattle.world_model.specs.declared.record.AsmRec.{AsmRec}
+use Rattle.il_base.specs.declared.world_model.record.UserText.{UserText}
+use Rattle.il_base.specs.declared.world_model.record.AsmRec.{AsmRec}
 use Rattle.type_tables.specs.declared.groups.Groups.{Groups}
 use Rattle.type_tables.specs.Groups.{rows_with, AreGroups}
 use Rattle.type_tables.proofs.Grouped.{any_grouped}
-use Rattle.mark_rules.specs.Bodies.{is_text_of}
-use Rattle.mark_tables.specs.Owners.{text_tokens}
+use Rattle.rules.specs.mark_rules.Bodies.{is_text_of}
+use Rattle.mark_parts.specs.mark_tables.Owners.{text_tokens}
 use Rattle.mark_parts.specs.Items.{is_text_at}
 
 itself : (b : Bool) → b ≡ (if b then true else false)

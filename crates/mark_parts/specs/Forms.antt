@@ -2,9 +2,9 @@
 use Rattle.std.specs.Prelude.{ℕ, List, [], ◌∷◌}
 use Rattle.il_base.specs.declared.body.Form.{Form}
 use Rattle.il_base.specs.declared.body.Form.TheVariants as form
-use Rattle.world_model.specs.declared.record.AsmRec.{AsmRec}
-use Rattle.mark_rules.specs.Naming.{Part, type_token_part, method_token_part, field_token_part}
-use Rattle.mark_rules.specs.Bodies.{any_token_part, text_parts}
+use Rattle.il_base.specs.declared.world_model.record.AsmRec.{AsmRec}
+use Rattle.rules.specs.mark_rules.Naming.{Part, type_token_part, method_token_part, field_token_part}
+use Rattle.rules.specs.mark_rules.Bodies.{any_token_part, text_parts}
 use Rattle.mark_parts.specs.declared.forms.Names.{Names}
 use Rattle.mark_parts.specs.declared.forms.Names.TheVariants as names
 

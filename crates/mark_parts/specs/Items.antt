@@ -3,16 +3,16 @@ use Rattle.std.specs.Prelude.{ℕ, List, [], ◌∷◌, ◌++◌, Option, slice_
 use Rattle.std.specs.List.{flat_map}
 use Rattle.std.specs.Option.{option_and_then, option_map_or}
 use Rattle.il_base.specs.declared.table.TheConstants.{MEMBER_REF, STAND_ALONE_SIG}
-use Rattle.world_model.specs.declared.types.TypeDefRow.{TypeDefRow}
-use Rattle.world_model.specs.declared.members.MethodDefRow.{MethodDefRow}
-use Rattle.world_model.specs.declared.members.StandAloneSigRow.{StandAloneSigRow}
-use Rattle.world_model.specs.declared.record.UserText.{UserText}
-use Rattle.world_model.specs.declared.record.AsmRec.{AsmRec}
-use Rattle.world_model.specs.Tokens.{index_in}
-use Rattle.link_rules.specs.Cycles.{listed}
-use Rattle.mark_rules.specs.Naming.{Part, type_token_part, method_sig_parts}
-use Rattle.mark_rules.specs.Bodies.{is_field_row, is_read, code_parts, body_parts, body_of}
-use Rattle.mark_rules.specs.Types.{constraints_of}
+use Rattle.il_base.specs.declared.world_model.types.TypeDefRow.{TypeDefRow}
+use Rattle.il_base.specs.declared.world_model.members.MethodDefRow.{MethodDefRow}
+use Rattle.il_base.specs.declared.world_model.members.StandAloneSigRow.{StandAloneSigRow}
+use Rattle.il_base.specs.declared.world_model.record.UserText.{UserText}
+use Rattle.il_base.specs.declared.world_model.record.AsmRec.{AsmRec}
+use Rattle.il_base.specs.world_model.Tokens.{index_in}
+use Rattle.rules.specs.link_rules.Cycles.{listed}
+use Rattle.rules.specs.mark_rules.Naming.{Part, type_token_part, method_sig_parts}
+use Rattle.rules.specs.mark_rules.Bodies.{is_field_row, is_read, code_parts, body_parts, body_of}
+use Rattle.rules.specs.mark_rules.Types.{constraints_of}
 use Rattle.mark_parts.specs.declared.methods.Caught.{Caught}
 use Rattle.mark_parts.specs.declared.methods.Caught.TheVariants as caught
 

@@ -3,22 +3,22 @@
 ghost use Rattle.std.specs.Prelude.{◌≡◌, ◌++◌, ◌∷◌, [], ◌&&◌, OnOk};
 ghost use Rattle.std.specs.List.{list_any, flat_map};
 ghost use Rattle.std.specs.Option.{option_copied};
-ghost use Rattle.link_rules.specs.Members.{is_field_sig};
-ghost use Rattle.mark_rules.specs.Bodies.{is_field_token, is_method_token, any_token_part, is_text_of, text_parts, token_parts, operand_parts, instruction_parts, operands_of, locals_parts, handler_parts, are_locals_read, code_parts, body_parts};
-ghost use Rattle.mark_tables.specs.Assemblies.{recs_of, place_of, rec_of, IsAssembly};
+ghost use Rattle.rules.specs.link_rules.Members.{is_field_sig};
+ghost use Rattle.rules.specs.mark_rules.Bodies.{is_field_token, is_method_token, any_token_part, is_text_of, text_parts, token_parts, operand_parts, instruction_parts, operands_of, locals_parts, handler_parts, are_locals_read, code_parts, body_parts};
+ghost use Rattle.mark_parts.specs.mark_tables.Assemblies.{recs_of, place_of, rec_of, IsAssembly};
 ghost use Rattle.mark_parts.specs.Forms.{parts_by};
 ghost use Rattle.mark_parts.specs.Items.{is_field_ref, is_text_at, locals_row};
 
 use crate::forms::{Names, names_of};
+use crate::mark_facts::parts::Parts;
+use crate::mark_tables::assembly::Assembly;
 use crate::sigs::add_sigs;
 use crate::tokens::{add_field_token, add_method_token, add_type_token};
-use il_base::{Body, Form, Handler, Instr, NoMemory, Operand, table};
-use mark_facts::parts::Parts;
-use mark_tables::assembly::Assembly;
-use std::alloc::Global;
-use world_model::{
+use il_base::world_model::{
     AsmRec, BadKind, Known, MemberRefRow, MemberSig, StandAloneSigRow, index_in, table_of,
 };
+use il_base::{Body, Form, Handler, Instr, NoMemory, Operand, table};
+use std::alloc::Global;
 
 /// Whether a row of MemberRef is a field's.
 fn is_field_row(row: &MemberRefRow) -> bool

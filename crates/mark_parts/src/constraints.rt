@@ -3,19 +3,19 @@
 ghost use Rattle.std.specs.Prelude.{◌≡◌, ◌++◌, [], suc, slice_get, OnOk};
 ghost use Rattle.std.specs.List.{flat_map};
 ghost use Rattle.std.specs.Option.{option_map_or};
-ghost use Rattle.mark_rules.specs.Types.{constraint_of, constraints_of};
+ghost use Rattle.rules.specs.mark_rules.Types.{constraint_of, constraints_of};
 ghost use Rattle.il_base.specs.declared.table.TheConstants.{GENERIC_PARAM};
-ghost use Rattle.world_model.specs.Tokens.{token_of};
-ghost use Rattle.type_rules.specs.Rows.{each_row};
-ghost use Rattle.mark_tables.specs.Assemblies.{recs_of, place_of, rec_of, IsAssembly};
+ghost use Rattle.il_base.specs.world_model.Tokens.{token_of};
+ghost use Rattle.rules.specs.type_rules.Rows.{each_row};
+ghost use Rattle.mark_parts.specs.mark_tables.Assemblies.{recs_of, place_of, rec_of, IsAssembly};
 ghost use Rattle.mark_parts.specs.Constraints.{constraint_part, param_part};
 
+use crate::mark_facts::parts::Parts;
+use crate::mark_tables::assembly::Assembly;
 use crate::tokens::add_type_token;
+use il_base::world_model::token_of;
 use il_base::{NoMemory, table};
-use mark_facts::parts::Parts;
-use mark_tables::assembly::Assembly;
 use std::alloc::Global;
-use world_model::token_of;
 
 /// Puts what a row of GenericParamConstraint, from 0, names at the end.
 fn add_constraint(

@@ -1,21 +1,21 @@
 //! The parts of types, fields, properties, events and interface rows.
 
 ghost use Rattle.std.specs.Prelude.{◌≡◌, ◌++◌, OnOk};
-ghost use Rattle.mark_rules.specs.Types.{parts_of_type, parts_of_field, parts_of_impl};
-ghost use Rattle.mark_rules.specs.Properties.{parts_of_property, parts_of_event};
-ghost use Rattle.mark_tables.specs.Assemblies.{recs_of, place_of, rec_of, all_of, IsAssembly, IsMarker};
+ghost use Rattle.rules.specs.mark_rules.Types.{parts_of_type, parts_of_field, parts_of_impl};
+ghost use Rattle.rules.specs.mark_rules.Properties.{parts_of_property, parts_of_event};
+ghost use Rattle.mark_parts.specs.mark_tables.Assemblies.{recs_of, place_of, rec_of, all_of, IsAssembly, IsMarker};
 ghost use Rattle.mark_parts.specs.Items.{extends_parts};
 
 use crate::constraints::add_constraints;
+use crate::mark_facts::parts::Parts;
+use crate::mark_tables::assembly::Assembly;
+use crate::mark_tables::marker::Marker;
 use crate::sigs::{add_method_sig, add_sig};
 use crate::tokens::add_type_token;
+use il_base::world_model::token_of;
 use il_base::{NoMemory, table};
-use link_rules::RowAt;
-use mark_facts::parts::Parts;
-use mark_tables::assembly::Assembly;
-use mark_tables::marker::Marker;
+use rules::link_rules::RowAt;
 use std::alloc::Global;
-use world_model::token_of;
 
 /// Puts what the Extends of a type names at the end, by the type's row from 0 and its token.
 fn add_extends(
@@ -38,7 +38,7 @@ fn add_extends(
 }
 
 /// Puts the parts of a type at the end: what its Extends names, and the constraints of its parameters.
-#[tactic(auto, unfolding(mark_rules::specs::Types::parts_of_type), using(crate::proofs::Lists::two_put, crate::proofs::Lists::none_more))]
+#[tactic(auto, unfolding(rules::specs::mark_rules::Types::parts_of_type), using(crate::proofs::Lists::two_put, crate::proofs::Lists::none_more))]
 pub fn add_parts_of_type(
     alloc: Global,
     marker: &Marker<'_>,
@@ -57,7 +57,7 @@ pub fn add_parts_of_type(
 }
 
 /// Puts the type of a field at the end.
-#[tactic(auto, unfolding(mark_rules::specs::Types::parts_of_field), using(crate::proofs::Lists::none_more))]
+#[tactic(auto, unfolding(rules::specs::mark_rules::Types::parts_of_field), using(crate::proofs::Lists::none_more))]
 pub fn add_parts_of_field(
     alloc: Global,
     marker: &Marker<'_>,
@@ -78,7 +78,7 @@ pub fn add_parts_of_field(
 }
 
 /// Puts what an interface row names at the end.
-#[tactic(auto, unfolding(mark_rules::specs::Types::parts_of_impl), using(crate::proofs::Lists::none_more))]
+#[tactic(auto, unfolding(rules::specs::mark_rules::Types::parts_of_impl), using(crate::proofs::Lists::none_more))]
 pub fn add_parts_of_impl(
     alloc: Global,
     marker: &Marker<'_>,
@@ -99,7 +99,7 @@ pub fn add_parts_of_impl(
 }
 
 /// Puts the types of a property's signature at the end.
-#[tactic(auto, unfolding(mark_rules::specs::Properties::parts_of_property), using(crate::proofs::Lists::none_more))]
+#[tactic(auto, unfolding(rules::specs::mark_rules::Properties::parts_of_property), using(crate::proofs::Lists::none_more))]
 pub fn add_parts_of_property(
     alloc: Global,
     marker: &Marker<'_>,
@@ -120,7 +120,7 @@ pub fn add_parts_of_property(
 }
 
 /// Puts what the event type of an event names at the end.
-#[tactic(auto, unfolding(mark_rules::specs::Properties::parts_of_event), using(crate::proofs::Lists::none_more))]
+#[tactic(auto, unfolding(rules::specs::mark_rules::Properties::parts_of_event), using(crate::proofs::Lists::none_more))]
 pub fn add_parts_of_event(
     alloc: Global,
     marker: &Marker<'_>,

@@ -2,22 +2,22 @@
 
 ghost use Rattle.std.specs.Prelude.{◌≡◌, ◌++◌, OnOk};
 ghost use Rattle.std.specs.List.{flat_map};
-ghost use Rattle.link_rules.specs.Types.{at_row};
-ghost use Rattle.mark_rules.specs.Bodies.{is_read, code_parts, body_parts, body_of};
-ghost use Rattle.mark_rules.specs.Calls.{row_parts, uncaught_row_parts, parts_of_method, uncaught_parts};
-ghost use Rattle.mark_tables.specs.Assemblies.{recs_of, place_of, rec_of, all_of, IsAssembly, IsMarker};
+ghost use Rattle.rules.specs.link_rules.Types.{at_row};
+ghost use Rattle.rules.specs.mark_rules.Bodies.{is_read, code_parts, body_parts, body_of};
+ghost use Rattle.rules.specs.mark_rules.Calls.{row_parts, uncaught_row_parts, parts_of_method, uncaught_parts};
+ghost use Rattle.mark_parts.specs.mark_tables.Assemblies.{recs_of, place_of, rec_of, all_of, IsAssembly, IsMarker};
 ghost use Rattle.mark_parts.specs.Items.{head_parts, some_body_parts};
 
 use crate::bodies::{add_body, add_code};
 use crate::constraints::add_constraints;
+use crate::mark_facts::parts::Parts;
+use crate::mark_tables::assembly::Assembly;
+use crate::mark_tables::marker::Marker;
 use crate::sigs::add_method_sig;
+use il_base::world_model::{Known, MethodDefRow, token_of};
 use il_base::{MethodSig, NoMemory, table};
-use link_rules::RowAt;
-use mark_facts::parts::Parts;
-use mark_tables::assembly::Assembly;
-use mark_tables::marker::Marker;
+use rules::link_rules::RowAt;
 use std::alloc::Global;
-use world_model::{Known, MethodDefRow, token_of};
 
 /// Whether the catch types of a body are among its parts.
 #[derive(Clone, Copy, Debug, PartialEq, Eq)]
@@ -94,7 +94,7 @@ fn add_row(
 
 /// Puts the parts of a method at the end: its signature, the constraints of its parameters, its locals, what each operand
 /// names, and the types that it catches. A row that isn't there has none.
-#[tactic(auto, unfolding(mark_rules::specs::Calls::parts_of_method), using(crate::proofs::Lists::none_more))]
+#[tactic(auto, unfolding(rules::specs::mark_rules::Calls::parts_of_method), using(crate::proofs::Lists::none_more))]
 pub fn add_parts_of_method(
     alloc: Global,
     marker: &Marker<'_>,
@@ -115,7 +115,7 @@ pub fn add_parts_of_method(
 }
 
 /// Puts the parts of a method but the types that it catches at the end.
-#[tactic(auto, unfolding(mark_rules::specs::Calls::uncaught_parts), using(crate::proofs::Lists::none_more))]
+#[tactic(auto, unfolding(rules::specs::mark_rules::Calls::uncaught_parts), using(crate::proofs::Lists::none_more))]
 pub fn add_uncaught_parts(
     alloc: Global,
     marker: &Marker<'_>,

@@ -1,16 +1,16 @@
 //! The types of signatures. A signature without a reading is one bad part.
 
 ghost use Rattle.std.specs.Prelude.{◌≡◌, ◌++◌, OnOk};
-ghost use Rattle.mark_rules.specs.Naming.{type_parts, sig_parts, sigs_parts, method_type_parts, method_sig_parts};
-ghost use Rattle.mark_tables.specs.Assemblies.{recs_of, place_of, rec_of, IsAssembly};
+ghost use Rattle.rules.specs.mark_rules.Naming.{type_parts, sig_parts, sigs_parts, method_type_parts, method_sig_parts};
+ghost use Rattle.mark_parts.specs.mark_tables.Assemblies.{recs_of, place_of, rec_of, IsAssembly};
 
+use crate::mark_facts::parts::Parts;
+use crate::mark_tables::assembly::Assembly;
+use il_base::world_model::{Known, TypeExpr};
 use il_base::{MethodSig, NoMemory, Seq, Sig};
-use link_rules::MethodType;
-use mark_facts::parts::Parts;
-use mark_tables::assembly::Assembly;
-use member_search::method_types::{open_method_type, open_type, open_types};
+use rules::link_rules::MethodType;
 use std::alloc::Global;
-use world_model::{Known, TypeExpr};
+use type_tables::member_search::method_types::{open_method_type, open_type, open_types};
 
 /// Puts the types of a row at the end.
 fn add_types(alloc: Global, row: u32, types: &[TypeExpr], parts: &mut Parts) -> Result<(), NoMemory>

@@ -2,20 +2,20 @@
 
 ghost use Rattle.std.specs.Prelude.{◌≡◌, ◌++◌, ◌∷◌, [], IfOk, OnOk};
 ghost use Rattle.std.specs.Option.{option_copied};
-ghost use Rattle.world_model.specs.Worlds.{known_map, known_or};
-ghost use Rattle.link_rules.specs.Signatures.{token_type};
-ghost use Rattle.mark_rules.specs.Naming as naming;
-ghost use Rattle.mark_rules.specs.Naming.{method_named, field_named, type_token_part, method_token_part, field_token_part};
-ghost use Rattle.mark_facts.specs.Told.{named_told};
-ghost use Rattle.mark_tables.specs.Assemblies.{recs_of, place_of, rec_of, IsAssembly};
+ghost use Rattle.il_base.specs.world_model.Worlds.{known_map, known_or};
+ghost use Rattle.rules.specs.link_rules.Signatures.{token_type};
+ghost use Rattle.rules.specs.mark_rules.Naming as naming;
+ghost use Rattle.rules.specs.mark_rules.Naming.{method_named, field_named, type_token_part, method_token_part, field_token_part};
+ghost use Rattle.mark_parts.specs.mark_facts.Told.{named_told};
+ghost use Rattle.mark_parts.specs.mark_tables.Assemblies.{recs_of, place_of, rec_of, IsAssembly};
 
+use crate::mark_facts::part::Named;
+use crate::mark_facts::parts::Parts;
+use crate::mark_tables::assembly::Assembly;
+use base_laws::world_laws::laws::tokens_named;
+use il_base::world_model::{BadKind, FieldUse, Known, MethodUse, TypeExpr};
 use il_base::{AsmId, NoMemory};
-use mark_facts::part::Named;
-use mark_facts::parts::Parts;
-use mark_tables::assembly::Assembly;
 use std::alloc::Global;
-use world_laws::laws::tokens_named;
-use world_model::{BadKind, FieldUse, Known, MethodUse, TypeExpr};
 
 /// The link of a MethodDef, MemberRef or MethodSpec token.
 pub fn method_link<'a>(asm: &Assembly<'a>, token: u32) -> Option<&'a Known<MethodUse>>

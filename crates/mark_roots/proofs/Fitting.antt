@@ -3,25 +3,25 @@ use Rattle.std.proofs.Common.{◌≡◌, ℕ, suc, List, [], ◌∷◌, ◌++◌
 use Rattle.std.specs.Prelude.{◌||◌, slice_get, codes}
 use Rattle.std.specs.List.{list_any}
 use Rattle.il_base.specs.declared.table.TheConstants.{TYPE_DEF}
-use Rattle.world_model.specs.declared.expr.TypeExpr.{TypeExpr}
-use Rattle.world_model.specs.declared.members.FieldRow.{FieldRow}
-use Rattle.world_model.specs.declared.members.MethodDefRow.{MethodDefRow}
-use Rattle.world_model.specs.declared.record.AsmRec.{AsmRec}
-use Rattle.world_model.specs.Core.{same_name}
-use Rattle.world_model.specs.Tokens.{token_of}
-use Rattle.world_model.specs.Worlds.{known_then, sig_expr}
+use Rattle.il_base.specs.declared.world_model.expr.TypeExpr.{TypeExpr}
+use Rattle.il_base.specs.declared.world_model.members.FieldRow.{FieldRow}
+use Rattle.il_base.specs.declared.world_model.members.MethodDefRow.{MethodDefRow}
+use Rattle.il_base.specs.declared.world_model.record.AsmRec.{AsmRec}
+use Rattle.il_base.specs.world_model.Core.{same_name}
+use Rattle.il_base.specs.world_model.Tokens.{token_of}
+use Rattle.il_base.specs.world_model.Worlds.{known_then, sig_expr}
 use Rattle.descriptor_file.specs.declared.root.RootMember.{RootMember}
-use Rattle.link_rules.specs.declared.row_at.RowAt.{RowAt}
-use Rattle.link_rules.specs.declared.member_type.MethodType.{MethodType}
-use Rattle.link_rules.specs.Cycles.{listed}
-use Rattle.link_rules.specs.Signatures.{names_at}
-use Rattle.type_rules.specs.Rows.{rec_at}
-use Rattle.type_rules.specs.Slots.{type_of_row}
-use Rattle.mark_rules.specs.Dependencies.{good_signatures}
-use Rattle.mark_rules.specs.Annotations.{good_expr}
-use Rattle.mark_rules.specs.Roots.{method_owners, method_text, has_method_text, sig_text, field_text, field_fits, fits_field}
-use Rattle.slashed_names.specs.declared.names.SlashedNames.{SlashedNames}
-use Rattle.slashed_names.specs.Names.{AreNames}
+use Rattle.rules.specs.declared.link_rules.row_at.RowAt.{RowAt}
+use Rattle.rules.specs.declared.link_rules.member_type.MethodType.{MethodType}
+use Rattle.rules.specs.link_rules.Cycles.{listed}
+use Rattle.rules.specs.link_rules.Signatures.{names_at}
+use Rattle.rules.specs.type_rules.Rows.{rec_at}
+use Rattle.rules.specs.type_rules.Slots.{type_of_row}
+use Rattle.rules.specs.mark_rules.Dependencies.{good_signatures}
+use Rattle.rules.specs.mark_rules.Annotations.{good_expr}
+use Rattle.rules.specs.mark_rules.Roots.{method_owners, method_text, has_method_text, sig_text, field_text, field_fits, fits_field}
+use Rattle.descriptor_texts.specs.declared.slashed_names.names.SlashedNames.{SlashedNames}
+use Rattle.descriptor_texts.specs.slashed_names.Names.{AreNames}
 use Rattle.mark_roots.specs.Lookups.{fields_fit_by, field_fits_in}
 
 or_false : (b : Bool) → b ≡ (b || false)

@@ -6,15 +6,15 @@ use Rattle.std.proofs.lemmas.List.{append-nil}
 use Rattle.il_base.specs.declared.ids.TypeId.{TypeId}
 use Rattle.il_base.specs.declared.ids.Item.{Item}
 use Rattle.il_base.specs.declared.ids.Item.TheVariants as item
-use Rattle.world_model.specs.declared.record.AsmRec.{AsmRec}
+use Rattle.il_base.specs.declared.world_model.record.AsmRec.{AsmRec}
 use Rattle.descriptor_file.specs.declared.root.Root.{Root}
-use Rattle.link_rules.specs.declared.row_at.RowAt.{RowAt}
-use Rattle.link_rules.specs.Cycles.{listed}
+use Rattle.rules.specs.declared.link_rules.row_at.RowAt.{RowAt}
+use Rattle.rules.specs.link_rules.Cycles.{listed}
 use Rattle.type_tables.specs.declared.groups.Groups.{Groups}
 use Rattle.type_tables.specs.Groups.{rows_with, AreGroups}
 use Rattle.type_tables.proofs.Grouped.{flat_grouped}
-use Rattle.mark_rules.specs.Facts.{Fact}
-use Rattle.mark_rules.specs.Roots.{no_type, root_type, waits_for, waiting_facts}
+use Rattle.rules.specs.mark_rules.Facts.{Fact}
+use Rattle.rules.specs.mark_rules.Roots.{no_type, root_type, waits_for, waiting_facts}
 use Rattle.mark_roots.specs.Waiting.{waits, key_by, key_of, kept_with, waits_at}
 
 if_waits : (recs : List AsmRec) (t : TypeId) (r : Root) (b : Bool) (o : Option RowAt) → (if b then [] else flat_map (kept_with recs t r) (listed o)) ≡ flat_map (kept_with recs t r) (listed (if b then None else o))

@@ -1,22 +1,22 @@
 -- What is made of a world to look up what descriptors name.
 use Rattle.std.specs.Prelude.{ℕ, List, ◌∷◌, Bool, slice_get}
 use Rattle.std.specs.List.{list_any}
-use Rattle.world_model.specs.declared.members.FieldRow.{FieldRow}
-use Rattle.world_model.specs.declared.record.AsmRec.{AsmRec}
-use Rattle.world_model.specs.Core.{same_name}
-use Rattle.world_model.specs.Worlds.{known_then, sig_expr}
+use Rattle.il_base.specs.declared.world_model.members.FieldRow.{FieldRow}
+use Rattle.il_base.specs.declared.world_model.record.AsmRec.{AsmRec}
+use Rattle.il_base.specs.world_model.Core.{same_name}
+use Rattle.il_base.specs.world_model.Worlds.{known_then, sig_expr}
 use Rattle.descriptor_file.specs.declared.root.Root.{Root}
 use Rattle.descriptor_file.specs.declared.root.RootMember.{RootMember}
-use Rattle.link_rules.specs.declared.row_at.RowAt.{RowAt}
-use Rattle.link_rules.specs.Signatures.{names_at}
-use Rattle.link_rules.specs.Cycles.{listed}
-use Rattle.mark_rules.specs.Facts.{Fact}
-use Rattle.mark_rules.specs.Places.{marks_type}
-use Rattle.mark_rules.specs.Annotations.{good_expr}
-use Rattle.mark_rules.specs.Roots.{field_text, field_fits, root_members}
-use Rattle.mark_tables.specs.Assemblies.{all_of, IsMarker}
-use Rattle.slashed_names.specs.Names.{AreNames}
-use Rattle.descriptor_types.specs.Types.{AreTypes}
+use Rattle.rules.specs.declared.link_rules.row_at.RowAt.{RowAt}
+use Rattle.rules.specs.link_rules.Signatures.{names_at}
+use Rattle.rules.specs.link_rules.Cycles.{listed}
+use Rattle.rules.specs.mark_rules.Facts.{Fact}
+use Rattle.rules.specs.mark_rules.Places.{marks_type}
+use Rattle.rules.specs.mark_rules.Annotations.{good_expr}
+use Rattle.rules.specs.mark_rules.Roots.{field_text, field_fits, root_members}
+use Rattle.mark_parts.specs.mark_tables.Assemblies.{all_of, IsMarker}
+use Rattle.descriptor_texts.specs.slashed_names.Names.{AreNames}
+use Rattle.descriptor_texts.specs.descriptor_types.Types.{AreTypes}
 use Rattle.mark_roots.specs.declared.lookup.Lookup.{Lookup}
 
 abbrev pub recs_in : Lookup → List AsmRec

@@ -3,13 +3,13 @@ use Rattle.std.specs.Prelude.{ℕ, List, [], map, Option, Some, None, slice_get,
 use Rattle.std.specs.Option.{option_map_or}
 use Rattle.il_base.specs.declared.ids.TypeId.{TypeId}
 use Rattle.il_base.specs.declared.ids.Item.TheVariants as item
-use Rattle.world_model.specs.declared.record.AsmRec.{AsmRec}
-use Rattle.world_model.specs.Worlds.{type_id}
+use Rattle.il_base.specs.declared.world_model.record.AsmRec.{AsmRec}
+use Rattle.il_base.specs.world_model.Worlds.{type_id}
 use Rattle.descriptor_file.specs.declared.root.Root.{Root}
-use Rattle.link_rules.specs.declared.row_at.RowAt.{RowAt}
+use Rattle.rules.specs.declared.link_rules.row_at.RowAt.{RowAt}
 use Rattle.type_tables.specs.Groups.{AreGroups}
-use Rattle.mark_rules.specs.Facts.{Fact}
-use Rattle.mark_rules.specs.Roots.{no_type, root_type, root_members, waits_for}
+use Rattle.rules.specs.mark_rules.Facts.{Fact}
+use Rattle.rules.specs.mark_rules.Roots.{no_type, root_type, root_members, waits_for}
 use Rattle.mark_roots.specs.declared.waiting.Waiting.{Waiting}
 
 -- the type for which an element waits

@@ -2,31 +2,31 @@
 
 ghost use Rattle.std.specs.Prelude.{◌≡◌, ◌++◌, ◌∷◌, [], map, IfOk, OnOk};
 ghost use Rattle.std.specs.List.{filter, list_any};
-ghost use Rattle.world_model.specs.Worlds.{known_then, sig_expr};
-ghost use Rattle.link_rules.specs.Cycles.{listed};
-ghost use Rattle.link_rules.specs.Signatures.{names_at};
-ghost use Rattle.type_rules.specs.Rows.{fields_of_type};
-ghost use Rattle.mark_rules.specs.Places.{marks_field};
-ghost use Rattle.mark_rules.specs.Annotations.{good_expr};
-ghost use Rattle.mark_rules.specs.Roots.{field_fits, fits_field};
-ghost use Rattle.mark_tables.specs.Assemblies.{recs_of, place_of, rec_of, IsAssembly};
-ghost use Rattle.slashed_names.specs.Names.{AreNames};
+ghost use Rattle.il_base.specs.world_model.Worlds.{known_then, sig_expr};
+ghost use Rattle.rules.specs.link_rules.Cycles.{listed};
+ghost use Rattle.rules.specs.link_rules.Signatures.{names_at};
+ghost use Rattle.rules.specs.type_rules.Rows.{fields_of_type};
+ghost use Rattle.rules.specs.mark_rules.Places.{marks_field};
+ghost use Rattle.rules.specs.mark_rules.Annotations.{good_expr};
+ghost use Rattle.rules.specs.mark_rules.Roots.{field_fits, fits_field};
+ghost use Rattle.mark_parts.specs.mark_tables.Assemblies.{recs_of, place_of, rec_of, IsAssembly};
+ghost use Rattle.descriptor_texts.specs.slashed_names.Names.{AreNames};
 ghost use Rattle.mark_roots.specs.Lookups.{recs_in, fields_fit_by, field_fits_in, IsLookup};
 
 use crate::lookup::Lookup;
 use descriptor_file::RootMember;
+use descriptor_texts::sig_texts::members::field_text;
+use descriptor_texts::sig_texts::spelling::{Owners, Spelling};
+use descriptor_texts::slashed_names::names::SlashedNames;
+use il_base::world_model::{FieldRow, Known, TypeExpr, token_of};
 use il_base::{NoMemory, table};
-use link_rules::RowAt;
-use mark_facts::facts::Facts;
-use mark_rows::members::fields_of_type;
-use mark_tables::assembly::Assembly;
-use mark_whole::members::mark_fields;
-use member_search::method_types::open_type;
-use sig_texts::members::field_text;
-use sig_texts::spelling::{Owners, Spelling};
-use slashed_names::names::SlashedNames;
+use mark_members::mark_whole::members::mark_fields;
+use mark_parts::mark_facts::facts::Facts;
+use mark_parts::mark_rows::members::fields_of_type;
+use mark_parts::mark_tables::assembly::Assembly;
+use rules::link_rules::RowAt;
 use std::alloc::Global;
-use world_model::{FieldRow, Known, TypeExpr, token_of};
+use type_tables::member_search::method_types::open_type;
 
 /// The type of a field, where its signature is good.
 fn field_type(alloc: Global, asm: &Assembly<'_>, f: &FieldRow) -> Result<Option<TypeExpr>, NoMemory>

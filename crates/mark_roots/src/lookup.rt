@@ -1,6 +1,6 @@
-use descriptor_types::types::DescriptorTypes;
-use mark_tables::marker::Marker;
-use slashed_names::names::SlashedNames;
+use descriptor_texts::descriptor_types::types::DescriptorTypes;
+use descriptor_texts::slashed_names::names::SlashedNames;
+use mark_parts::mark_tables::marker::Marker;
 
 /// A world with what is made of it once, the names of its types, and its types by these names.
 #[derive(Clone, Copy)]

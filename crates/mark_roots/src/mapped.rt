@@ -2,19 +2,19 @@
 
 ghost use Rattle.std.specs.Prelude.{◌≡◌, ◌++◌, OnOk};
 ghost use Rattle.std.specs.List.{filter, flat_map};
-ghost use Rattle.mark_rules.specs.Attributes.{is_property_called};
-ghost use Rattle.mark_rules.specs.Dependencies.{is_event_called};
-ghost use Rattle.mark_rules.specs.Members.{properties_of_type, events_of_type};
-ghost use Rattle.mark_rules.specs.Properties.{whole_property, whole_event};
-ghost use Rattle.mark_tables.specs.Assemblies.{all_of, IsMarker};
+ghost use Rattle.rules.specs.mark_rules.Attributes.{is_property_called};
+ghost use Rattle.rules.specs.mark_rules.Dependencies.{is_event_called};
+ghost use Rattle.rules.specs.mark_rules.Members.{properties_of_type, events_of_type};
+ghost use Rattle.rules.specs.mark_rules.Properties.{whole_property, whole_event};
+ghost use Rattle.mark_parts.specs.mark_tables.Assemblies.{all_of, IsMarker};
 
-use called_members::mapped::{events_called, properties_called};
 use il_base::NoMemory;
-use link_rules::RowAt;
-use mark_facts::facts::Facts;
-use mark_rows::members::{events_of_type, properties_of_type};
-use mark_tables::marker::Marker;
-use mark_whole::mapped::{add_events, add_properties};
+use mark_members::called_members::mapped::{events_called, properties_called};
+use mark_members::mark_whole::mapped::{add_events, add_properties};
+use mark_parts::mark_facts::facts::Facts;
+use mark_parts::mark_rows::members::{events_of_type, properties_of_type};
+use mark_parts::mark_tables::marker::Marker;
+use rules::link_rules::RowAt;
 use std::alloc::Global;
 
 /// Marks the properties of a type that have this name, with their accessors.

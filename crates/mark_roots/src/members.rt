@@ -2,7 +2,7 @@
 
 ghost use Rattle.std.specs.Prelude.{◌≡◌, ◌++◌, OnOk};
 ghost use Rattle.std.specs.List.{flat_map};
-ghost use Rattle.mark_rules.specs.Roots.{member_by, root_members};
+ghost use Rattle.rules.specs.mark_rules.Roots.{member_by, root_members};
 ghost use Rattle.mark_roots.specs.Lookups.{recs_in, IsLookup};
 
 use crate::fields::add_fields;
@@ -11,9 +11,9 @@ use crate::mapped::{add_events_called, add_properties_called};
 use crate::methods::add_methods;
 use descriptor_file::{Root, RootMember, member};
 use il_base::NoMemory;
-use link_rules::RowAt;
-use mark_facts::facts::Facts;
-use mark_whole::members::add_preserved;
+use mark_members::mark_whole::members::add_preserved;
+use mark_parts::mark_facts::facts::Facts;
+use rules::link_rules::RowAt;
 use std::alloc::Global;
 
 /// Puts the members that a member element names at the end.

@@ -2,27 +2,27 @@
 
 ghost use Rattle.std.specs.Prelude.{◌≡◌, ◌++◌, ◌∷◌, [], IfOk, OnOk};
 ghost use Rattle.std.specs.List.{filter, flat_map, list_any};
-ghost use Rattle.link_rules.specs.Cycles.{listed};
-ghost use Rattle.type_rules.specs.Rows.{rec_at, methods_of_type};
-ghost use Rattle.type_rules.specs.Slots.{type_of_row};
-ghost use Rattle.mark_rules.specs.Dependencies.{good_signatures};
-ghost use Rattle.mark_rules.specs.Roots.{method_owners, has_method_text, method_fits, fits_method, keeps_method};
-ghost use Rattle.sig_texts.specs.Spelled.{owners_told};
+ghost use Rattle.rules.specs.link_rules.Cycles.{listed};
+ghost use Rattle.rules.specs.type_rules.Rows.{rec_at, methods_of_type};
+ghost use Rattle.rules.specs.type_rules.Slots.{type_of_row};
+ghost use Rattle.rules.specs.mark_rules.Dependencies.{good_signatures};
+ghost use Rattle.rules.specs.mark_rules.Roots.{method_owners, has_method_text, method_fits, fits_method, keeps_method};
+ghost use Rattle.descriptor_texts.specs.sig_texts.Spelled.{owners_told};
 ghost use Rattle.mark_roots.specs.Lookups.{recs_in, IsLookup};
 
 use crate::lookup::Lookup;
-use called_members::signatures::good_signature;
 use descriptor_file::RootMember;
+use descriptor_texts::sig_texts::members::method_text;
+use descriptor_texts::sig_texts::spelling::{Owners, Spelling};
+use il_base::world_model::{MethodDefRow, token_of};
 use il_base::{NoMemory, table};
-use link_rules::{MethodType, RowAt};
-use mark_facts::facts::Facts;
-use mark_rows::members::methods_of_type;
-use mark_whole::methods::keep_methods;
-use sig_texts::members::method_text;
-use sig_texts::spelling::{Owners, Spelling};
+use mark_members::called_members::signatures::good_signature;
+use mark_members::mark_whole::methods::keep_methods;
+use mark_parts::mark_facts::facts::Facts;
+use mark_parts::mark_rows::members::methods_of_type;
+use rules::link_rules::{MethodType, RowAt};
 use std::alloc::Global;
 use type_tables::methods::method_row_at;
-use world_model::{MethodDefRow, token_of};
 
 /// The owners of the generic parameters in a method's signature: its type and itself.
 fn method_owners(t: RowAt, at: RowAt) -> Result<Owners, NoMemory>

@@ -2,20 +2,20 @@
 
 ghost use Rattle.std.specs.Prelude.{◌≡◌, ◌++◌, ◌∷◌, IfOk, OnOk};
 ghost use Rattle.std.specs.List.{flat_map};
-ghost use Rattle.link_rules.specs.Cycles.{listed};
-ghost use Rattle.mark_rules.specs.Places.{marks_type};
-ghost use Rattle.mark_rules.specs.Roots.{root_type, root_members, root_facts, start_facts};
+ghost use Rattle.rules.specs.link_rules.Cycles.{listed};
+ghost use Rattle.rules.specs.mark_rules.Places.{marks_type};
+ghost use Rattle.rules.specs.mark_rules.Roots.{root_type, root_members, root_facts, start_facts};
 ghost use Rattle.mark_roots.specs.Lookups.{recs_in, root_kept, IsLookup};
 
 use crate::lookup::Lookup;
 use crate::members::add_root_members;
 use descriptor_file::Root;
 use il_base::NoMemory;
-use link_rules::RowAt;
-use mark_facts::facts::Facts;
-use mark_facts::kinds::Kind;
-use mark_starts::first::add_first;
-use mark_starts::inputs::{add_input, input_named};
+use mark_members::mark_starts::first::add_first;
+use mark_members::mark_starts::inputs::{add_input, input_named};
+use mark_parts::mark_facts::facts::Facts;
+use mark_parts::mark_facts::kinds::Kind;
+use rules::link_rules::RowAt;
 use std::alloc::Global;
 
 /// The type that an element names.
@@ -73,7 +73,7 @@ fn add_required(
 
 /// Puts what an element keeps at once at the end: an assembly without a type whole; a type with the members that it names, unless
 /// it waits for the type.
-#[tactic(auto, unfolding(mark_rules::specs::Roots::root_facts), using(crate::proofs::Lists::none_more))]
+#[tactic(auto, unfolding(rules::specs::mark_rules::Roots::root_facts), using(crate::proofs::Lists::none_more))]
 pub fn add_root(
     alloc: Global,
     lookup: &Lookup<'_, '_>,
@@ -112,7 +112,7 @@ fn add_roots(
 
 /// Puts what is marked before any rule is used at the end: the primary assembly, its `<Module>`, the entry method, and what
 /// descriptors keep at once.
-#[tactic(auto, unfolding(mark_rules::specs::Roots::start_facts), using(crate::proofs::Lists::two_put))]
+#[tactic(auto, unfolding(rules::specs::mark_rules::Roots::start_facts), using(crate::proofs::Lists::two_put))]
 pub fn add_start(
     alloc: Global,
     lookup: &Lookup<'_, '_>,

@@ -4,7 +4,7 @@ ghost use Rattle.std.specs.Prelude.{◌≡◌, ◌++◌, map, slice_get, IfOk, O
 ghost use Rattle.std.specs.List.{flat_map};
 ghost use Rattle.std.specs.Option.{option_copied};
 ghost use Rattle.il_base.specs.declared.ids.Item.TheVariants as item;
-ghost use Rattle.mark_rules.specs.Roots.{waits_for, waiting_facts};
+ghost use Rattle.rules.specs.mark_rules.Roots.{waits_for, waiting_facts};
 ghost use Rattle.mark_roots.specs.Lookups.{recs_in, IsLookup};
 ghost use Rattle.mark_roots.specs.Waiting.{key_by, key_of, waits, kept_with, waits_at, AreWaiting};
 
@@ -12,13 +12,13 @@ use crate::lookup::Lookup;
 use crate::members::add_root_members;
 use crate::roots::root_type;
 use descriptor_file::Root;
+use il_base::world_model::AsmRec;
 use il_base::{Item, NoMemory, TypeId};
-use link_rules::RowAt;
-use mark_facts::facts::Facts;
-use mark_facts::rows::type_at;
+use mark_parts::mark_facts::facts::Facts;
+use mark_parts::mark_facts::rows::type_at;
+use rules::link_rules::RowAt;
 use std::alloc::Global;
 use type_tables::groups::Groups;
-use world_model::AsmRec;
 
 /// The elements that wait for their types, by the ids of these types.
 #[derive(Drop)]
@@ -176,7 +176,7 @@ impl Waiting {
     }
 
     /// Puts what the elements that wait for a type keep at the end; for other items they keep nothing.
-    #[tactic(auto, unfolding(mark_rules::specs::Roots::waiting_facts))]
+    #[tactic(auto, unfolding(rules::specs::mark_rules::Roots::waiting_facts))]
     pub fn add(
         &self,
         alloc: Global,

@@ -4,14 +4,14 @@ use Rattle.std.specs.Prelude.{IsTrue, ◌↔◌}
 use Rattle.il_base.specs.declared.ids.Item.{Item}
 use Rattle.il_base.specs.declared.ids.Item.TheVariants as item
 use Rattle.il_base.specs.declared.bits.Bits.{Bits}
-use Rattle.world_model.specs.declared.record.AsmRec.{AsmRec}
-use Rattle.world_laws.specs.Homes.{place_of}
-use Rattle.link_rules.specs.declared.row_at.RowAt.{RowAt}
+use Rattle.il_base.specs.declared.world_model.record.AsmRec.{AsmRec}
+use Rattle.base_laws.specs.world_laws.Homes.{place_of}
+use Rattle.rules.specs.declared.link_rules.row_at.RowAt.{RowAt}
 use Rattle.descriptor_file.specs.declared.root.Root.{Root}
 use Rattle.closure.specs.Facts.{is_set}
-use Rattle.mark_rules.specs.Facts.{Fact}
-use Rattle.mark_rules.specs.Facts.Fact.{marked, instantiated, reflected, shown}
-use Rattle.mark_rules.specs.Marking.{Marks}
+use Rattle.rules.specs.mark_rules.Facts.{Fact}
+use Rattle.rules.specs.mark_rules.Facts.Fact.{marked, instantiated, reflected, shown}
+use Rattle.rules.specs.mark_rules.Marking.{Marks}
 use Rattle.mark_numbers.specs.declared.starts.Starts.{Starts}
 use Rattle.mark_numbers.specs.Numbers.{before_reflected, number_of}
 use Rattle.mark_numbers.specs.Starts.{AreStarts}

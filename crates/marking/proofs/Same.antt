@@ -3,9 +3,9 @@ use Rattle.std.proofs.Common.{◌≡◌, ℕ, true, refl, ap}
 use Rattle.std.proofs.lemmas.Bool.{eqb-true, eq-eqb}
 use Rattle.il_base.specs.declared.ids.Item.{Item}
 use Rattle.il_base.specs.declared.ids.Item.TheVariants as item
-use Rattle.mark_rules.specs.Facts.{Fact}
-use Rattle.mark_rules.specs.Facts.Fact.{marked, instantiated, reflected, shown}
-use Rattle.mark_rules.specs.Marking.{same_item, same_fact}
+use Rattle.rules.specs.mark_rules.Facts.{Fact}
+use Rattle.rules.specs.mark_rules.Facts.Fact.{marked, instantiated, reflected, shown}
+use Rattle.rules.specs.mark_rules.Marking.{same_item, same_fact}
 
 pub item_is : (i j : Item) → same_item i j ≡ true → i ≡ j
 item_is (item.Asm a) (item.Asm b) e = ap (λ (n : ℕ). item.Asm (record { 0 = n })) (eqb-true a.0 b.0 e)

@@ -8,25 +8,25 @@ use Rattle.std.proofs.lemmas.List.{get_or_default}
 use Rattle.std.proofs.lemmas.List.Elements.{Contains-append_left, Contains-append_right, Contains-append_cases}
 use Rattle.il_base.specs.declared.bits.Bits.{Bits}
 use Rattle.il_base.specs.declared.ids.Item.{Item}
-use Rattle.world_model.specs.declared.world.Home.{Home}
-use Rattle.world_model.specs.declared.world.World.{World}
-use Rattle.world_laws.specs.Homes.{place_of, table_for, home_at, TellsItems}
-use Rattle.link_rules.specs.declared.row_at.RowAt.{RowAt}
-use Rattle.link_rules.specs.Linked.{IsWorld}
+use Rattle.il_base.specs.declared.world_model.world.Home.{Home}
+use Rattle.il_base.specs.declared.world_model.world.World.{World}
+use Rattle.base_laws.specs.world_laws.Homes.{place_of, table_for, home_at, TellsItems}
+use Rattle.rules.specs.declared.link_rules.row_at.RowAt.{RowAt}
+use Rattle.rules.specs.link_rules.Linked.{IsWorld}
 use Rattle.descriptor_file.specs.declared.root.Root.{Root}
 use Rattle.closure.specs.Facts.{facts_in, Derived, root, brought}
-use Rattle.queued_closure.specs.Brings.{brings_by}
-use Rattle.mark_rules.specs.Facts.{Fact}
-use Rattle.mark_rules.specs.Facts.Fact.{marked, instantiated, reflected, shown}
-use Rattle.mark_rules.specs.Places.{row_of, is_core}
-use Rattle.mark_rules.specs.Roots.{start_facts}
-use Rattle.mark_rules.specs.Marking.{same_fact, is_core_fact, given}
+use Rattle.closure.specs.queued_closure.Brings.{brings_by}
+use Rattle.rules.specs.mark_rules.Facts.{Fact}
+use Rattle.rules.specs.mark_rules.Facts.Fact.{marked, instantiated, reflected, shown}
+use Rattle.rules.specs.mark_rules.Places.{row_of, is_core}
+use Rattle.rules.specs.mark_rules.Roots.{start_facts}
+use Rattle.rules.specs.mark_rules.Marking.{same_fact, is_core_fact, given}
 use Rattle.mark_numbers.specs.Numbers.{universe, number_of, is_there, FactsFound}
-use Rattle.mark_laws.specs.Brings.{IsStart, MarksFound}
-use Rattle.known_laws.proofs.Lists.{from_flat, to_flat, from_if, to_if, one_is, first_in, from_any, to_any}
-use Rattle.marking_rules.specs.Lists.{alone_list, joined_list}
-use Rattle.marking_rules.specs.Laws.{ListsBring}
-use Rattle.marking_rules.proofs.Bringing.{number_from, number_to}
+use Rattle.mark_numbers.specs.mark_laws.Brings.{IsStart, MarksFound}
+use Rattle.base_laws.proofs.lemmas.known_laws.Lists.{from_flat, to_flat, from_if, to_if, one_is, first_in, from_any, to_any}
+use Rattle.marking.specs.marking_rules.Lists.{alone_list, joined_list}
+use Rattle.marking.specs.marking_rules.Laws.{ListsBring}
+use Rattle.marking.proofs.lemmas.marking_rules.Bringing.{number_from, number_to}
 use Rattle.marking.specs.Starting.{core_fact, core_facts, first_facts, start_list}
 use Rattle.marking.specs.Marks.{IsMarkedSet}
 use Rattle.marking.proofs.Same.{fact_is, fact_same}

@@ -2,16 +2,16 @@
 use Rattle.std.specs.Prelude.{ℕ, List, [], ◌∷◌, ◌++◌, Option, if◌then◌else◌}
 use Rattle.std.specs.List.{flat_map}
 use Rattle.il_base.specs.declared.ids.Item.{Item}
-use Rattle.world_model.specs.declared.record.AsmRec.{AsmRec}
-use Rattle.world_model.specs.declared.world.Home.{Home}
-use Rattle.world_model.specs.declared.world.World.{World}
-use Rattle.link_rules.specs.declared.row_at.RowAt.{RowAt}
+use Rattle.il_base.specs.declared.world_model.record.AsmRec.{AsmRec}
+use Rattle.il_base.specs.declared.world_model.world.Home.{Home}
+use Rattle.il_base.specs.declared.world_model.world.World.{World}
+use Rattle.rules.specs.declared.link_rules.row_at.RowAt.{RowAt}
 use Rattle.descriptor_file.specs.declared.root.Root.{Root}
-use Rattle.mark_rules.specs.Facts.{Fact}
-use Rattle.mark_rules.specs.Facts.Fact.{marked}
-use Rattle.mark_rules.specs.Places.{is_core}
-use Rattle.mark_rules.specs.Roots.{start_facts}
-use Rattle.marking_rules.specs.Lists.{numbers_in}
+use Rattle.rules.specs.mark_rules.Facts.{Fact}
+use Rattle.rules.specs.mark_rules.Facts.Fact.{marked}
+use Rattle.rules.specs.mark_rules.Places.{is_core}
+use Rattle.rules.specs.mark_rules.Roots.{start_facts}
+use Rattle.marking.specs.marking_rules.Lists.{numbers_in}
 
 abbrev pub core_fact : List AsmRec → Item → List Fact
 core_fact recs i = if is_core recs i then marked i ∷ [] else []

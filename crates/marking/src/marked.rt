@@ -1,17 +1,17 @@
 ghost use Rattle.std.specs.Prelude.{◌≡◌, ◌<◌, ◌^◌, IfOk};
-ghost use Rattle.mark_rules.specs.Facts.Fact.{marked, instantiated, reflected, shown};
+ghost use Rattle.rules.specs.mark_rules.Facts.Fact.{marked, instantiated, reflected, shown};
 ghost use Rattle.closure.specs.Facts.{is_set};
-ghost use Rattle.mark_tables.specs.Assemblies.{all_of, IsMarker};
+ghost use Rattle.mark_parts.specs.mark_tables.Assemblies.{all_of, IsMarker};
 ghost use Rattle.virtual_calls.specs.Slots.{AreSlots};
 ghost use Rattle.marking.specs.Holding.{place_by, holds, IsMarked};
 
 use crate::set::marked_set;
 use il_base::{Bits, Item, NoMemory, TypeId};
-use link_rules::RowAt;
+use mark_items::named_rules::NamedRules;
 use mark_numbers::numbers::Numbers;
 use mark_numbers::starts::Starts;
-use mark_tables::marker::Marker;
-use named_rules::NamedRules;
+use mark_parts::mark_tables::marker::Marker;
+use rules::link_rules::RowAt;
 use std::alloc::Global;
 use virtual_calls::slots::Slots;
 

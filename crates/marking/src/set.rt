@@ -1,25 +1,25 @@
 //! The marked set, by the numbers of facts.
 
 ghost use Rattle.std.specs.Prelude.{◌≡◌, IfOk};
-ghost use Rattle.mark_tables.specs.Assemblies.{all_of, IsMarker};
+ghost use Rattle.mark_parts.specs.mark_tables.Assemblies.{all_of, IsMarker};
 ghost use Rattle.virtual_calls.specs.Slots.{AreSlots};
 ghost use Rattle.mark_numbers.specs.Starts.{AreNumbers};
 ghost use Rattle.marking.specs.Marks.{IsMarkedSet};
 
+use crate::marking_rules::laws::lists_bring;
+use crate::marking_rules::rules::MarkRules;
 use crate::starts::start_numbers;
+use base_laws::world_laws::laws::homes_told;
+use closure::queued_closure::least;
 use il_base::{Bits, NoMemory};
-use link_rules::RowAt;
-use mark_laws::laws::marks_told;
+use mark_items::named_rules::NamedRules;
 use mark_numbers::laws::numbers_told;
+use mark_numbers::mark_laws::laws::marks_told;
 use mark_numbers::numbers::Numbers;
-use mark_tables::marker::Marker;
-use marking_rules::laws::lists_bring;
-use marking_rules::rules::MarkRules;
-use named_rules::NamedRules;
-use queued_closure::least;
+use mark_parts::mark_tables::marker::Marker;
+use rules::link_rules::RowAt;
 use std::alloc::Global;
 use virtual_calls::slots::Slots;
-use world_laws::laws::homes_told;
 
 /// The set of the facts that hold, by their numbers.
 pub(crate) fn marked_set<N: NamedRules>(

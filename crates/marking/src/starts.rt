@@ -1,20 +1,20 @@
 //! The facts that hold at the start: the items of the core library, and what the entry and descriptors give.
 
 ghost use Rattle.std.specs.Prelude.{◌≡◌, ◌++◌, IfOk, OnOk};
-ghost use Rattle.mark_tables.specs.Assemblies.{all_of};
+ghost use Rattle.mark_parts.specs.mark_tables.Assemblies.{all_of};
 ghost use Rattle.mark_numbers.specs.Starts.{AreNumbers};
 ghost use Rattle.marking.specs.Starting.{core_fact, core_facts, first_facts, start_list};
 
+use crate::marking_rules::lists::numbers_of;
+use il_base::world_model::{AsmRec, World};
 use il_base::{Item, NoMemory, Seq};
-use link_rules::RowAt;
-use mark_facts::facts::Facts;
-use mark_facts::rows::is_core;
+use mark_items::named_rules::NamedRules;
 use mark_numbers::numbers::Numbers;
-use mark_tables::marker::Marker;
-use marking_rules::lists::numbers_of;
-use named_rules::NamedRules;
+use mark_parts::mark_facts::facts::Facts;
+use mark_parts::mark_facts::rows::is_core;
+use mark_parts::mark_tables::marker::Marker;
+use rules::link_rules::RowAt;
 use std::alloc::Global;
-use world_model::{AsmRec, World};
 
 /// Puts at the end that an item is marked, where it is the core library's.
 fn add_if_core(all: &[AsmRec], item: Item, facts: &mut Facts) -> Result<(), NoMemory>

@@ -3,15 +3,15 @@ use Rattle.std.proofs.Common.{◌≡◌, [], ◌∷◌, map}
 use Rattle.std.specs.List.{flat_map}
 use Rattle.il_base.specs.declared.sig.Sig.{Sig}
 use Rattle.il_base.specs.declared.sig.MethodSig.{MethodSig}
-use Rattle.world_model.specs.declared.known.Known.TheVariants.{Good}
-use Rattle.world_model.specs.declared.expr.TypeExpr.{TypeExpr}
-use Rattle.world_model.specs.declared.expr.MemberSig.TheVariants as member
-use Rattle.link_rules.specs.declared.row_at.RowAt.{RowAt}
-use Rattle.link_rules.specs.Cycles.{listed}
-use Rattle.merge_rules.specs.Keys.{TypeKey, InstanceKey, expr_key}
-use Rattle.merge_rules.specs.Refs.{Output, MemberKey, a_method, a_field, an_absent, first_or, method_at, field_at, method_name, field_name, own_method_sig, own_field_sig, parent_token, member_ref_row, member_ref_rows, method_spec_rows}
-use Rattle.signature_rows.specs.Laws.{AreOutputs, SignaturesTell}
-use Rattle.key_tokens.specs.Laws.{AreTokensOf, KeysTell}
+use Rattle.il_base.specs.declared.world_model.known.Known.TheVariants.{Good}
+use Rattle.il_base.specs.declared.world_model.expr.TypeExpr.{TypeExpr}
+use Rattle.il_base.specs.declared.world_model.expr.MemberSig.TheVariants as member
+use Rattle.rules.specs.declared.link_rules.row_at.RowAt.{RowAt}
+use Rattle.rules.specs.link_rules.Cycles.{listed}
+use Rattle.rules.specs.merge_rules.Keys.{TypeKey, InstanceKey, expr_key}
+use Rattle.rules.specs.merge_rules.Refs.{Output, MemberKey, a_method, a_field, an_absent, first_or, method_at, field_at, method_name, field_name, own_method_sig, own_field_sig, parent_token, member_ref_row, member_ref_rows, method_spec_rows}
+use Rattle.token_keys.specs.signature_rows.Laws.{AreOutputs, SignaturesTell}
+use Rattle.reference_rows.specs.key_tokens.Laws.{AreTokensOf, KeysTell}
 use Rattle.member_rows.specs.declared.parts.RowParts.{RowParts}
 use Rattle.member_rows.specs.Rows.{recs_of, parent_by, member_ref_by, member_refs_by, method_specs_by}
 use Rattle.member_rows.specs.Laws.{ArePartsOf, AreMemberRows}

@@ -1,8 +1,8 @@
 -- With what the output refers to, the rows of members are its own.
 use Rattle.std.specs.Prelude.{◌≡◌}
-use Rattle.merge_rules.specs.Refs.{Output, member_ref_rows, method_spec_rows}
-use Rattle.signature_rows.specs.Laws.{AreNumberTokens}
-use Rattle.key_tokens.specs.Laws.{AreKeysOf}
+use Rattle.rules.specs.merge_rules.Refs.{Output, member_ref_rows, method_spec_rows}
+use Rattle.token_keys.specs.signature_rows.Laws.{AreNumberTokens}
+use Rattle.reference_rows.specs.key_tokens.Laws.{AreKeysOf}
 use Rattle.member_rows.specs.declared.parts.RowParts.{RowParts}
 use Rattle.member_rows.specs.Rows.{recs_of, member_refs_by, method_specs_by}
 

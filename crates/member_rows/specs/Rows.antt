@@ -5,24 +5,24 @@ use Rattle.il_base.specs.declared.ids.MethodId.{MethodId}
 use Rattle.il_base.specs.declared.ids.FieldId.{FieldId}
 use Rattle.il_base.specs.declared.sig.Sig.{Sig}
 use Rattle.il_base.specs.declared.sig.MethodSig.{MethodSig}
-use Rattle.world_model.specs.declared.known.Known.TheVariants.{Good}
-use Rattle.world_model.specs.declared.expr.TypeExpr.{TypeExpr}
-use Rattle.world_model.specs.declared.expr.MemberSig.TheVariants as member
-use Rattle.world_model.specs.declared.members.MemberRefRow.{MemberRefRow}
-use Rattle.world_model.specs.declared.members.MethodSpecRow.{MethodSpecRow}
-use Rattle.world_model.specs.declared.record.AsmRec.{AsmRec}
-use Rattle.link_rules.specs.declared.row_at.RowAt.{RowAt}
-use Rattle.link_rules.specs.Cycles.{listed}
-use Rattle.mark_tables.specs.Assemblies.{all_of}
-use Rattle.merge_rules.specs.Keys.{InstanceKey, expr_key}
-use Rattle.merge_rules.specs.Refs.{MemberKey, a_method, a_field, an_absent, first_or, method_at, field_at, method_name, field_name, own_method_sig, own_field_sig}
-use Rattle.key_codes.specs.declared.keys.AbsentMethod.{AbsentMethod}
-use Rattle.key_codes.specs.Keys as coded
-use Rattle.moved_parts.specs.declared.tokens.NewTokens.{NewTokens}
-use Rattle.moved_parts.specs.Moves.{sig_by, method_sig_by}
-use Rattle.key_tokens.specs.declared.tokens.KeyTokens.{KeyTokens}
-use Rattle.key_tokens.specs.Keys.{AreKeyTokens, key_token_by, method_token_by}
-use Rattle.world_keys.specs.Keys.{IsWorldKeys}
+use Rattle.il_base.specs.declared.world_model.known.Known.TheVariants.{Good}
+use Rattle.il_base.specs.declared.world_model.expr.TypeExpr.{TypeExpr}
+use Rattle.il_base.specs.declared.world_model.expr.MemberSig.TheVariants as member
+use Rattle.il_base.specs.declared.world_model.members.MemberRefRow.{MemberRefRow}
+use Rattle.il_base.specs.declared.world_model.members.MethodSpecRow.{MethodSpecRow}
+use Rattle.il_base.specs.declared.world_model.record.AsmRec.{AsmRec}
+use Rattle.rules.specs.declared.link_rules.row_at.RowAt.{RowAt}
+use Rattle.rules.specs.link_rules.Cycles.{listed}
+use Rattle.mark_parts.specs.mark_tables.Assemblies.{all_of}
+use Rattle.rules.specs.merge_rules.Keys.{InstanceKey, expr_key}
+use Rattle.rules.specs.merge_rules.Refs.{MemberKey, a_method, a_field, an_absent, first_or, method_at, field_at, method_name, field_name, own_method_sig, own_field_sig}
+use Rattle.token_keys.specs.declared.key_codes.keys.AbsentMethod.{AbsentMethod}
+use Rattle.token_keys.specs.key_codes.Keys as coded
+use Rattle.merge_plan.specs.declared.moved_parts.tokens.NewTokens.{NewTokens}
+use Rattle.merge_plan.specs.moved_parts.Moves.{sig_by, method_sig_by}
+use Rattle.reference_rows.specs.declared.key_tokens.tokens.KeyTokens.{KeyTokens}
+use Rattle.reference_rows.specs.key_tokens.Keys.{AreKeyTokens, key_token_by, method_token_by}
+use Rattle.token_keys.specs.world_keys.Keys.{IsWorldKeys}
 use Rattle.member_rows.specs.declared.parts.RowParts.{RowParts}
 
 -- the records of all assemblies

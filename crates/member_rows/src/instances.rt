@@ -1,15 +1,15 @@
 //! MethodSpec rows.
 
 ghost use Rattle.std.specs.Prelude.{◌≡◌, map, IfOk};
-ghost use Rattle.key_codes.specs.Keys as coded;
+ghost use Rattle.token_keys.specs.key_codes.Keys as coded;
 ghost use Rattle.member_rows.specs.Rows.{AreRowParts, method_spec_by, method_specs_by};
 
 use crate::parts::RowParts;
+use il_base::world_model::{Known, MethodSpecRow};
 use il_base::{NoMemory, Seq};
-use key_codes::keys::InstanceKey;
-use moved_parts::moved_sigs;
+use merge_plan::moved_parts::moved_sigs;
 use std::alloc::Global;
-use world_model::{Known, MethodSpecRow};
+use token_keys::key_codes::keys::InstanceKey;
 
 /// The row of a method with arguments.
 fn instance_row(

@@ -2,8 +2,8 @@
 
 ghost use Rattle.member_rows.specs.Laws.{MemberRowsTell};
 
-use key_tokens::laws::keys_tell;
-use signature_rows::laws::signatures_tell;
+use reference_rows::key_tokens::laws::keys_tell;
+use token_keys::signature_rows::laws::signatures_tell;
 
 /// With what the output refers to, its kept rows and its tokens of types, the rows are those of the record that a merge leaves. It does
 /// nothing.

@@ -2,18 +2,20 @@
 
 ghost use Rattle.std.specs.Prelude.{◌≡◌, ◌++◌, map, IfOk, OnOk};
 ghost use Rattle.std.specs.List.{flat_map};
-ghost use Rattle.key_codes.specs.Keys as coded;
+ghost use Rattle.token_keys.specs.key_codes.Keys as coded;
 ghost use Rattle.member_rows.specs.Rows.{AreRowParts, recs_of, method_row_by, field_row_by, method_rows_at, field_rows_at, found_method_by, found_field_by, absent_by, member_ref_by, member_refs_by};
 
 use crate::parts::{RowParts, parent_token};
+use il_base::world_model::{Known, MemberRefRow, MemberSig, TypeExpr};
 use il_base::{FieldId, MethodId, MethodSig, NoMemory, Seq, Sig};
-use key_codes::keys::{AbsentMethod, MemberKey};
-use link_rules::RowAt;
-use moved_parts::{NewTokens, moved_sig};
-use own_members::fields::{field_at, field_name, own_field_sig};
-use own_members::methods::{method_at, method_name, own_method_sig, signature_with};
+use merge_plan::moved_parts::{NewTokens, moved_sig};
+use reference_rows::own_members::fields::{field_at, field_name, own_field_sig};
+use reference_rows::own_members::methods::{
+    method_at, method_name, own_method_sig, signature_with,
+};
+use rules::link_rules::RowAt;
 use std::alloc::Global;
-use world_model::{Known, MemberRefRow, MemberSig, TypeExpr};
+use token_keys::key_codes::keys::{AbsentMethod, MemberKey};
 
 /// The row of a method by its parent, its name and its signature over the types of the world.
 fn method_row(

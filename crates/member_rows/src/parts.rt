@@ -4,12 +4,12 @@ ghost use Rattle.std.specs.Prelude.{◌≡◌, IfOk};
 ghost use Rattle.member_rows.specs.Rows.{AreRowParts, recs_of, parent_by};
 
 use il_base::NoMemory;
-use key_tokens::KeyTokens;
-use moved_parts::NewTokens;
+use il_base::world_model::TypeExpr;
+use merge_plan::moved_parts::NewTokens;
+use reference_rows::key_tokens::KeyTokens;
 use std::alloc::Global;
 use token_keys::types::expr_key;
-use world_keys::WorldKeys;
-use world_model::TypeExpr;
+use token_keys::world_keys::WorldKeys;
 
 /// A world with its keys, and the tokens of the output by keys and by the numbers of types.
 #[derive(Clone, Copy)]

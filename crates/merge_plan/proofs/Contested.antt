@@ -3,10 +3,10 @@ use Rattle.std.proofs.Common.{◌≡◌, List, [], ◌∷◌, ◌++◌, map, Boo
 use Rattle.std.specs.Prelude.{find, if◌then◌else◌}
 use Rattle.std.specs.Option.{option_map, option_and_then}
 use Rattle.il_base.specs.declared.ids.TypeId.{TypeId}
-use Rattle.world_model.specs.declared.record.AsmRec.{AsmRec}
-use Rattle.link_rules.specs.declared.row_at.RowAt.{RowAt}
-use Rattle.link_rules.specs.Cycles.{listed}
-use Rattle.merge_rules.specs.Names.{NewName, rival, named_by, names_from, new_names, collides, or_later, collision_from, collision}
+use Rattle.il_base.specs.declared.world_model.record.AsmRec.{AsmRec}
+use Rattle.rules.specs.declared.link_rules.row_at.RowAt.{RowAt}
+use Rattle.rules.specs.link_rules.Cycles.{listed}
+use Rattle.rules.specs.merge_rules.Names.{NewName, rival, named_by, names_from, new_names, collides, or_later, collision_from, collision}
 use Rattle.merge_plan.specs.declared.contests.Contest.{Contest}
 use Rattle.merge_plan.specs.Contests.{contest, contests_from, names_by, is_refused, collision_of, collision_by}
 

@@ -6,9 +6,9 @@ use Rattle.std.specs.Option.{option_or}
 use Rattle.std.proofs.lemmas.List.{drop_all}
 use Rattle.std.proofs.lemmas.Iterator.Adapters.{position_from-zero}
 use Rattle.std.proofs.lemmas.Bool.Decides.{nat_tests}
-use Rattle.link_rules.specs.declared.row_at.RowAt.{RowAt}
-use Rattle.link_rules.specs.Cycles.{same_row}
-use Rattle.merge_rules.specs.Numbers.{new_row}
+use Rattle.rules.specs.declared.link_rules.row_at.RowAt.{RowAt}
+use Rattle.rules.specs.link_rules.Cycles.{same_row}
+use Rattle.rules.specs.merge_rules.Numbers.{new_row}
 use Rattle.merge_plan.specs.declared.keys.Spot.{Spot}
 use Rattle.merge_plan.specs.Keys.{same_spot, spot_of}
 

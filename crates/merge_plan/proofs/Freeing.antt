@@ -1,6 +1,6 @@
 -- The first number with which a name isn't taken.
 use Rattle.std.proofs.Common.{◌≡◌, ℕ, suc, ◌+◌, ◌-◌, ◌<◌, ◌≤◌, Bool, true, false, List, refl, sym, ap, ◌∙◌, arith}
-use Rattle.merge_rules.specs.Names.{numbered_name, free_from}
+use Rattle.rules.specs.merge_rules.Names.{numbered_name, free_from}
 
 module _ (test : List ℕ → Bool) (name : List ℕ) where
   pub free_found : (i most : ℕ) (n whole : List ℕ) (b : Bool) → i < most → n ≡ numbered_name name i → b ≡ test n → b ≡ false → free_from test name i (most - i) ≡ whole → n ≡ whole

@@ -8,3 +8,4 @@ pub mod Ranging
 pub mod Ranking
 pub mod Named
 pub mod Taking
+pub mod lemmas

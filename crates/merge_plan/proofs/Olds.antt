@@ -1,9 +1,9 @@
 -- Loops over types with their full names.
 use Rattle.std.proofs.Common.{◌≡◌, ℕ, zero, suc, ◌+◌, ◌<◌, ◌≤◌, List, [], ◌∷◌, ◌++◌, length, map, take, drop, get_or, sym, ap, ◌∙◌, arith, append_assoc, drop-cons}
 use Rattle.std.proofs.lemmas.List.{append-nil, drop_all, take_more, map-append}
-use Rattle.world_model.specs.declared.record.AsmRec.{AsmRec}
-use Rattle.link_rules.specs.declared.row_at.RowAt.{RowAt}
-use Rattle.merge_rules.specs.Names.{old_name}
+use Rattle.il_base.specs.declared.world_model.record.AsmRec.{AsmRec}
+use Rattle.rules.specs.declared.link_rules.row_at.RowAt.{RowAt}
+use Rattle.rules.specs.merge_rules.Names.{old_name}
 use Rattle.merge_plan.specs.declared.full_names.OldName.{OldName}
 use Rattle.merge_plan.specs.declared.contests.Contest.{Contest}
 use Rattle.merge_plan.specs.OldNames.{types_of, AreOldNames}

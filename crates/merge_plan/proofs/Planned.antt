@@ -2,10 +2,10 @@
 use Rattle.std.proofs.Common.{◌≡◌, List, [], map, Bool, Option, Some, None, sym, ap, ◌∙◌}
 use Rattle.std.specs.Option.{option_map}
 use Rattle.il_base.specs.declared.ids.TypeId.{TypeId}
-use Rattle.world_model.specs.declared.record.AsmRec.{AsmRec}
-use Rattle.link_rules.specs.declared.row_at.RowAt.{RowAt}
-use Rattle.merge_rules.specs.Names as names
-use Rattle.merge_rules.specs.Names.{Collision, collision, new_names}
+use Rattle.il_base.specs.declared.world_model.record.AsmRec.{AsmRec}
+use Rattle.rules.specs.declared.link_rules.row_at.RowAt.{RowAt}
+use Rattle.rules.specs.merge_rules.Names as names
+use Rattle.rules.specs.merge_rules.Names.{Collision, collision, new_names}
 use Rattle.merge_plan.specs.declared.contests.Contest.{Contest}
 use Rattle.merge_plan.specs.declared.outcome.NewName.{NewName}
 use Rattle.merge_plan.specs.declared.outcome.Planned.{Planned}

@@ -7,8 +7,8 @@ use Rattle.std.proofs.lemmas.List.Elements.{All-tail, All-push}
 use Rattle.std.proofs.lemmas.List.Sums.{length-filter}
 use Rattle.std.proofs.lemmas.List.Sorted.{sum_by-IsPermutation}
 use Rattle.std.proofs.lemmas.Bool.Decides.{nat_tests}
-use Rattle.link_rules.specs.declared.row_at.RowAt.{RowAt}
-use Rattle.merge_rules.specs.Rows.{is_before}
+use Rattle.rules.specs.declared.link_rules.row_at.RowAt.{RowAt}
+use Rattle.rules.specs.merge_rules.Rows.{is_before}
 use Rattle.std.proofs.lemmas.List.{take_more, map-append}
 use Rattle.merge_plan.specs.Ranks.{order_of, Fits, AreOrders}
 

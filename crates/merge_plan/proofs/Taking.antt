@@ -5,11 +5,11 @@ use Rattle.std.specs.List.{list_any, filter}
 use Rattle.std.proofs.lemmas.Slice.Eq.{bytes_eq-Decides}
 use Rattle.std.proofs.lemmas.List.Elements.{filter-append}
 use Rattle.std.proofs.lemmas.List.Folds.{list_any-append}
-use Rattle.world_model.specs.declared.record.AsmRec.{AsmRec}
-use Rattle.world_model.specs.Core.{same_name}
-use Rattle.link_rules.specs.declared.row_at.RowAt.{RowAt}
-use Rattle.type_rules.specs.Texts.{full_name_of}
-use Rattle.merge_rules.specs.Names.{NewName, is_top_level, old_name, namespace_of, has_name, renamed, free_from, fresh_name}
+use Rattle.il_base.specs.declared.world_model.record.AsmRec.{AsmRec}
+use Rattle.il_base.specs.world_model.Core.{same_name}
+use Rattle.rules.specs.declared.link_rules.row_at.RowAt.{RowAt}
+use Rattle.rules.specs.type_rules.Texts.{full_name_of}
+use Rattle.rules.specs.merge_rules.Names.{NewName, is_top_level, old_name, namespace_of, has_name, renamed, free_from, fresh_name}
 use Rattle.merge_plan.specs.declared.taken.Taken.{Taken}
 use Rattle.merge_plan.specs.Taken.{has_in, AreTaken}
 

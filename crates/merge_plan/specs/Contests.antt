@@ -3,11 +3,11 @@ use Rattle.std.specs.Prelude.{◌||◌, Bool, List, [], ◌∷◌, ◌++◌, map
 use Rattle.std.specs.Option.{option_map}
 use Rattle.il_base.specs.declared.bits.Bits.{Bits}
 use Rattle.il_base.specs.declared.ids.TypeId.{TypeId}
-use Rattle.world_model.specs.declared.record.AsmRec.{AsmRec}
-use Rattle.world_model.specs.Worlds.{type_id}
-use Rattle.link_rules.specs.declared.row_at.RowAt.{RowAt}
-use Rattle.link_rules.specs.Cycles.{listed}
-use Rattle.merge_rules.specs.Names.{NewName, Collision, rival, fresh_name, is_public}
+use Rattle.il_base.specs.declared.world_model.record.AsmRec.{AsmRec}
+use Rattle.il_base.specs.world_model.Worlds.{type_id}
+use Rattle.rules.specs.declared.link_rules.row_at.RowAt.{RowAt}
+use Rattle.rules.specs.link_rules.Cycles.{listed}
+use Rattle.rules.specs.merge_rules.Names.{NewName, Collision, rival, fresh_name, is_public}
 use Rattle.merge_plan.specs.declared.contests.Contest.{Contest}
 use Rattle.merge_plan.specs.Kept.{has_flag}
 

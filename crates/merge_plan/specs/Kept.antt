@@ -4,14 +4,14 @@ use Rattle.std.specs.List.{range_with_len}
 use Rattle.il_base.specs.declared.bits.Bits.{Bits}
 use Rattle.il_base.specs.declared.ids.Item.{Item}
 use Rattle.il_base.specs.declared.ids.Item.TheVariants as item
-use Rattle.world_model.specs.declared.record.AsmRec.{AsmRec}
-use Rattle.world_model.specs.Worlds.{rows_before, types_in}
-use Rattle.link_rules.specs.declared.row_at.RowAt.{RowAt}
-use Rattle.link_rules.specs.Types.{at_row}
-use Rattle.link_rules.specs.Members.{methods_in, fields_in}
-use Rattle.mark_rules.specs.Places.{props_in, events_in, impls_in}
-use Rattle.merge_rules.specs.Numbers.{Kept}
-use Rattle.merge_rules.specs.Numbers as numbers
+use Rattle.il_base.specs.declared.world_model.record.AsmRec.{AsmRec}
+use Rattle.il_base.specs.world_model.Worlds.{rows_before, types_in}
+use Rattle.rules.specs.declared.link_rules.row_at.RowAt.{RowAt}
+use Rattle.rules.specs.link_rules.Types.{at_row}
+use Rattle.rules.specs.link_rules.Members.{methods_in, fields_in}
+use Rattle.rules.specs.mark_rules.Places.{props_in, events_in, impls_in}
+use Rattle.rules.specs.merge_rules.Numbers.{Kept}
+use Rattle.rules.specs.merge_rules.Numbers as numbers
 use Rattle.merge_plan.specs.declared.kept.KeptItems.{KeptItems}
 use Rattle.merge_plan.specs.declared.kept.Kind.{Kind}
 use Rattle.merge_plan.specs.declared.kept.Kind.TheVariants.{Types, Methods, Fields, Properties, Events, Interfaces}

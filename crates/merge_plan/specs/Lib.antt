@@ -7,3 +7,6 @@ pub mod Ranks
 pub mod Renamed
 pub mod Rivals
 pub mod Taken
+pub mod moved_parts
+pub mod kept_tables
+pub mod method_places

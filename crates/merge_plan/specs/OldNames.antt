@@ -1,8 +1,8 @@
 -- Types with their full names in the inputs.
 use Rattle.std.specs.Prelude.{◌≡◌, List, map}
-use Rattle.world_model.specs.declared.record.AsmRec.{AsmRec}
-use Rattle.link_rules.specs.declared.row_at.RowAt.{RowAt}
-use Rattle.merge_rules.specs.Names.{old_name}
+use Rattle.il_base.specs.declared.world_model.record.AsmRec.{AsmRec}
+use Rattle.rules.specs.declared.link_rules.row_at.RowAt.{RowAt}
+use Rattle.rules.specs.merge_rules.Names.{old_name}
 use Rattle.merge_plan.specs.declared.full_names.OldName.{OldName}
 
 abbrev pub types_of : List OldName → List RowAt

@@ -1,11 +1,11 @@
 -- The plan of a merge, as it is answered.
 use Rattle.std.specs.Prelude.{◌≡◌, Bool, List, Some, None, map}
 use Rattle.il_base.specs.declared.ids.TypeId.{TypeId}
-use Rattle.world_model.specs.declared.record.AsmRec.{AsmRec}
-use Rattle.world_model.specs.Worlds.{type_id}
-use Rattle.link_rules.specs.declared.row_at.RowAt.{RowAt}
-use Rattle.merge_rules.specs.Names as names
-use Rattle.merge_rules.specs.Names.{Collision, collision, new_names}
+use Rattle.il_base.specs.declared.world_model.record.AsmRec.{AsmRec}
+use Rattle.il_base.specs.world_model.Worlds.{type_id}
+use Rattle.rules.specs.declared.link_rules.row_at.RowAt.{RowAt}
+use Rattle.rules.specs.merge_rules.Names as names
+use Rattle.rules.specs.merge_rules.Names.{Collision, collision, new_names}
 use Rattle.merge_plan.specs.declared.outcome.NewName.{NewName}
 use Rattle.merge_plan.specs.declared.outcome.PlanError.{PlanError}
 use Rattle.merge_plan.specs.declared.outcome.PlanError.TheVariants as error

@@ -1,5 +1,5 @@
 -- Types with their new names.
-use Rattle.merge_rules.specs.Names.{NewName}
+use Rattle.rules.specs.merge_rules.Names.{NewName}
 use Rattle.merge_plan.specs.declared.new_names.Renamed.{Renamed}
 
 abbrev pub new_name : Renamed → NewName

@@ -3,10 +3,10 @@ use Rattle.std.specs.Prelude.{◌≡◌, ℕ, ◌&&◌, Bool, List, [], bytes_eq
 use Rattle.std.specs.List.{filter}
 use Rattle.std.specs.HashMap.{HashMap, get_by}
 use Rattle.std.specs.Borrow.{Bor}
-use Rattle.world_model.specs.declared.record.AsmRec.{AsmRec}
-use Rattle.world_model.specs.Core.{same_name}
-use Rattle.link_rules.specs.declared.row_at.RowAt.{RowAt}
-use Rattle.merge_rules.specs.Names.{is_top_level, old_name}
+use Rattle.il_base.specs.declared.world_model.record.AsmRec.{AsmRec}
+use Rattle.il_base.specs.world_model.Core.{same_name}
+use Rattle.rules.specs.declared.link_rules.row_at.RowAt.{RowAt}
+use Rattle.rules.specs.merge_rules.Names.{is_top_level, old_name}
 
 -- the types under a name
 abbrev pub named_in : {S : Type 0} → HashMap (Bor (List ℕ)) (List RowAt) S → List ℕ → List RowAt

@@ -1,9 +1,9 @@
 -- Full names that are taken: the old ones of kept top-level types, and the new ones.
 use Rattle.std.specs.Prelude.{◌≡◌, ℕ, Bool, List, bytes_eq}
 use Rattle.std.specs.List.{list_any}
-use Rattle.world_model.specs.declared.record.AsmRec.{AsmRec}
-use Rattle.link_rules.specs.declared.row_at.RowAt.{RowAt}
-use Rattle.merge_rules.specs.Names.{NewName, has_name}
+use Rattle.il_base.specs.declared.world_model.record.AsmRec.{AsmRec}
+use Rattle.rules.specs.declared.link_rules.row_at.RowAt.{RowAt}
+use Rattle.rules.specs.merge_rules.Names.{NewName, has_name}
 use Rattle.merge_plan.specs.declared.taken.Taken.{Taken}
 
 abbrev pub has_in : Taken → List ℕ → Bool

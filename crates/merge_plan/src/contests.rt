@@ -2,9 +2,9 @@
 
 ghost use Rattle.std.specs.Prelude.{◌≡◌, List, [], ◌∷◌, ◌++◌, ◌||◌, IfOk, OnOk};
 ghost use Rattle.std.specs.Option.{option_map};
-ghost use Rattle.type_links.specs.Index.{IsIndex};
-ghost use Rattle.world_model.specs.Worlds.{type_id};
-ghost use Rattle.merge_rules.specs.Names.{is_public, old_name};
+ghost use Rattle.resolver.specs.type_links.Index.{IsIndex};
+ghost use Rattle.il_base.specs.world_model.Worlds.{type_id};
+ghost use Rattle.rules.specs.merge_rules.Names.{is_public, old_name};
 ghost use Rattle.merge_plan.specs.OldNames.{types_of, AreOldNames};
 ghost use Rattle.merge_plan.specs.Rivals.{AreNamed};
 ghost use Rattle.merge_plan.specs.Kept.{has_flag};
@@ -12,12 +12,12 @@ ghost use Rattle.merge_plan.specs.Contests.{contests_of, contests_from, collisio
 
 use crate::full_names::{OldName, is_public, is_top_level};
 use crate::rivals::{put_type, rival_named};
+use il_base::world_model::{AsmRec, type_id};
 use il_base::{Bits, NoMemory, Seq, TypeId};
-use link_rules::RowAt;
+use resolver::type_links::TypeIndex;
+use rules::link_rules::RowAt;
 use std::alloc::Global;
 use std::collections::HashMap;
-use type_links::TypeIndex;
-use world_model::{AsmRec, type_id};
 
 /// A type whose full name an earlier one of another assembly has.
 #[derive(Clone, Copy, Debug, PartialEq, Eq)]

@@ -2,19 +2,19 @@
 
 ghost use Rattle.std.specs.Prelude.{◌≡◌, IfOk};
 ghost use Rattle.std.specs.Option.{option_copied};
-ghost use Rattle.type_rules.specs.Texts.{full_name_of};
-ghost use Rattle.type_rules.specs.Rows.{type_row_at};
+ghost use Rattle.rules.specs.type_rules.Texts.{full_name_of};
+ghost use Rattle.rules.specs.type_rules.Rows.{type_row_at};
 ghost use Rattle.il_base.specs.Flags.{access_of};
-ghost use Rattle.type_links.specs.Index.{IsIndex};
+ghost use Rattle.resolver.specs.type_links.Index.{IsIndex};
 ghost use Rattle.merge_plan.specs.OldNames.{types_of, AreOldNames};
-ghost use Rattle.merge_rules.specs.Names.{assembly_name, is_public, is_top_level, name_of, namespace_of, old_name};
+ghost use Rattle.rules.specs.merge_rules.Names.{assembly_name, is_public, is_top_level, name_of, namespace_of, old_name};
 
+use il_base::world_model::{AsmRec, TypeDefRow};
 use il_base::{NoMemory, type_flags};
-use link_rules::RowAt;
-use member_search::linked::assembly_at;
+use resolver::type_links::TypeIndex;
+use rules::link_rules::RowAt;
 use std::alloc::Global;
-use type_links::TypeIndex;
-use world_model::{AsmRec, TypeDefRow};
+use type_tables::member_search::linked::assembly_at;
 
 /// The row of a type.
 fn type_row(recs: &[AsmRec], at: RowAt) -> Option<&TypeDefRow>

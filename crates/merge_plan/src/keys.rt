@@ -5,10 +5,10 @@ ghost use Rattle.std.specs.HashMap.{get};
 ghost use Rattle.merge_plan.specs.Keys.{same_spot, KeepsFirst, ArePlaces};
 
 use il_base::NoMemory;
-use link_rules::RowAt;
-use member_search::counted::row_of;
+use rules::link_rules::RowAt;
 use std::alloc::Global;
 use std::collections::HashMap;
+use type_tables::member_search::counted::row_of;
 
 /// A row as a key.
 #[derive(Clone, Copy, PartialEq, Eq, Hash)]

@@ -3,9 +3,13 @@
 #![tactic(auto)]
 
 mod contests;
+pub mod first_input_rows;
 mod full_names;
 mod kept;
+pub mod kept_tables;
 mod keys;
+pub mod method_places;
+pub mod moved_parts;
 mod new_names;
 mod numbers;
 pub mod outcome;

@@ -1,8 +1,8 @@
 //! The new names of kept types.
 
 ghost use Rattle.std.specs.Prelude.{◌≡◌, ◌+◌, List, [], ◌∷◌, ◌++◌, length, map, IfOk, OnOk};
-ghost use Rattle.type_links.specs.Index.{IsIndex};
-ghost use Rattle.merge_rules.specs.Names.{NewName, fresh_name, old_name};
+ghost use Rattle.resolver.specs.type_links.Index.{IsIndex};
+ghost use Rattle.rules.specs.merge_rules.Names.{NewName, fresh_name, old_name};
 ghost use Rattle.merge_plan.specs.Contests.{names_by};
 ghost use Rattle.merge_plan.specs.OldNames.{types_of, AreOldNames};
 ghost use Rattle.merge_plan.specs.Taken.{AreTaken};
@@ -11,11 +11,11 @@ ghost use Rattle.merge_plan.specs.Renamed.{new_name};
 use crate::contests::Contest;
 use crate::full_names::{OldName, full_name_of, is_top_level, namespace_of};
 use crate::taken::{Taken, free_name, renamed};
+use il_base::world_model::AsmRec;
 use il_base::{NoMemory, Text};
-use link_rules::RowAt;
+use resolver::type_links::TypeIndex;
+use rules::link_rules::RowAt;
 use std::alloc::Global;
-use type_links::TypeIndex;
-use world_model::AsmRec;
 
 /// A type with its new name, which is without its namespace.
 #[derive(Drop)]

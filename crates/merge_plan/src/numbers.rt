@@ -2,17 +2,17 @@
 
 ghost use Rattle.std.specs.Prelude.{◌≡◌, ◌<◌, ◌≤◌, ◌+◌, length, IfOk};
 ghost use Rattle.std.specs.List.{filter};
-ghost use Rattle.merge_rules.specs.Numbers.{new_row};
-ghost use Rattle.merge_rules.specs.Rows.{is_before, run_at};
+ghost use Rattle.rules.specs.merge_rules.Numbers.{new_row};
+ghost use Rattle.rules.specs.merge_rules.Rows.{is_before, run_at};
 
 use crate::keys::{Spot, places_of};
 use crate::ranks::{count_before, ranks_of};
 use il_base::NoMemory;
-use link_rules::RowAt;
-use member_search::counted::row_of;
+use rules::link_rules::RowAt;
 use std::alloc::Global;
 use std::collections::HashMap;
 use std::marker::Model;
+use type_tables::member_search::counted::row_of;
 
 /// The rows of a table of the output, by the rows that they were. Contracts see their list.
 #[derive(Drop)]
@@ -25,8 +25,8 @@ pub struct Numbers {
 impl Model for Numbers {
     ghost use Rattle.std.specs.Prelude.{List};
     ghost use Rattle.std.specs.Coded.{codes};
-    ghost use Rattle.link_rules.specs.declared.row_at.RowAt.{RowAt};
-    ghost use Rattle.link_rules.specs.contracts.row_at.RowAt as row_at;
+    ghost use Rattle.rules.specs.declared.link_rules.row_at.RowAt.{RowAt};
+    ghost use Rattle.rules.specs.contracts.link_rules.row_at.RowAt as row_at;
     ghost use Rattle.merge_plan.specs.Keys.{ArePlaces};
     ghost use Rattle.merge_plan.specs.Ranks.{AreRanks};
 
@@ -72,7 +72,7 @@ impl Numbers {
     }
 
     /// Where a run begins or ends that did so at a row, from 1, of an assembly: behind the rows that are before that row.
-    #[tactic(auto, unfolding(merge_rules::specs::Rows::run_at))]
+    #[tactic(auto, unfolding(rules::specs::merge_rules::Rows::run_at))]
     pub fn run_at(&self, asm: u32, row: u32) -> Result<u32, NoMemory>
         ensures { IfOk result (λ r. r ≡ run_at self.now asm row) }
     {

@@ -1,8 +1,8 @@
 //! The plan of a merge.
 
 ghost use Rattle.std.specs.Prelude.{◌≡◌, map, IfOk, MatchResult};
-ghost use Rattle.type_links.specs.Index.{IsIndex};
-ghost use Rattle.merge_rules.specs.Numbers.{kept_types};
+ghost use Rattle.resolver.specs.type_links.Index.{IsIndex};
+ghost use Rattle.rules.specs.merge_rules.Numbers.{kept_types};
 ghost use Rattle.merge_plan.specs.Kept.{kept_by};
 ghost use Rattle.merge_plan.specs.Contests.{shown_by, collision_of};
 ghost use Rattle.merge_plan.specs.Plans.{planned_by, collided, named, IsRefusal};
@@ -14,11 +14,11 @@ use crate::kept::{KeptItems, Kind};
 use crate::new_names::{Renamed, new_names};
 use crate::outcome::{NewName, Plan, PlanError, Planned};
 use crate::rows::kept_rows;
+use il_base::world_model::AsmRec;
 use il_base::{Bits, NoMemory, Seq};
-use link_rules::RowAt;
+use resolver::type_links::TypeIndex;
+use rules::link_rules::RowAt;
 use std::alloc::Global;
-use type_links::TypeIndex;
-use world_model::AsmRec;
 
 /// The collision of two types by their ids.
 fn collided(recs: &[AsmRec], contest: Contest) -> Result<Planned, NoMemory>

@@ -3,11 +3,11 @@
 ghost use Rattle.std.specs.Prelude.{◌≡◌, ◌+◌, ◌*◌, ◌<◌, ◌^◌, nat_lt, length, map, IfOk};
 ghost use Rattle.std.specs.List.{filter};
 ghost use Rattle.std.specs.List.Sorted.{IsNonDecreasing};
-ghost use Rattle.merge_rules.specs.Rows.{is_before};
+ghost use Rattle.rules.specs.merge_rules.Rows.{is_before};
 ghost use Rattle.merge_plan.specs.Ranks.{order_of, AreOrders, AreRanks};
 
 use il_base::NoMemory;
-use link_rules::RowAt;
+use rules::link_rules::RowAt;
 use std::alloc::Global;
 
 /// A row as one number: rows of an earlier assembly have smaller ones.

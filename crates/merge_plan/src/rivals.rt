@@ -4,7 +4,7 @@ ghost use Rattle.std.specs.Prelude.{◌≡◌, ℕ, List, ◌∷◌, [], ◌++�
 ghost use Rattle.merge_plan.specs.Rivals.{named_in};
 
 use il_base::{NoMemory, Seq};
-use link_rules::RowAt;
+use rules::link_rules::RowAt;
 use std::alloc::Global;
 use std::collections::HashMap;
 

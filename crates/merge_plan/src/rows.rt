@@ -2,16 +2,16 @@
 
 ghost use Rattle.std.specs.Prelude.{◌≡◌, ◌-◌, ◌++◌, length, map, take, IfOk, OnOk};
 ghost use Rattle.std.specs.List.{range_with_len};
-ghost use Rattle.world_model.specs.Worlds.{rows_before};
-ghost use Rattle.link_rules.specs.Types.{at_row};
+ghost use Rattle.il_base.specs.world_model.Worlds.{rows_before};
+ghost use Rattle.rules.specs.link_rules.Types.{at_row};
 ghost use Rattle.merge_plan.specs.Kept.{all_of_kind, count_in, item_at, kept_by, kept_of_kind};
 
 use crate::kept::{KeptItems, Kind};
 use il_base::NoMemory;
-use link_rules::RowAt;
-use member_search::counted::{row_of, sum};
+use il_base::world_model::AsmRec;
+use rules::link_rules::RowAt;
 use std::alloc::Global;
-use world_model::AsmRec;
+use type_tables::member_search::counted::{row_of, sum};
 
 /// How many rows of a kind an assembly has.
 fn count_in(rec: &AsmRec, kind: Kind) -> usize
@@ -28,7 +28,7 @@ fn count_in(rec: &AsmRec, kind: Kind) -> usize
 }
 
 /// How many rows of a kind the first `a` assemblies have.
-#[tactic(auto, unfolding(world_model::specs::Worlds::rows_before))]
+#[tactic(auto, unfolding(il_base::specs::world_model::Worlds::rows_before))]
 pub(crate) fn rows_before(recs: &[AsmRec], kind: Kind, a: usize) -> Result<u32, NoMemory>
     ensures { IfOk result (λ n. n ≡ rows_before (count_in kind) recs.now a) }
 {

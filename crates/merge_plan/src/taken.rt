@@ -1,17 +1,17 @@
 //! Full names that are taken, and names that aren't.
 
 ghost use Rattle.std.specs.Prelude.{◌≡◌, ℕ, List, ◌||◌, false, IfOk, OnOk};
-ghost use Rattle.world_model.specs.Core.{same_name};
-ghost use Rattle.type_rules.specs.Texts.{full_name_of};
-ghost use Rattle.merge_rules.specs.Names.{free_from, numbered_name, renamed};
+ghost use Rattle.il_base.specs.world_model.Core.{same_name};
+ghost use Rattle.rules.specs.type_rules.Texts.{full_name_of};
+ghost use Rattle.rules.specs.merge_rules.Names.{free_from, numbered_name, renamed};
 ghost use Rattle.merge_plan.specs.Taken.{has_in};
 
 use crate::full_names::{assembly_name, full_name_of, name_of};
+use il_base::world_model::AsmRec;
 use il_base::{NoMemory, Seq, Text};
 use indexmap::IndexSet;
-use link_rules::RowAt;
+use rules::link_rules::RowAt;
 use std::alloc::Global;
-use world_model::AsmRec;
 
 /// Full names, each once.
 #[derive(Drop)]

@@ -1,16 +1,16 @@
 -- What the tables of an output are made of.
 use Rattle.std.specs.Prelude.{◌≡◌, ◌++◌, List}
-use Rattle.world_model.specs.declared.record.AsmRec.{AsmRec}
-use Rattle.type_links.specs.Index.{IsIndex}
-use Rattle.mark_tables.specs.Assemblies.{all_of, IsMarker}
-use Rattle.merge_rules.specs.Numbers.{Kept}
-use Rattle.merge_rules.specs.Order.{met_by_types}
-use Rattle.merge_rules.specs.Attributes.{met_by_attributes}
-use Rattle.merge_rules.specs.Refs.{Output}
+use Rattle.il_base.specs.declared.world_model.record.AsmRec.{AsmRec}
+use Rattle.resolver.specs.type_links.Index.{IsIndex}
+use Rattle.mark_parts.specs.mark_tables.Assemblies.{all_of, IsMarker}
+use Rattle.rules.specs.merge_rules.Numbers.{Kept}
+use Rattle.rules.specs.merge_rules.Order.{met_by_types}
+use Rattle.rules.specs.merge_rules.Attributes.{met_by_attributes}
+use Rattle.rules.specs.merge_rules.Refs.{Output}
 use Rattle.merge_plan.specs.Kept.{kept_by}
-use Rattle.kept_tables.specs.Kept.{AreKept}
-use Rattle.merged_members.specs.Laws.{HaveTokens}
-use Rattle.merged_types.specs.Laws.{IsPlanOf}
+use Rattle.merge_plan.specs.kept_tables.Kept.{AreKept}
+use Rattle.merged_tables.specs.merged_members.Laws.{HaveTokens}
+use Rattle.merged_tables.specs.merged_types.Laws.{IsPlanOf}
 use Rattle.merged_tables.specs.declared.parts.OutputParts.{OutputParts}
 
 -- `output_of`, with its parts in sight

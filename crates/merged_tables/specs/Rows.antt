@@ -1,11 +1,11 @@
 -- The tables of kept rows of an output.
 use Rattle.std.specs.Prelude.{◌≡◌, Bool, [], length}
-use Rattle.file_layout.specs.Bodies.{code_behind}
-use Rattle.merge_rules.specs.Numbers.{kept_types, kept_fields, kept_properties, kept_events}
-use Rattle.merge_rules.specs.Refs.{Output}
-use Rattle.merge_rules.specs.Rows.{all_rows, kept_params, kept_interfaces, kept_generic_params, kept_constraints}
-use Rattle.merge_rules.specs.Moved.{moved_type_row, moved_field_row, moved_param_row, moved_property_row, moved_event_row}
-use Rattle.merge_rules.specs.Restricted.{each_at, each_sorted, placed_methods, moved_methods, bodies_of, field_rvas, new_impl, new_generic_param, new_constraint, constants, class_layouts, nested_classes, method_semantics, method_impls, new_property_map, new_event_map}
+use Rattle.rules.specs.file_layout.Bodies.{code_behind}
+use Rattle.rules.specs.merge_rules.Numbers.{kept_types, kept_fields, kept_properties, kept_events}
+use Rattle.rules.specs.merge_rules.Refs.{Output}
+use Rattle.rules.specs.merge_rules.Rows.{all_rows, kept_params, kept_interfaces, kept_generic_params, kept_constraints}
+use Rattle.rules.specs.merge_rules.Moved.{moved_type_row, moved_field_row, moved_param_row, moved_property_row, moved_event_row}
+use Rattle.rules.specs.merge_rules.Restricted.{each_at, each_sorted, placed_methods, moved_methods, bodies_of, field_rvas, new_impl, new_generic_param, new_constraint, constants, class_layouts, nested_classes, method_semantics, method_impls, new_property_map, new_event_map}
 use Rattle.merged_tables.specs.declared.items.ItemRows.{ItemRows}
 use Rattle.merged_tables.specs.declared.placed.PlacedRows.{PlacedRows}
 use Rattle.merged_tables.specs.declared.owned.OwnedRows.{OwnedRows}

@@ -4,15 +4,15 @@ ghost use Rattle.std.specs.Prelude.{IfOk};
 ghost use Rattle.merged_tables.specs.Parts.{AreOutputParts, output_in};
 ghost use Rattle.merged_tables.specs.Rows.{AreBelongingRows};
 
+use crate::merged_rows::class_layouts::class_layouts;
+use crate::merged_rows::constants::constants;
+use crate::merged_rows::laws::rows_tell;
+use crate::merged_rows::method_semantics::method_semantics;
+use crate::merged_rows::nested_classes::nested_classes;
 use crate::parts::OutputParts;
+use il_base::world_model::{ClassLayoutRow, ConstantRow, MethodSemanticsRow, NestedClassRow};
 use il_base::{NoMemory, Seq};
-use merged_rows::class_layouts::class_layouts;
-use merged_rows::constants::constants;
-use merged_rows::laws::rows_tell;
-use merged_rows::method_semantics::method_semantics;
-use merged_rows::nested_classes::nested_classes;
 use std::alloc::Global;
-use world_model::{ClassLayoutRow, ConstantRow, MethodSemanticsRow, NestedClassRow};
 
 /// Constants, layouts, nesting and accessors.
 #[derive(Drop)]

@@ -4,17 +4,17 @@ ghost use Rattle.std.specs.Prelude.{IfOk};
 ghost use Rattle.merged_tables.specs.Parts.{AreOutputParts, output_in};
 ghost use Rattle.merged_tables.specs.Rows.{AreItemRows};
 
+use crate::merged_members::events::events;
+use crate::merged_members::fields::fields;
+use crate::merged_members::laws::members_tell;
+use crate::merged_members::params::params;
+use crate::merged_members::properties::properties;
+use crate::merged_types::laws::types_tell;
+use crate::merged_types::type_defs;
 use crate::parts::OutputParts;
+use il_base::world_model::{EventRow, FieldRow, ParamRow, PropertyRow, TypeDefRow};
 use il_base::{NoMemory, Seq};
-use merged_members::events::events;
-use merged_members::fields::fields;
-use merged_members::laws::members_tell;
-use merged_members::params::params;
-use merged_members::properties::properties;
-use merged_types::laws::types_tell;
-use merged_types::type_defs;
 use std::alloc::Global;
-use world_model::{EventRow, FieldRow, ParamRow, PropertyRow, TypeDefRow};
 
 /// The rows of kept types, fields, properties and events, and of the parameters of kept methods.
 #[derive(Drop)]

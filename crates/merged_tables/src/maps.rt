@@ -4,15 +4,15 @@ ghost use Rattle.std.specs.Prelude.{IfOk};
 ghost use Rattle.merged_tables.specs.Parts.{AreOutputParts, output_in};
 ghost use Rattle.merged_tables.specs.Rows.{AreMapRows};
 
+use crate::merged_impls::laws::impls_tell;
+use crate::merged_impls::method_impls;
+use crate::merged_maps::event_maps::event_maps;
+use crate::merged_maps::laws::maps_tell;
+use crate::merged_maps::property_maps::property_maps;
 use crate::parts::OutputParts;
+use il_base::world_model::{EventMapRow, MethodImplRow, PropertyMapRow};
 use il_base::{NoMemory, Seq};
-use merged_impls::laws::impls_tell;
-use merged_impls::method_impls;
-use merged_maps::event_maps::event_maps;
-use merged_maps::laws::maps_tell;
-use merged_maps::property_maps::property_maps;
 use std::alloc::Global;
-use world_model::{EventMapRow, MethodImplRow, PropertyMapRow};
 
 /// PropertyMap, EventMap and MethodImpl.
 #[derive(Drop)]

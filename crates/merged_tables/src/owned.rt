@@ -4,14 +4,14 @@ ghost use Rattle.std.specs.Prelude.{IfOk};
 ghost use Rattle.merged_tables.specs.Parts.{AreOutputParts, output_in};
 ghost use Rattle.merged_tables.specs.Rows.{AreOwnedRows};
 
+use crate::merged_sorted::constraints::constraints;
+use crate::merged_sorted::generic_params::generic_params;
+use crate::merged_sorted::interfaces::interface_impls;
+use crate::merged_sorted::laws::sorted_tell;
 use crate::parts::OutputParts;
+use il_base::world_model::{GenericParamConstraintRow, GenericParamRow, InterfaceImplRow};
 use il_base::{NoMemory, Seq};
-use merged_sorted::constraints::constraints;
-use merged_sorted::generic_params::generic_params;
-use merged_sorted::interfaces::interface_impls;
-use merged_sorted::laws::sorted_tell;
 use std::alloc::Global;
-use world_model::{GenericParamConstraintRow, GenericParamRow, InterfaceImplRow};
 
 /// The interfaces of kept types, the generic parameters of kept types and methods, and their constraints.
 #[derive(Drop)]

@@ -1,12 +1,12 @@
 //! What tables are made of.
 
-use kept_tables::tables::KeptTables;
-use mark_tables::marker::Marker;
+use il_base::world_model::AsmRec;
+use mark_parts::mark_tables::marker::Marker;
 use merge_plan::KeptItems;
+use merge_plan::kept_tables::tables::KeptTables;
+use merge_plan::moved_parts::NewTokens;
 use merge_plan::outcome::Plan;
-use moved_parts::NewTokens;
-use type_links::TypeIndex;
-use world_model::AsmRec;
+use resolver::type_links::TypeIndex;
 
 /// A world, its kept items with their tables, the new names of its types and the new tokens of its assemblies.
 #[derive(Clone, Copy)]

@@ -4,16 +4,16 @@ ghost use Rattle.std.specs.Prelude.{IfOk};
 ghost use Rattle.merged_tables.specs.Parts.{AreOutputParts, output_in};
 ghost use Rattle.merged_tables.specs.Rows.{ArePlacedRows};
 
+use crate::merged_field_rvas::field_rvas::field_rvas;
+use crate::merged_field_rvas::laws::field_rvas_tell;
+use crate::merged_members::laws::members_tell;
+use crate::merged_members::methods::methods;
 use crate::parts::OutputParts;
+use il_base::world_model::{FieldRvaRow, MethodDefRow};
 use il_base::{NoMemory, Seq};
-use merged_field_rvas::field_rvas::field_rvas;
-use merged_field_rvas::laws::field_rvas_tell;
-use merged_members::laws::members_tell;
-use merged_members::methods::methods;
-use method_places::laws::modulo_tells;
-use method_places::{Placed, placed_methods};
+use merge_plan::method_places::laws::modulo_tells;
+use merge_plan::method_places::{Placed, placed_methods};
 use std::alloc::Global;
-use world_model::{FieldRvaRow, MethodDefRow};
 
 /// The rows of kept methods, and where the bytes of kept fields are: behind the bodies.
 #[derive(Drop)]

@@ -1,13 +1,13 @@
 -- Walks over streams.
 use Rattle.std.proofs.Common.{◌≡◌, ℕ, zero, suc, ◌+◌, ◌<◌, ◌≤◌, Bool, true, false, cond, eqb, List, [], ◌∷◌, ◌++◌, length, drop, get_or, Option, Some, None, refl, sym, subst, inl, inr, arith}
 use Rattle.std.specs.Prelude.{not, ◌&&◌, ◌==◌, nat_le, ◌⊎◌}
-use Rattle.cli_format.specs.declared.stream.Stream.{Stream}
-use Rattle.cli_format.specs.declared.stream.StreamName.{StreamName}
-use Rattle.cli_format.specs.Streams.{agrees, name_number, stream_called, stream_at, nth_stream, header_place, header_size, version_length, streams_place, streams_before, streams_of, stream_count}
+use Rattle.il_base.specs.declared.cli_format.stream.Stream.{Stream}
+use Rattle.il_base.specs.declared.cli_format.stream.StreamName.{StreamName}
+use Rattle.il_base.specs.cli_format.Streams.{agrees, name_number, stream_called, stream_at, nth_stream, header_place, header_size, version_length, streams_place, streams_before, streams_of, stream_count}
 use Rattle.il_base.specs.declared.reason.TheConstants.{BAD_STREAM}
-use Rattle.cli_format.specs.Demand.{demand, first_fault, each_below}
-use Rattle.cli_format.specs.Metadata.{bad_at, header_fits, stream_fits, stream_demands, nth_stream_demands}
-use Rattle.cli_format.proofs.Faults.{none_of_both, one_held}
+use Rattle.il_base.specs.cli_format.Demand.{demand, first_fault, each_below}
+use Rattle.il_base.specs.cli_format.Metadata.{bad_at, header_fits, stream_fits, stream_demands, nth_stream_demands}
+use Rattle.il_base.proofs.lemmas.cli_format.Faults.{none_of_both, one_held}
 use Rattle.std.proofs.lemmas.Bool.{leb-true}
 use Rattle.meta_tables.specs.Held.{StreamsWithin}
 use Rattle.meta_tables.proofs.Lists.{drop_step, drop_end, if_true, if_false}

@@ -3,11 +3,11 @@ use Rattle.std.proofs.Common.{◌≡◌, ℕ, zero, suc, ◌+◌, ◌-◌, ◌*�
 use Rattle.std.specs.Prelude.{◌&&◌, ◌==◌, nat_lt, bit_and}
 use Rattle.std.proofs.lemmas.Bool.{le-ltb, lt-ltb}
 use Rattle.std.proofs.lemmas.List.{get_or_past}
-use Rattle.cli_format.specs.declared.column.Column.TheVariants.{U8, U16, U32, Text, Blob, Guid, Index, IndexOrNone, Run, Coded, CodedOrNone}
-use Rattle.cli_format.specs.declared.column.Column.{Column}
-use Rattle.cli_format.specs.Columns.{columns_of, schema}
-use Rattle.cli_format.specs.Demand.{number}
-use Rattle.cli_format.specs.Tables.{is_present, valid_of, present_before, count_place, rows_of, fewer, width, widths, heap_width, index_width, coded_width, row_width, table_place, column_of}
+use Rattle.il_base.specs.declared.cli_format.column.Column.TheVariants.{U8, U16, U32, Text, Blob, Guid, Index, IndexOrNone, Run, Coded, CodedOrNone}
+use Rattle.il_base.specs.declared.cli_format.column.Column.{Column}
+use Rattle.il_base.specs.cli_format.Columns.{columns_of, schema}
+use Rattle.il_base.specs.cli_format.Demand.{number}
+use Rattle.il_base.specs.cli_format.Tables.{is_present, valid_of, present_before, count_place, rows_of, fewer, width, widths, heap_width, index_width, coded_width, row_width, table_place, column_of}
 use Rattle.meta_tables.specs.Held.{AreRows, ArePlaces}
 use Rattle.meta_tables.proofs.Lists.{drop_step, drop_end}
 

@@ -4,8 +4,8 @@ use Rattle.std.specs.Prelude.{not, ◌&&◌, ◌||◌, nat_le, nat_lt}
 use Rattle.std.proofs.lemmas.Bool.{cases_lt, leb-true, ltb-true}
 use Rattle.std.proofs.lemmas.Bool.Decides.{nat_tests}
 use Rattle.std.proofs.lemmas.List.{get_or-take, get_or-drop, length-take, length-drop}
-use Rattle.cli_format.specs.declared.stream.Stream.{Stream}
-use Rattle.cli_format.specs.Streams.{agrees, apart, repeats, name_number}
+use Rattle.il_base.specs.declared.cli_format.stream.Stream.{Stream}
+use Rattle.il_base.specs.cli_format.Streams.{agrees, apart, repeats, name_number}
 use Rattle.meta_tables.specs.Held.{clear, covers, covered, free_of, fresh, AreTaken}
 use Rattle.meta_tables.proofs.Lists.{drop_step, drop_end}
 

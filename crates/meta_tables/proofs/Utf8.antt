@@ -9,7 +9,7 @@ use Rattle.std.proofs.lemmas.List.{drop-take, get_or-take, get_or-drop, length-d
 use Rattle.std.proofs.lemmas.List.Sums.{prefix_len-le-length}
 use Rattle.std.proofs.lemmas.Bool.{cases_lt, lt-ltb, le-ltb, ne_eqb, eq-eqb}
 use Rattle.std.proofs.lemmas.Str.{IsUtf8-append, IsUtf8-take, IsUtf8-drop, IsUtf8-nil, IsCharBoundary-start}
-use Rattle.cli_format.specs.Heaps.{text_at, good_text, string_of}
+use Rattle.il_base.specs.cli_format.Heaps.{text_at, good_text, string_of}
 use Rattle.meta_tables.specs.Held.{AreTails, IsLead}
 use Rattle.meta_tables.proofs.Lists.{drop_end}
 use Rattle.std.proofs.lemmas.Bool.{false_from_ne_true}

@@ -1,10 +1,10 @@
 -- What holds of metadata once parts of it were looked at.
 use Rattle.std.specs.Prelude.{◌≡◌, ℕ, ◌+◌, ◌<◌, ◌≤◌, List, [], ◌∷◌, Bool, true, false, not, ◌&&◌, ◌||◌, nat_le, nat_lt, length, drop, get_or, is_some, Some}
-use Rattle.cli_format.specs.Heaps.{text_at}
-use Rattle.cli_format.specs.declared.stream.StreamName.{StreamName}
-use Rattle.cli_format.specs.declared.stream.Stream.{Stream}
-use Rattle.cli_format.specs.Tables.{rows_of, table_place}
-use Rattle.cli_format.specs.Streams.{streams_of, stream_called, apart, repeats}
+use Rattle.il_base.specs.cli_format.Heaps.{text_at}
+use Rattle.il_base.specs.declared.cli_format.stream.StreamName.{StreamName}
+use Rattle.il_base.specs.declared.cli_format.stream.Stream.{Stream}
+use Rattle.il_base.specs.cli_format.Tables.{rows_of, table_place}
+use Rattle.il_base.specs.cli_format.Streams.{streams_of, stream_called, apart, repeats}
 
 -- each stream lies in the metadata
 abbrev pub StreamsWithin : List ℕ → Type 0

@@ -1,7 +1,7 @@
 -- Places of rows in the file.
 use Rattle.std.specs.Prelude.{ℕ, ◌+◌, ◌&&◌, nat_lt, List, Option, Some, None, if◌then◌else◌}
-use Rattle.cli_format.specs.Tables.{names_row, row_place}
-use Rattle.cli_format.specs.Metadata.{tables_stream, tables_base}
+use Rattle.il_base.specs.cli_format.Tables.{names_row, row_place}
+use Rattle.il_base.specs.cli_format.Metadata.{tables_stream, tables_base}
 
 -- the place of a row of one of II.22's tables, where it has that row
 abbrev pub row_offset_of : List ℕ → ℕ → ℕ → ℕ → Option ℕ

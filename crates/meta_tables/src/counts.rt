@@ -1,9 +1,11 @@
 ghost use Rattle.std.specs.Prelude.{◌≡◌, ℕ, ◌+◌, ◌*◌, ◌/◌, ◌^◌, ◌<◌, ◌≤◌, ◌==◌, ◌&&◌, nat_lt, bit_and, length, slice_index, ◌⊎◌, if◌then◌else◌};
-ghost use Rattle.cli_format.specs.Columns.{columns_of};
-ghost use Rattle.cli_format.specs.Demand.{number};
-ghost use Rattle.cli_format.specs.Tables.{heap_sizes, is_present, count_place, rows_of, heap_width, index_width, coded_width, fewer, width, widths, row_width};
+ghost use Rattle.il_base.specs.cli_format.Columns.{columns_of};
+ghost use Rattle.il_base.specs.cli_format.Demand.{number};
+ghost use Rattle.il_base.specs.cli_format.Tables.{heap_sizes, is_present, count_place, rows_of, heap_width, index_width, coded_width, fewer, width, widths, row_width};
 
-use cli_format::{CodedIndex, Column, columns, tag_bits, targets, u8_in, u16_in, u32_in, u64_in};
+use il_base::cli_format::{
+    CodedIndex, Column, columns, tag_bits, targets, u8_in, u16_in, u32_in, u64_in,
+};
 use std::marker::Model;
 
 /// The head of the `#~` stream (II.24.2.6), which says how many rows each table has and how wide its columns are.
@@ -19,7 +21,7 @@ pub struct Counts<'a> {
 
 impl<'a> Model for Counts<'a> {
     ghost use Rattle.std.specs.Prelude.{◌≡◌, ◌≤◌, ℕ, List};
-    ghost use Rattle.cli_format.specs.Tables.{count_place};
+    ghost use Rattle.il_base.specs.cli_format.Tables.{count_place};
     ghost use Rattle.meta_tables.specs.Held.{AreRows};
 
     ghost Value = { List ℕ };
@@ -74,7 +76,7 @@ impl<'a> Counts<'a> {
     }
 
     /// Whether a table is present.
-    #[tactic(auto, unfolding(cli_format::specs::Tables::is_present, cli_format::specs::Tables::valid_of))]
+    #[tactic(auto, unfolding(il_base::specs::cli_format::Tables::is_present, il_base::specs::cli_format::Tables::valid_of))]
     pub fn is_here(&self, table: u8) -> bool
         ensures { result ≡ is_present self.now table }
     {
@@ -82,7 +84,7 @@ impl<'a> Counts<'a> {
     }
 
     /// The bytes of a cell of a column: 1, 2 or 4.
-    #[tactic(auto, unfolding(cli_format::specs::Tables::width))]
+    #[tactic(auto, unfolding(il_base::specs::cli_format::Tables::width))]
     pub fn width(&self, column: Column) -> u8
         ensures value { result ≡ width self.now column }
         ensures within { (result ≡ 1) ⊎ (result ≡ 2) ⊎ (result ≡ 4) }
@@ -103,7 +105,7 @@ impl<'a> Counts<'a> {
     }
 
     /// The bytes of an index into a heap, by its bit in HeapSizes.
-    #[tactic(auto, unfolding(cli_format::specs::Tables::heap_width, cli_format::specs::Tables::heap_sizes))]
+    #[tactic(auto, unfolding(il_base::specs::cli_format::Tables::heap_width, il_base::specs::cli_format::Tables::heap_sizes))]
     fn heap_width(&self, bit: u8) -> u8
         ensures value { result ≡ heap_width self.now bit }
         ensures within { (result ≡ 1) ⊎ (result ≡ 2) ⊎ (result ≡ 4) }
@@ -116,7 +118,7 @@ impl<'a> Counts<'a> {
     }
 
     /// The bytes of an index into a table.
-    #[tactic(auto, unfolding(cli_format::specs::Tables::index_width))]
+    #[tactic(auto, unfolding(il_base::specs::cli_format::Tables::index_width))]
     fn index_width(&self, table: u8) -> u8
         ensures value { result ≡ index_width self.now table }
         ensures within { (result ≡ 1) ⊎ (result ≡ 2) ⊎ (result ≡ 4) }
@@ -125,7 +127,7 @@ impl<'a> Counts<'a> {
     }
 
     /// The bytes of a coded index.
-    #[tactic(auto, unfolding(cli_format::specs::Tables::coded_width))]
+    #[tactic(auto, unfolding(il_base::specs::cli_format::Tables::coded_width))]
     fn coded_width(&self, index: CodedIndex) -> u8
         ensures value { result ≡ coded_width self.now index }
         ensures within { (result ≡ 1) ⊎ (result ≡ 2) ⊎ (result ≡ 4) }
@@ -166,7 +168,7 @@ impl<'a> Counts<'a> {
     }
 
     /// The bytes of a row of a table.
-    #[tactic(auto, unfolding(cli_format::specs::Tables::row_width))]
+    #[tactic(auto, unfolding(il_base::specs::cli_format::Tables::row_width))]
     pub fn row_width(&self, table: u8) -> u32
         ensures value { result ≡ row_width self.now table }
         ensures within { result ≤ 36 }

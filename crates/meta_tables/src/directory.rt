@@ -1,12 +1,12 @@
 ghost use Rattle.std.specs.Prelude.{◌≡◌, ◌+◌, ◌<◌, ◌≤◌, ◌^◌, ◌++◌, length, None};
-ghost use Rattle.cli_format.specs.Demand.{first_fault, each_below};
-ghost use Rattle.cli_format.specs.Streams.{version_length, stream_count, header_place, streams_before, streams_of, stream_called, heap, heap_place, heap_size};
-ghost use Rattle.cli_format.specs.Metadata.{Read, root_demands, nth_stream_demands, streams_demands};
+ghost use Rattle.il_base.specs.cli_format.Demand.{first_fault, each_below};
+ghost use Rattle.il_base.specs.cli_format.Streams.{version_length, stream_count, header_place, streams_before, streams_of, stream_called, heap, heap_place, heap_size};
+ghost use Rattle.il_base.specs.cli_format.Metadata.{Read, root_demands, nth_stream_demands, streams_demands};
 
 use crate::refuse::{need, part};
 use crate::streams::{header_length, is_same, no_bytes, read_root, read_stream, take_bytes};
-use cli_format::{BAD_STREAM, Stream, StreamName, TablesError, u16_in};
 use il_base::Seq;
+use il_base::cli_format::{BAD_STREAM, Stream, StreamName, TablesError, u16_in};
 use std::alloc::Global;
 use std::marker::Model;
 
@@ -19,7 +19,7 @@ pub struct Streams<'a> {
 
 impl<'a> Model for Streams<'a> {
     ghost use Rattle.std.specs.Prelude.{◌≡◌, ℕ, List};
-    ghost use Rattle.cli_format.specs.Streams.{streams_of};
+    ghost use Rattle.il_base.specs.cli_format.Streams.{streams_of};
     ghost use Rattle.meta_tables.specs.Held.{StreamsWithin};
 
     ghost Value = { List ℕ };
@@ -31,7 +31,7 @@ impl<'a> Model for Streams<'a> {
 
 impl<'a> Streams<'a> {
     /// The streams behind the root, where they and the tables among them are as they should be.
-    #[tactic(auto, using(cli_format::proofs::Faults::refusals, crate::proofs::Beside::all_within), unfolding(cli_format::specs::Metadata::streams_demands))]
+    #[tactic(auto, using(il_base::proofs::lemmas::cli_format::Faults::refusals, crate::proofs::Beside::all_within), unfolding(il_base::specs::cli_format::Metadata::streams_demands))]
     pub fn read(alloc: Global, bytes: &'a [u8], base: u32) -> Result<Streams<'a>, TablesError>
         requires { base + length bytes.now < 2 ^ 32 }
         ensures { Read result (root_demands bytes.now base ++ streams_demands bytes.now base) bytes.now }
@@ -44,7 +44,7 @@ impl<'a> Streams<'a> {
     }
 
     /// Where the stream of a name begins, from the root, and 0 where there is none.
-    #[tactic(auto, unfolding(cli_format::specs::Streams::heap_place, cli_format::specs::Streams::heap_size))]
+    #[tactic(auto, unfolding(il_base::specs::cli_format::Streams::heap_place, il_base::specs::cli_format::Streams::heap_size))]
     pub fn place(&self, name: StreamName) -> u32
         ensures value { result ≡ heap_place self.now name }
         ensures within { result + heap_size self.now name ≤ length self.now }
@@ -56,7 +56,7 @@ impl<'a> Streams<'a> {
     }
 
     /// The bytes of the stream of a name; there are none where it is missing.
-    #[tactic(auto, unfolding(cli_format::specs::Streams::heap, cli_format::specs::Streams::heap_place, cli_format::specs::Streams::heap_size))]
+    #[tactic(auto, unfolding(il_base::specs::cli_format::Streams::heap, il_base::specs::cli_format::Streams::heap_place, il_base::specs::cli_format::Streams::heap_size))]
     pub fn heap(&self, name: StreamName) -> &'a [u8]
         ensures value { result.now ≡ heap self.now name }
         ensures size { length result.now ≡ heap_size self.now name }
@@ -82,7 +82,7 @@ fn find(list: &[Stream], name: StreamName) -> Option<Stream>
 }
 
 /// The streams, in order of their headers.
-#[tactic(auto, using(cli_format::proofs::Faults::refusals, crate::proofs::Beside::listing, crate::proofs::Taken::taken_more), unfolding(cli_format::specs::Metadata::nth_stream_demands, cli_format::specs::Streams::nth_stream, cli_format::specs::Streams::stream_count, cli_format::specs::Streams::streams_of))]
+#[tactic(auto, using(il_base::proofs::lemmas::cli_format::Faults::refusals, crate::proofs::Beside::listing, crate::proofs::Taken::taken_more), unfolding(il_base::specs::cli_format::Metadata::nth_stream_demands, il_base::specs::cli_format::Streams::nth_stream, il_base::specs::cli_format::Streams::stream_count, il_base::specs::cli_format::Streams::streams_of))]
 fn read_list(
     alloc: Global,
     bytes: &[u8],

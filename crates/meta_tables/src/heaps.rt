@@ -1,14 +1,14 @@
 ghost use Rattle.std.specs.Prelude.{◌≡◌, ◌+◌, ◌<◌, ◌≤◌, ◌^◌, length, drop, Some, None, IfSome};
 ghost use Rattle.std.specs.Option.{option_map};
 ghost use Rattle.std.specs.Str.{is_utf8};
-ghost use Rattle.cli_format.specs.Heaps.{good_text, text_at, string_of, counted_at, user_string_of, blob_of, guid_of};
+ghost use Rattle.il_base.specs.cli_format.Heaps.{good_text, text_at, string_of, counted_at, user_string_of, blob_of, guid_of};
 
 use crate::refuse::{find_zero, part};
 use il_base::compressed_number;
 use std::str::from_utf8;
 
 /// The text at a place of `#Strings`, up to the zero behind it (II.24.2.3), where it is UTF-8.
-#[tactic(auto, unfolding(cli_format::specs::Heaps::string_of))]
+#[tactic(auto, unfolding(il_base::specs::cli_format::Heaps::string_of))]
 pub fn text_item(heap: &[u8], at: usize) -> Option<&[u8]>
     ensures { option_map (λ b. b.now) result ≡ string_of heap.now at }
 {
@@ -19,7 +19,7 @@ pub fn text_item(heap: &[u8], at: usize) -> Option<&[u8]>
 }
 
 /// The text at the front, up to the first zero, where it is UTF-8.
-#[tactic(auto, unfolding(cli_format::specs::Heaps::text_at, cli_format::specs::Heaps::good_text))]
+#[tactic(auto, unfolding(il_base::specs::cli_format::Heaps::text_at, il_base::specs::cli_format::Heaps::good_text))]
 fn first_text(bytes: &[u8]) -> Option<&[u8]>
     ensures { option_map (λ b. b.now) result ≡ text_at bytes.now }
 {
@@ -52,7 +52,7 @@ fn behind(bytes: &[u8], at: usize) -> &[u8]
 }
 
 /// The bytes at the front behind their length (II.24.2.4).
-#[tactic(auto, unfolding(cli_format::specs::Heaps::counted_at, il_base::specs::Bytes::bytes_at))]
+#[tactic(auto, unfolding(il_base::specs::cli_format::Heaps::counted_at, il_base::specs::Bytes::bytes_at))]
 fn first_counted(bytes: &[u8]) -> Option<&[u8]>
     ensures value { option_map (λ b. b.now) result ≡ counted_at bytes.now }
     ensures within { IfSome result (λ b. length b.now < 2 ^ 32) }
@@ -69,7 +69,7 @@ fn first_counted(bytes: &[u8]) -> Option<&[u8]>
 }
 
 /// The blob at a place of `#Blob` (II.24.2.4).
-#[tactic(auto, unfolding(cli_format::specs::Heaps::blob_of))]
+#[tactic(auto, unfolding(il_base::specs::cli_format::Heaps::blob_of))]
 pub fn blob_item(heap: &[u8], at: usize) -> Option<&[u8]>
     ensures value { option_map (λ b. b.now) result ≡ blob_of heap.now at }
     ensures within { IfSome result (λ b. length b.now < 2 ^ 32) }
@@ -81,7 +81,7 @@ pub fn blob_item(heap: &[u8], at: usize) -> Option<&[u8]>
 }
 
 /// The item at a place of `#US` (II.24.2.4), its last byte included.
-#[tactic(auto, unfolding(cli_format::specs::Heaps::user_string_of))]
+#[tactic(auto, unfolding(il_base::specs::cli_format::Heaps::user_string_of))]
 pub fn user_item(heap: &[u8], at: usize) -> Option<&[u8]>
     ensures { option_map (λ b. b.now) result ≡ user_string_of heap.now at }
 {
@@ -89,7 +89,7 @@ pub fn user_item(heap: &[u8], at: usize) -> Option<&[u8]>
 }
 
 /// The GUID with a number, from 1 (II.24.2.5).
-#[tactic(auto, unfolding(cli_format::specs::Heaps::guid_of))]
+#[tactic(auto, unfolding(il_base::specs::cli_format::Heaps::guid_of))]
 pub fn guid_item(heap: &[u8], number: usize) -> Option<&[u8]>
     ensures { option_map (λ b. b.now) result ≡ guid_of heap.now number }
 {

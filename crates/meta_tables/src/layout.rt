@@ -1,12 +1,12 @@
 ghost use Rattle.std.specs.Prelude.{◌≡◌, ℕ, ◌+◌, ◌*◌, ◌^◌, ◌<◌, ◌≤◌, ◌==◌, ◌&&◌, ◌||◌, not, nat_le, nat_lt, length, take, true, OnOk};
-ghost use Rattle.cli_format.specs.Columns.{columns_of};
-ghost use Rattle.cli_format.specs.Demand.{Checked, each_below};
-ghost use Rattle.cli_format.specs.Tables.{rows_of, width, row_width, table_place, row_place, cell_place, cell_number, cell_of, column_of, has_cell, names_row, names_coded, target_of};
-ghost use Rattle.cli_format.specs.Metadata.{head_demands, known_demands, limit_demands, single_demands, rows_demands};
+ghost use Rattle.il_base.specs.cli_format.Columns.{columns_of};
+ghost use Rattle.il_base.specs.cli_format.Demand.{Checked, each_below};
+ghost use Rattle.il_base.specs.cli_format.Tables.{rows_of, width, row_width, table_place, row_place, cell_place, cell_number, cell_of, column_of, has_cell, names_row, names_coded, target_of};
+ghost use Rattle.il_base.specs.cli_format.Metadata.{head_demands, known_demands, limit_demands, single_demands, rows_demands};
 
 use crate::counts::{Counts, number_in};
 use crate::refuse::need;
-use cli_format::{
+use il_base::cli_format::{
     BAD_STREAM, CodedIndex, Column, ROW_OUT_OF_RANGE, TablesError, UNKNOWN_TABLE, columns,
     first_tag, tag_bits, targets, u8_in, u16_in,
 };
@@ -59,7 +59,7 @@ impl<'a> Layout<'a> {
     }
 
     /// Where a row of a table begins in the stream.
-    #[tactic(auto, using(crate::proofs::Rows::row_reach), unfolding(cli_format::specs::Tables::row_place))]
+    #[tactic(auto, using(crate::proofs::Rows::row_reach), unfolding(il_base::specs::cli_format::Tables::row_place))]
     pub fn row_place(&self, table: u8, row: u32) -> usize
         requires small { length self.now < 2 ^ 32 }
         requires reach { table_place self.now 45 ≤ length self.now }
@@ -74,7 +74,7 @@ impl<'a> Layout<'a> {
     }
 
     /// Where a cell begins in the stream.
-    #[tactic(auto, using(crate::proofs::Rows::cell_reach), unfolding(cli_format::specs::Tables::cell_place))]
+    #[tactic(auto, using(crate::proofs::Rows::cell_reach), unfolding(il_base::specs::cli_format::Tables::cell_place))]
     pub fn cell_place(&self, table: u8, row: u32, column: usize) -> usize
         requires small { length self.now < 2 ^ 32 }
         requires reach { table_place self.now 45 ≤ length self.now }
@@ -89,7 +89,7 @@ impl<'a> Layout<'a> {
     }
 
     /// The number in a cell.
-    #[tactic(auto, unfolding(cli_format::specs::Tables::cell_number))]
+    #[tactic(auto, unfolding(il_base::specs::cli_format::Tables::cell_number))]
     pub fn cell_number(&self, table: u8, row: u32, column: usize) -> u32
         requires small { length self.now < 2 ^ 32 }
         requires reach { table_place self.now 45 ≤ length self.now }
@@ -105,7 +105,7 @@ impl<'a> Layout<'a> {
     }
 
     /// The number in a cell, where there is that row, from 1, and that column, from 0.
-    #[tactic(auto, unfolding(cli_format::specs::Tables::cell_of, cli_format::specs::Tables::has_cell))]
+    #[tactic(auto, unfolding(il_base::specs::cli_format::Tables::cell_of, il_base::specs::cli_format::Tables::has_cell))]
     pub fn cell(&self, table: u8, row: u32, column: u8) -> Option<u32>
         requires small { length self.now < 2 ^ 32 }
         requires reach { table_place self.now 45 ≤ length self.now }
@@ -118,7 +118,7 @@ impl<'a> Layout<'a> {
     }
 
     /// Whether a number names a row of a table.
-    #[tactic(auto, unfolding(cli_format::specs::Tables::names_row))]
+    #[tactic(auto, unfolding(il_base::specs::cli_format::Tables::names_row))]
     pub fn has_row(&self, table: u8, row: u32) -> bool
         ensures { result ≡ names_row self.now table row }
     {
@@ -126,7 +126,7 @@ impl<'a> Layout<'a> {
     }
 
     /// Whether a coded index names a row of one of its tables (II.24.2.6).
-    #[tactic(auto, unfolding(cli_format::specs::Tables::names_coded))]
+    #[tactic(auto, unfolding(il_base::specs::cli_format::Tables::names_coded))]
     pub fn has_coded(&self, index: CodedIndex, n: u32) -> bool
         ensures { result ≡ names_coded self.now index n }
     {
@@ -138,7 +138,7 @@ impl<'a> Layout<'a> {
     }
 
     /// The stream begins as it should, and its rows lie in it.
-    #[tactic(auto, using(cli_format::proofs::Faults::faults, crate::proofs::Rows::placing), unfolding(cli_format::specs::Metadata::head_demands, cli_format::specs::Tables::heap_sizes))]
+    #[tactic(auto, using(il_base::proofs::lemmas::cli_format::Faults::faults, crate::proofs::Rows::placing), unfolding(il_base::specs::cli_format::Metadata::head_demands, il_base::specs::cli_format::Tables::heap_sizes))]
     pub fn check_head(&self, base: u32) -> Result<(), TablesError>
         requires { base + length self.now < 2 ^ 32 }
         ensures checked { Checked result (head_demands self.now base) tt }
@@ -163,7 +163,7 @@ impl<'a> Layout<'a> {
     }
 
     /// The tables that are present are known, and have as many rows as they may have.
-    #[tactic(auto, using(cli_format::proofs::Faults::faults), unfolding(cli_format::specs::Metadata::rows_demands))]
+    #[tactic(auto, using(il_base::proofs::lemmas::cli_format::Faults::faults), unfolding(il_base::specs::cli_format::Metadata::rows_demands))]
     pub fn check_rows(&self, base: u32) -> Result<(), TablesError>
         requires { base + 8 < 2 ^ 32 }
         ensures { Checked result (rows_demands self.now base) tt }
@@ -175,7 +175,7 @@ impl<'a> Layout<'a> {
     }
 
     /// The tables that are present are those of II.22.
-    #[tactic(auto, using(cli_format::proofs::Faults::faults))]
+    #[tactic(auto, using(il_base::proofs::lemmas::cli_format::Faults::faults))]
     fn check_known(&self, base: u32) -> Result<(), TablesError>
         requires { base + 8 < 2 ^ 32 }
         ensures { Checked result (each_below (known_demands self.now base) 64) tt }
@@ -189,7 +189,7 @@ impl<'a> Layout<'a> {
         Ok(())
     }
 
-    #[tactic(auto, unfolding(cli_format::specs::Metadata::known_demands))]
+    #[tactic(auto, unfolding(il_base::specs::cli_format::Metadata::known_demands))]
     fn check_table(&self, base: u32, table: u8) -> Result<(), TablesError>
         requires { base + 8 < 2 ^ 32 }
         ensures { Checked result (known_demands self.now base table) tt }
@@ -200,7 +200,7 @@ impl<'a> Layout<'a> {
     }
 
     /// No table has too many rows.
-    #[tactic(auto, using(cli_format::proofs::Faults::faults))]
+    #[tactic(auto, using(il_base::proofs::lemmas::cli_format::Faults::faults))]
     fn check_limits(&self) -> Result<(), TablesError>
         ensures { Checked result (each_below (limit_demands self.now) 45) tt }
     {
@@ -213,7 +213,7 @@ impl<'a> Layout<'a> {
         Ok(())
     }
 
-    #[tactic(auto, unfolding(cli_format::specs::Metadata::limit_demands, cli_format::specs::Demand::demand, cli_format::specs::Demand::first_fault))]
+    #[tactic(auto, unfolding(il_base::specs::cli_format::Metadata::limit_demands, il_base::specs::cli_format::Demand::demand, il_base::specs::cli_format::Demand::first_fault))]
     fn check_limit(&self, table: u8) -> Result<(), TablesError>
         ensures { Checked result (limit_demands self.now table) tt }
     {
@@ -227,7 +227,7 @@ impl<'a> Layout<'a> {
     }
 
     /// There are one Module row, one Assembly row, and a TypeDef row.
-    #[tactic(auto, unfolding(cli_format::specs::Metadata::single_demands))]
+    #[tactic(auto, unfolding(il_base::specs::cli_format::Metadata::single_demands))]
     fn check_single(&self, base: u32) -> Result<(), TablesError>
         requires { base + 8 < 2 ^ 32 }
         ensures { Checked result (single_demands self.now base) tt }
@@ -243,7 +243,7 @@ impl<'a> Layout<'a> {
 }
 
 /// The table that a tag of a coded index names (II.24.2.6). None for a tag that names none.
-#[tactic(auto, unfolding(cli_format::specs::Tables::target_of))]
+#[tactic(auto, unfolding(il_base::specs::cli_format::Tables::target_of))]
 pub fn target(index: CodedIndex, tag: u32) -> Option<u8>
     ensures { result ≡ target_of index tag }
 {
@@ -276,7 +276,7 @@ fn is_column(table: u8, column: u8) -> bool
 }
 
 /// A column of a table, both by their numbers from 0; one byte where the table doesn't have it.
-#[tactic(auto, using(crate::proofs::Rows::picking), unfolding(cli_format::specs::Tables::column_of))]
+#[tactic(auto, using(crate::proofs::Rows::picking), unfolding(il_base::specs::cli_format::Tables::column_of))]
 pub fn column_at(table: u8, column: usize) -> Column
     ensures { result ≡ column_of table column }
 {

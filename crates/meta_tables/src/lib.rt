@@ -14,6 +14,6 @@ mod tables;
 mod texts;
 mod walk;
 
-pub use cli_format::TablesError;
+pub use il_base::cli_format::TablesError;
 pub use layout::{column_at, target};
 pub use tables::Tables;

@@ -1,19 +1,21 @@
 //! The demands on the order of rows: runs that don't fall, and tables that are sorted.
 
 ghost use Rattle.std.specs.Prelude.{◌≡◌, ◌+◌, ◌-◌, ◌<◌, ◌≤◌, ◌^◌, ◌||◌, not, nat_le, length};
-ghost use Rattle.cli_format.specs.Columns.{columns_of, sort_key_of};
-ghost use Rattle.cli_format.specs.Demand.{Checked, each_below};
-ghost use Rattle.cli_format.specs.Tables.{rows_of, cell_number, column_of};
-ghost use Rattle.cli_format.specs.Metadata.{is_run, in_order, run_demands, row_run_demands, table_run_demands, sort_demands, table_sort_demands, tables_stream};
+ghost use Rattle.il_base.specs.cli_format.Columns.{columns_of, sort_key_of};
+ghost use Rattle.il_base.specs.cli_format.Demand.{Checked, each_below};
+ghost use Rattle.il_base.specs.cli_format.Tables.{rows_of, cell_number, column_of};
+ghost use Rattle.il_base.specs.cli_format.Metadata.{is_run, in_order, run_demands, row_run_demands, table_run_demands, sort_demands, table_sort_demands, tables_stream};
 
 use crate::layout::column_at;
 use crate::refuse::need;
 use crate::tables::Tables;
-use cli_format::{Column, LIST_ORDER, SORT_ORDER, SortKey, TablesError, columns, sort_key};
+use il_base::cli_format::{
+    Column, LIST_ORDER, SORT_ORDER, SortKey, TablesError, columns, sort_key,
+};
 
 impl<'a> Tables<'a> {
     /// Whether a run begins no earlier than that of the row above. Pairs of rows are counted from 0.
-    #[tactic(auto, unfolding(cli_format::specs::Metadata::is_run))]
+    #[tactic(auto, unfolding(il_base::specs::cli_format::Metadata::is_run))]
     fn has_run_in_order(&self, table: u8, row: u32, column: usize) -> bool
         requires table { table < 45 }
         requires row { row + 2 ≤ rows_of (tables_stream self.now) table }
@@ -28,7 +30,7 @@ impl<'a> Tables<'a> {
         }
     }
 
-    #[tactic(auto, unfolding(cli_format::specs::Metadata::run_demands))]
+    #[tactic(auto, unfolding(il_base::specs::cli_format::Metadata::run_demands))]
     fn check_run(&self, base: u32, table: u8, row: u32, column: usize) -> Result<(), TablesError>
         requires small { base + length self.now < 2 ^ 32 }
         requires table { table < 45 }
@@ -46,7 +48,7 @@ impl<'a> Tables<'a> {
         Ok(())
     }
 
-    #[tactic(auto, using(cli_format::proofs::Faults::faults), unfolding(cli_format::specs::Metadata::row_run_demands))]
+    #[tactic(auto, using(il_base::proofs::lemmas::cli_format::Faults::faults), unfolding(il_base::specs::cli_format::Metadata::row_run_demands))]
     fn check_row_runs(&self, base: u32, table: u8, row: u32) -> Result<(), TablesError>
         requires small { base + length self.now < 2 ^ 32 }
         requires table { table < 45 }
@@ -63,7 +65,7 @@ impl<'a> Tables<'a> {
         Ok(())
     }
 
-    #[tactic(auto, using(cli_format::proofs::Faults::faults), unfolding(cli_format::specs::Metadata::table_run_demands))]
+    #[tactic(auto, using(il_base::proofs::lemmas::cli_format::Faults::faults), unfolding(il_base::specs::cli_format::Metadata::table_run_demands))]
     fn check_table_runs(&self, base: u32, table: u8) -> Result<(), TablesError>
         requires small { base + length self.now < 2 ^ 32 }
         requires table { table < 45 }
@@ -79,7 +81,7 @@ impl<'a> Tables<'a> {
     }
 
     /// The runs of no table fall from row to row.
-    #[tactic(auto, using(cli_format::proofs::Faults::faults))]
+    #[tactic(auto, using(il_base::proofs::lemmas::cli_format::Faults::faults))]
     pub(crate) fn check_runs(&self, base: u32) -> Result<(), TablesError>
         requires small { base + length self.now < 2 ^ 32 }
         ensures { Checked result (each_below (table_run_demands self.now base) 45) tt }
@@ -94,7 +96,7 @@ impl<'a> Tables<'a> {
     }
 
     /// Whether two rows are in the order of the table's sort key. Pairs of rows are counted from 0.
-    #[tactic(auto, unfolding(cli_format::specs::Metadata::in_order))]
+    #[tactic(auto, unfolding(il_base::specs::cli_format::Metadata::in_order))]
     fn is_in_order(&self, table: u8, row: u32) -> bool
         requires table { table < 45 }
         requires row { row + 2 ≤ rows_of (tables_stream self.now) table }
@@ -119,7 +121,7 @@ impl<'a> Tables<'a> {
         }
     }
 
-    #[tactic(auto, unfolding(cli_format::specs::Metadata::sort_demands, cli_format::specs::Metadata::tables_base))]
+    #[tactic(auto, unfolding(il_base::specs::cli_format::Metadata::sort_demands, il_base::specs::cli_format::Metadata::tables_base))]
     fn check_sorted_pair(&self, base: u32, table: u8, row: u32) -> Result<(), TablesError>
         requires small { base + length self.now < 2 ^ 32 }
         requires table { table < 45 }
@@ -133,7 +135,7 @@ impl<'a> Tables<'a> {
         Ok(())
     }
 
-    #[tactic(auto, using(cli_format::proofs::Faults::faults), unfolding(cli_format::specs::Metadata::table_sort_demands))]
+    #[tactic(auto, using(il_base::proofs::lemmas::cli_format::Faults::faults), unfolding(il_base::specs::cli_format::Metadata::table_sort_demands))]
     fn check_table_sorted(&self, base: u32, table: u8) -> Result<(), TablesError>
         requires small { base + length self.now < 2 ^ 32 }
         requires table { table < 45 }
@@ -149,7 +151,7 @@ impl<'a> Tables<'a> {
     }
 
     /// The sorted tables are sorted.
-    #[tactic(auto, using(cli_format::proofs::Faults::faults))]
+    #[tactic(auto, using(il_base::proofs::lemmas::cli_format::Faults::faults))]
     pub(crate) fn check_sorted(&self, base: u32) -> Result<(), TablesError>
         requires small { base + length self.now < 2 ^ 32 }
         ensures { Checked result (each_below (table_sort_demands self.now base) 45) tt }

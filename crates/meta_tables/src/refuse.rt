@@ -1,12 +1,12 @@
 ghost use Rattle.std.specs.Prelude.{◌≡◌, ◌<◌, ◌^◌, ◌==◌, length, position, take, drop, ◌+◌, ◌≤◌, OnOk, IfSome, true};
-ghost use Rattle.cli_format.specs.Demand.{Checked, demand};
-ghost use Rattle.cli_format.specs.Metadata.{bad_at};
+ghost use Rattle.il_base.specs.cli_format.Demand.{Checked, demand};
+ghost use Rattle.il_base.specs.cli_format.Metadata.{bad_at};
 
-use cli_format::TablesError;
 use il_base::BadAt;
+use il_base::cli_format::TablesError;
 
 /// Refuses at an offset for a reason, unless the test holds.
-#[tactic(auto, unfolding(cli_format::specs::Demand::demand, cli_format::specs::Demand::first_fault))]
+#[tactic(auto, unfolding(il_base::specs::cli_format::Demand::demand, il_base::specs::cli_format::Demand::first_fault))]
 pub fn need(holds: bool, offset: usize, why: u8) -> Result<(), TablesError>
     requires { offset < 2 ^ 32 }
     ensures checked { Checked result (demand holds (bad_at offset why)) tt }

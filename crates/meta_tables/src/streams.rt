@@ -1,17 +1,17 @@
 ghost use Rattle.std.specs.Prelude.{◌≡◌, ◌+◌, ◌*◌, ◌-◌, ◌<◌, ◌≤◌, ◌^◌, ◌++◌, ◌%◌, ◌==◌, ◌&&◌, nat_le, length, take, drop, IfOk, OnOk, slice_index_or, ℕ, [], true, false};
-ghost use Rattle.cli_format.specs.Demand.{Checked};
-ghost use Rattle.cli_format.specs.Streams.{version_length, stream_count, streams_place, name_length, padding_length, header_size, stream_at, zeros, agrees, apart, repeats, streams_of, name_number};
-ghost use Rattle.cli_format.specs.Metadata.{Read, root_demands, header_fits, stream_fits, stream_demands, nth_stream_demands};
+ghost use Rattle.il_base.specs.cli_format.Demand.{Checked};
+ghost use Rattle.il_base.specs.cli_format.Streams.{version_length, stream_count, streams_place, name_length, padding_length, header_size, stream_at, zeros, agrees, apart, repeats, streams_of, name_number};
+ghost use Rattle.il_base.specs.cli_format.Metadata.{Read, root_demands, header_fits, stream_fits, stream_demands, nth_stream_demands};
 ghost use Rattle.meta_tables.specs.Held.{AreTaken, clear, covers, fresh, free_of};
 
 use crate::refuse::{find_zero, need, part};
-use cli_format::{
+use il_base::cli_format::{
     BAD_ROOT, BAD_STREAM, Stream, StreamName, TablesError, stream_name, u16_in, u32_in,
 };
 use std::alloc::{AllocError, Global};
 
 /// The number of bytes of the version text in the root (II.24.2.1).
-#[tactic(auto, using(cli_format::proofs::Faults::faults), unfolding(cli_format::specs::Metadata::root_demands, cli_format::specs::Streams::version_length))]
+#[tactic(auto, using(il_base::proofs::lemmas::cli_format::Faults::faults), unfolding(il_base::specs::cli_format::Metadata::root_demands, il_base::specs::cli_format::Streams::version_length))]
 pub fn read_root(bytes: &[u8], base: u32) -> Result<u32, TablesError>
     requires { base + length bytes.now < 2 ^ 32 }
     ensures checked { Checked result (root_demands bytes.now base) (version_length bytes.now) }
@@ -36,7 +36,7 @@ fn is_version_length(n: u32) -> bool
 }
 
 /// The length of the name in a stream's header; more than 32 bytes aren't looked at.
-#[tactic(auto, unfolding(cli_format::specs::Streams::name_length))]
+#[tactic(auto, unfolding(il_base::specs::cli_format::Streams::name_length))]
 fn name_size(bytes: &[u8], at: usize) -> usize
     requires { at ≤ length bytes.now }
     ensures value { result ≡ name_length bytes.now at }
@@ -66,7 +66,7 @@ fn window(bytes: &[u8], at: usize) -> &[u8]
 }
 
 /// How many zeros stand behind a name of a length: it ends at a multiple of 4, behind at least one of them.
-#[tactic(auto, unfolding(cli_format::specs::Streams::padding_length))]
+#[tactic(auto, unfolding(il_base::specs::cli_format::Streams::padding_length))]
 fn padding(bytes: &[u8], at: usize, name: usize) -> usize
     requires { name ≡ name_length bytes.now at }
     ensures value { result ≡ padding_length bytes.now at }
@@ -90,7 +90,7 @@ fn are_zeros(bytes: &[u8]) -> bool
 }
 
 /// The bytes of a stream's header.
-#[tactic(auto, unfolding(cli_format::specs::Streams::header_size))]
+#[tactic(auto, unfolding(il_base::specs::cli_format::Streams::header_size))]
 pub fn header_length(bytes: &[u8], at: usize) -> usize
     requires { at ≤ length bytes.now }
     ensures value { result ≡ header_size bytes.now at }
@@ -101,7 +101,7 @@ pub fn header_length(bytes: &[u8], at: usize) -> usize
 }
 
 /// A stream's header lies in the metadata, its name has at most 32 bytes, and zeros stand behind it.
-#[tactic(auto, unfolding(cli_format::specs::Metadata::header_fits, cli_format::specs::Streams::header_size))]
+#[tactic(auto, unfolding(il_base::specs::cli_format::Metadata::header_fits, il_base::specs::cli_format::Streams::header_size))]
 fn fits_header(bytes: &[u8], at: usize) -> bool
     requires { at ≤ length bytes.now }
     ensures { result ≡ header_fits bytes.now at }
@@ -115,7 +115,7 @@ fn fits_header(bytes: &[u8], at: usize) -> bool
 }
 
 /// The stream whose header is at a place.
-#[tactic(auto, unfolding(cli_format::specs::Streams::stream_at, cli_format::specs::Streams::header_size))]
+#[tactic(auto, unfolding(il_base::specs::cli_format::Streams::stream_at, il_base::specs::cli_format::Streams::header_size))]
 fn stream_in(bytes: &[u8], at: usize) -> Stream
     requires { at + header_size bytes.now at ≤ length bytes.now }
     ensures { result ≡ stream_at bytes.now at }
@@ -129,7 +129,7 @@ fn stream_in(bytes: &[u8], at: usize) -> Stream
 }
 
 /// Whether two streams have the same name, one of those that II.24.2.2 describes.
-#[tactic(auto, unfolding(cli_format::specs::Streams::repeats, cli_format::specs::Streams::name_number))]
+#[tactic(auto, unfolding(il_base::specs::cli_format::Streams::repeats, il_base::specs::cli_format::Streams::name_number))]
 fn repeats_name(s: &Stream, t: &Stream) -> bool
     ensures { result ≡ repeats s.now t.now }
 {
@@ -137,7 +137,7 @@ fn repeats_name(s: &Stream, t: &Stream) -> bool
 }
 
 /// Whether two names are the same.
-#[tactic(auto, unfolding(cli_format::specs::Streams::name_number))]
+#[tactic(auto, unfolding(il_base::specs::cli_format::Streams::name_number))]
 pub fn is_same(a: StreamName, b: StreamName) -> bool
     ensures { result ≡ (name_number a == name_number b) }
 {
@@ -175,7 +175,7 @@ fn is_fresh(s: &Stream, earlier: &[Stream]) -> bool
 }
 
 /// The number of a name, below 5 where II.24.2.2 describes it.
-#[tactic(auto, unfolding(cli_format::specs::Streams::name_number))]
+#[tactic(auto, unfolding(il_base::specs::cli_format::Streams::name_number))]
 fn number_of(name: StreamName) -> u8
     ensures { result ≡ name_number name }
 {
@@ -235,7 +235,7 @@ pub fn take_bytes(s: &Stream, taken: &mut Vec<bool>)
 }
 
 /// A stream lies in the metadata, stands beside the earlier ones, and isn't `#-`.
-#[tactic(auto, unfolding(cli_format::specs::Metadata::stream_fits))]
+#[tactic(auto, unfolding(il_base::specs::cli_format::Metadata::stream_fits))]
 fn fits_stream(bytes: &[u8], s: &Stream, earlier: &[Stream], taken: &[bool]) -> bool
     requires taken { AreTaken earlier.now taken.now }
     requires size { length taken.now ≡ length bytes.now }
@@ -248,7 +248,7 @@ fn fits_stream(bytes: &[u8], s: &Stream, earlier: &[Stream], taken: &[bool]) -> 
 }
 
 /// The stream whose header is at a place, behind earlier ones.
-#[tactic(auto, using(cli_format::proofs::Faults::faults), unfolding(cli_format::specs::Metadata::stream_demands, cli_format::specs::Metadata::header_fits))]
+#[tactic(auto, using(il_base::proofs::lemmas::cli_format::Faults::faults), unfolding(il_base::specs::cli_format::Metadata::stream_demands, il_base::specs::cli_format::Metadata::header_fits))]
 pub fn read_stream(
     bytes: &[u8],
     base: u32,

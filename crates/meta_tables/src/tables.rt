@@ -1,11 +1,11 @@
 ghost use Rattle.std.specs.Prelude.{◌≡◌, ◌+◌, ◌-◌, ◌<◌, ◌≤◌, ◌^◌, ◌==◌, ◌&&◌, length, IfSome};
 ghost use Rattle.std.specs.Option.{option_map};
-ghost use Rattle.cli_format.specs.declared.stream.StreamName.TheVariants.{Strings, Blobs, UserStrings, Guids};
-ghost use Rattle.cli_format.specs.Demand.{Checked, number};
-ghost use Rattle.cli_format.specs.Streams.{heap};
-ghost use Rattle.cli_format.specs.Heaps.{string_of, blob_of, user_string_of, guid_of};
-ghost use Rattle.cli_format.specs.Tables.{cell_of};
-ghost use Rattle.cli_format.specs.Metadata.{Read, form_demands, content_demands, heap_demands, tables_demands, tables_stream, tables_base, table_rows};
+ghost use Rattle.il_base.specs.declared.cli_format.stream.StreamName.TheVariants.{Strings, Blobs, UserStrings, Guids};
+ghost use Rattle.il_base.specs.cli_format.Demand.{Checked, number};
+ghost use Rattle.il_base.specs.cli_format.Streams.{heap};
+ghost use Rattle.il_base.specs.cli_format.Heaps.{string_of, blob_of, user_string_of, guid_of};
+ghost use Rattle.il_base.specs.cli_format.Tables.{cell_of};
+ghost use Rattle.il_base.specs.cli_format.Metadata.{Read, form_demands, content_demands, heap_demands, tables_demands, tables_stream, tables_base, table_rows};
 ghost use Rattle.meta_tables.specs.Places.{row_offset_of};
 
 use crate::directory::Streams;
@@ -13,7 +13,7 @@ use crate::heaps::{blob_item, guid_item, text_item, user_item};
 use crate::layout::Layout;
 use crate::refuse::need;
 use crate::texts::Texts;
-use cli_format::{BAD_HEAP, StreamName, TablesError, u8_in};
+use il_base::cli_format::{BAD_HEAP, StreamName, TablesError, u8_in};
 use std::alloc::Global;
 use std::marker::Model;
 
@@ -32,10 +32,10 @@ pub struct Tables<'a> {
 
 impl<'a> Model for Tables<'a> {
     ghost use Rattle.std.specs.Prelude.{◌≡◌, ◌+◌, ◌<◌, ◌≤◌, ◌^◌, ℕ, List, length};
-    ghost use Rattle.cli_format.specs.declared.stream.StreamName.TheVariants as names;
-    ghost use Rattle.cli_format.specs.Streams.{heap, heap_place};
-    ghost use Rattle.cli_format.specs.Tables.{table_place};
-    ghost use Rattle.cli_format.specs.Metadata.{tables_stream};
+    ghost use Rattle.il_base.specs.declared.cli_format.stream.StreamName.TheVariants as names;
+    ghost use Rattle.il_base.specs.cli_format.Streams.{heap, heap_place};
+    ghost use Rattle.il_base.specs.cli_format.Tables.{table_place};
+    ghost use Rattle.il_base.specs.cli_format.Metadata.{tables_stream};
 
     ghost Value = { List ℕ };
 
@@ -47,7 +47,7 @@ impl<'a> Model for Tables<'a> {
 impl<'a> Tables<'a> {
     /// The tables of the metadata, whose root is at the place `base` of the file. A refusal is that of the first
     /// demand that fails; `Rows` stands among them for a table with too many rows.
-    #[tactic(auto, using(cli_format::proofs::Faults::refusals), unfolding(cli_format::specs::Metadata::tables_demands))]
+    #[tactic(auto, using(il_base::proofs::lemmas::cli_format::Faults::refusals), unfolding(il_base::specs::cli_format::Metadata::tables_demands))]
     pub fn read(alloc: Global, bytes: &'a [u8], base: u32) -> Result<Tables<'a>, TablesError>
         requires { base + length bytes.now < 2 ^ 32 }
         ensures { Read result (tables_demands bytes.now base) bytes.now }
@@ -58,7 +58,7 @@ impl<'a> Tables<'a> {
     }
 
     /// What the rows demand.
-    #[tactic(auto, using(cli_format::proofs::Faults::refusals), unfolding(cli_format::specs::Metadata::content_demands))]
+    #[tactic(auto, using(il_base::proofs::lemmas::cli_format::Faults::refusals), unfolding(il_base::specs::cli_format::Metadata::content_demands))]
     fn check_content(&self, alloc: Global, base: u32) -> Result<(), TablesError>
         requires { base + length self.now < 2 ^ 32 }
         ensures { Read result (content_demands self.now base) tt }
@@ -86,7 +86,7 @@ impl<'a> Tables<'a> {
 
     /// The place in the file of a row of a table, counted from 1, where the metadata's root is at `base`. None where the
     /// table doesn't have that row.
-    #[tactic(auto, unfolding(cli_format::specs::Metadata::tables_base, cli_format::specs::Tables::names_row))]
+    #[tactic(auto, unfolding(il_base::specs::cli_format::Metadata::tables_base, il_base::specs::cli_format::Tables::names_row))]
     pub fn row_offset(&self, base: u32, table: u8, row: u32) -> Option<u32>
         requires { base + length self.now < 2 ^ 32 }
         ensures { result ≡ row_offset_of self.now base table row }
@@ -135,7 +135,7 @@ impl<'a> Tables<'a> {
 }
 
 /// Tables whose form is as it should be.
-#[tactic(auto, using(cli_format::proofs::Faults::refusals), unfolding(cli_format::specs::Metadata::form_demands, cli_format::specs::Metadata::tables_base))]
+#[tactic(auto, using(il_base::proofs::lemmas::cli_format::Faults::refusals), unfolding(il_base::specs::cli_format::Metadata::form_demands, il_base::specs::cli_format::Metadata::tables_base))]
 fn read_form<'a>(alloc: Global, bytes: &'a [u8], base: u32) -> Result<Tables<'a>, TablesError>
     requires { base + length bytes.now < 2 ^ 32 }
     ensures { Read result (form_demands bytes.now base) bytes.now }
@@ -158,7 +158,7 @@ fn read_form<'a>(alloc: Global, bytes: &'a [u8], base: u32) -> Result<Tables<'a>
 }
 
 /// `#Strings` begins and ends with a zero, `#Blob` and `#US` begin with one, where they aren't empty.
-#[tactic(auto, using(cli_format::proofs::Faults::faults), unfolding(cli_format::specs::Metadata::heap_demands))]
+#[tactic(auto, using(il_base::proofs::lemmas::cli_format::Faults::faults), unfolding(il_base::specs::cli_format::Metadata::heap_demands))]
 fn check_heaps(streams: &Streams, base: u32) -> Result<(), TablesError>
     requires { base + length streams.now < 2 ^ 32 }
     ensures { Checked result (heap_demands streams.now base) tt }

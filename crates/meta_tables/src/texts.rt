@@ -1,5 +1,5 @@
 ghost use Rattle.std.specs.Prelude.{◌≡◌, ◌≢◌, ℕ, ◌+◌, ◌<◌, ◌≤◌, ◌&&◌, nat_le, nat_lt, length, drop, is_some, false, IfOk, if◌then◌else◌};
-ghost use Rattle.cli_format.specs.Heaps.{text_at, string_of};
+ghost use Rattle.il_base.specs.cli_format.Heaps.{text_at, string_of};
 ghost use Rattle.meta_tables.specs.Held.{AreGood, AreTails, IsLead};
 
 use crate::heaps::is_text;

@@ -1,20 +1,20 @@
 //! The demands on rows: what their cells name is there.
 
 ghost use Rattle.std.specs.Prelude.{◌≡◌, ◌+◌, ◌-◌, ◌<◌, ◌≤◌, ◌^◌, length, is_some};
-ghost use Rattle.cli_format.specs.declared.stream.StreamName.TheVariants.{Strings};
-ghost use Rattle.cli_format.specs.Columns.{columns_of};
-ghost use Rattle.cli_format.specs.Demand.{Checked, each_below};
-ghost use Rattle.cli_format.specs.Streams.{heap};
-ghost use Rattle.cli_format.specs.Heaps.{blob_of};
-ghost use Rattle.cli_format.specs.Tables.{rows_of, width, column_of, cell_number};
-ghost use Rattle.cli_format.specs.Metadata.{names_item, why_not, cell_offset, cell_demands, row_demands, table_demands, tables_stream};
+ghost use Rattle.il_base.specs.declared.cli_format.stream.StreamName.TheVariants.{Strings};
+ghost use Rattle.il_base.specs.cli_format.Columns.{columns_of};
+ghost use Rattle.il_base.specs.cli_format.Demand.{Checked, each_below};
+ghost use Rattle.il_base.specs.cli_format.Streams.{heap};
+ghost use Rattle.il_base.specs.cli_format.Heaps.{blob_of};
+ghost use Rattle.il_base.specs.cli_format.Tables.{rows_of, width, column_of, cell_number};
+ghost use Rattle.il_base.specs.cli_format.Metadata.{names_item, why_not, cell_offset, cell_demands, row_demands, table_demands, tables_stream};
 
 use crate::heaps::blob_item;
 use crate::layout::column_at;
 use crate::refuse::need;
 use crate::tables::Tables;
 use crate::texts::Texts;
-use cli_format::{BAD_HEAP, Column, ROW_OUT_OF_RANGE, TablesError, columns};
+use il_base::cli_format::{BAD_HEAP, Column, ROW_OUT_OF_RANGE, TablesError, columns};
 
 impl<'a> Tables<'a> {
     /// The number in a cell of a row that is there: the row is counted from 1, the column from 0. It takes as many bytes as
@@ -30,7 +30,7 @@ impl<'a> Tables<'a> {
     }
 
     /// The place of a cell in the file.
-    #[tactic(auto, unfolding(cli_format::specs::Metadata::cell_offset, cli_format::specs::Metadata::tables_base))]
+    #[tactic(auto, unfolding(il_base::specs::cli_format::Metadata::cell_offset, il_base::specs::cli_format::Metadata::tables_base))]
     pub(crate) fn offset(&self, base: u32, table: u8, row: u32, column: usize) -> usize
         requires small { base + length self.now < 2 ^ 32 }
         requires table { table < 45 }
@@ -44,7 +44,7 @@ impl<'a> Tables<'a> {
     }
 
     /// Whether what a number in a column names is there.
-    #[tactic(auto, unfolding(cli_format::specs::Metadata::names_item))]
+    #[tactic(auto, unfolding(il_base::specs::cli_format::Metadata::names_item))]
     fn has_item(&self, texts: &Texts, column: Column, n: u32) -> bool
         requires { texts.now ≡ heap self.now Strings }
         ensures { result ≡ names_item self.now column n }
@@ -65,7 +65,7 @@ impl<'a> Tables<'a> {
     }
 
     /// What a cell names is there. The row is counted from 0.
-    #[tactic(auto, unfolding(cli_format::specs::Metadata::cell_demands))]
+    #[tactic(auto, unfolding(il_base::specs::cli_format::Metadata::cell_demands))]
     fn check_cell(
         &self,
         texts: &Texts,
@@ -93,7 +93,7 @@ impl<'a> Tables<'a> {
     }
 
     /// What the cells of a row name is there. The row is counted from 0.
-    #[tactic(auto, using(cli_format::proofs::Faults::faults), unfolding(cli_format::specs::Metadata::row_demands))]
+    #[tactic(auto, using(il_base::proofs::lemmas::cli_format::Faults::faults), unfolding(il_base::specs::cli_format::Metadata::row_demands))]
     fn check_row(&self, texts: &Texts, base: u32, table: u8, row: u32) -> Result<(), TablesError>
         requires texts { texts.now ≡ heap self.now Strings }
         requires small { base + length self.now < 2 ^ 32 }
@@ -112,7 +112,7 @@ impl<'a> Tables<'a> {
     }
 
     /// What the cells of a table name is there.
-    #[tactic(auto, using(cli_format::proofs::Faults::faults), unfolding(cli_format::specs::Metadata::table_demands))]
+    #[tactic(auto, using(il_base::proofs::lemmas::cli_format::Faults::faults), unfolding(il_base::specs::cli_format::Metadata::table_demands))]
     fn check_table(&self, texts: &Texts, base: u32, table: u8) -> Result<(), TablesError>
         requires texts { texts.now ≡ heap self.now Strings }
         requires small { base + length self.now < 2 ^ 32 }
@@ -129,7 +129,7 @@ impl<'a> Tables<'a> {
     }
 
     /// What the cells of all tables name is there.
-    #[tactic(auto, using(cli_format::proofs::Faults::faults))]
+    #[tactic(auto, using(il_base::proofs::lemmas::cli_format::Faults::faults))]
     pub(crate) fn check_cells(&self, texts: &Texts, base: u32) -> Result<(), TablesError>
         requires texts { texts.now ≡ heap self.now Strings }
         requires small { base + length self.now < 2 ^ 32 }
@@ -153,7 +153,7 @@ fn has_blob(heap: &[u8], at: usize) -> bool
 }
 
 /// Why a cell of a column is refused.
-#[tactic(auto, unfolding(cli_format::specs::Metadata::why_not))]
+#[tactic(auto, unfolding(il_base::specs::cli_format::Metadata::why_not))]
 fn why(column: Column) -> u8
     ensures { result ≡ why_not column }
 {

@@ -1,9 +1,9 @@
 -- What has reference rows, over what code holds.
 use Rattle.std.specs.Prelude.{◌≡◌, List, map}
-use Rattle.world_model.specs.declared.record.AsmRec.{AsmRec}
-use Rattle.merge_rules.specs.Order.{Met}
-use Rattle.merge_rules.specs.Refs.{type_refs, type_specs, member_refs, method_specs, locals_sigs}
-use Rattle.key_codes.specs.Keys as coded
+use Rattle.il_base.specs.declared.world_model.record.AsmRec.{AsmRec}
+use Rattle.rules.specs.merge_rules.Order.{Met}
+use Rattle.rules.specs.merge_rules.Refs.{type_refs, type_specs, member_refs, method_specs, locals_sigs}
+use Rattle.token_keys.specs.key_codes.Keys as coded
 use Rattle.output_references.specs.declared.references.OutputReferences.{OutputReferences}
 
 pub record AreReferencesOf (recs : List AsmRec) (mets : List Met) (r : OutputReferences) : Type 0 where

@@ -1,19 +1,19 @@
 //! What is met, in order.
 
 ghost use Rattle.std.specs.Prelude.{◌≡◌, ◌++◌, map, IfOk};
-ghost use Rattle.mark_tables.specs.Assemblies.{all_of};
-ghost use Rattle.merge_rules.specs.Order.{met_by_types};
+ghost use Rattle.mark_parts.specs.mark_tables.Assemblies.{all_of};
+ghost use Rattle.rules.specs.merge_rules.Order.{met_by_types};
 ghost use Rattle.merge_plan.specs.Kept.{kept_by};
-ghost use Rattle.world_keys.specs.Keys.{IsWorldKeys};
-ghost use Rattle.merged_attributes.specs.Attributes.{told, met_by};
+ghost use Rattle.token_keys.specs.world_keys.Keys.{IsWorldKeys};
+ghost use Rattle.member_rows.specs.merged_attributes.Attributes.{told, met_by};
 
+use crate::met_order::types::met_by_types;
 use il_base::NoMemory;
+use member_rows::merged_attributes::{Attribute, meet_attributes};
 use merge_plan::KeptItems;
-use merged_attributes::{Attribute, meet_attributes};
-use met_forms::Mets;
-use met_order::types::met_by_types;
 use std::alloc::Global;
-use world_keys::WorldKeys;
+use token_keys::met_forms::Mets;
+use token_keys::world_keys::WorldKeys;
 
 /// What the kept types and their members refer to, then what the attributes do.
 pub fn output_mets(

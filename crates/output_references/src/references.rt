@@ -1,23 +1,23 @@
 //! What has reference rows.
 
 ghost use Rattle.std.specs.Prelude.{◌≡◌, map, IfOk};
-ghost use Rattle.mark_tables.specs.Assemblies.{all_of};
-ghost use Rattle.met_forms.specs.Told.{met_told};
-ghost use Rattle.reference_scopes.specs.Scopes.{IsScopes, recs_of};
-ghost use Rattle.world_keys.specs.Keys.{IsWorldKeys};
+ghost use Rattle.mark_parts.specs.mark_tables.Assemblies.{all_of};
+ghost use Rattle.token_keys.specs.met_forms.Told.{met_told};
+ghost use Rattle.reference_rows.specs.reference_scopes.Scopes.{IsScopes, recs_of};
+ghost use Rattle.token_keys.specs.world_keys.Keys.{IsWorldKeys};
 ghost use Rattle.output_references.specs.References.{AreReferencesOf};
 
+use crate::reference_types::{locals_sigs, member_refs, method_specs, type_refs, type_specs};
 use il_base::NoMemory;
-use met_forms::{Met, Mets};
-use met_keys::instances::MetInstances;
-use met_keys::lists::MetLists;
-use met_keys::members::MetMembers;
-use met_keys::sigs::MetSigs;
-use met_keys::types::MetTypes;
-use reference_scopes::scopes::Scopes;
-use reference_types::{locals_sigs, member_refs, method_specs, type_refs, type_specs};
+use reference_rows::reference_scopes::scopes::Scopes;
 use std::alloc::Global;
-use world_keys::WorldKeys;
+use token_keys::met_forms::{Met, Mets};
+use token_keys::met_keys::instances::MetInstances;
+use token_keys::met_keys::lists::MetLists;
+use token_keys::met_keys::members::MetMembers;
+use token_keys::met_keys::sigs::MetSigs;
+use token_keys::met_keys::types::MetTypes;
+use token_keys::world_keys::WorldKeys;
 
 /// What has reference rows, each once, in the order in which it is met.
 #[derive(Drop)]

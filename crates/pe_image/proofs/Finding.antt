@@ -2,10 +2,10 @@
 use Rattle.std.proofs.Common.{◌≡◌, ℕ, zero, suc, ◌+◌, ◌-◌, ◌<◌, ◌≤◌, Bool, true, false, cond, List, length, Option, Some, None, refl, sym, arith}
 use Rattle.std.specs.Prelude.{IfSome}
 use Rattle.std.proofs.lemmas.Bool.Decides.{nat_tests}
-use Rattle.cli_format.specs.declared.section.Section.{Section}
-use Rattle.cli_format.specs.Demand.{first_fault, within}
-use Rattle.cli_format.specs.Image.{nth_section, section_place, sections_from, section_of, sections_of, section_count, sections_demands, section_demands, covers}
-use Rattle.cli_format.proofs.Faults.{held_below, none_of_both, one_held}
+use Rattle.il_base.specs.declared.cli_format.section.Section.{Section}
+use Rattle.il_base.specs.cli_format.Demand.{first_fault, within}
+use Rattle.il_base.specs.cli_format.Image.{nth_section, section_place, sections_from, section_of, sections_of, section_count, sections_demands, section_demands, covers}
+use Rattle.il_base.proofs.lemmas.cli_format.Faults.{held_below, none_of_both, one_held}
 
 found_step : (b : Bool) (x y : Option Section) → b ≡ false → cond b x y ≡ y
 found_step true x y h = absurd cc

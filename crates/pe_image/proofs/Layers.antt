@@ -4,7 +4,7 @@ use Rattle.std.specs.Prelude.{nat_le, nat_lt}
 use Rattle.std.specs.Option.{option_or}
 use Rattle.std.proofs.lemmas.Bool.Decides.{nat_tests}
 use Rattle.std.proofs.lemmas.List.{append_assoc}
-use Rattle.cli_format.specs.declared.section.Section.{Section}
+use Rattle.il_base.specs.declared.cli_format.section.Section.{Section}
 use Rattle.pe_image.specs.declared.stretches.Stretch.{Stretch}
 use Rattle.pe_image.specs.Stretches.{found, AreAscending, both, is_upper_next, under, until, overlay}
 

@@ -4,8 +4,8 @@ use Rattle.std.specs.Prelude.{nat_le, nat_lt, ◌&&◌}
 use Rattle.std.specs.Option.{option_or}
 use Rattle.std.specs.List.Sorted.{IsNonDecreasingBy}
 use Rattle.std.proofs.lemmas.Bool.Decides.{nat_tests}
-use Rattle.cli_format.specs.declared.section.Section.{Section}
-use Rattle.cli_format.specs.Image.{nth_section, sections_from, section_of, sections_of, section_count, covers}
+use Rattle.il_base.specs.declared.cli_format.section.Section.{Section}
+use Rattle.il_base.specs.cli_format.Image.{nth_section, sections_from, section_of, sections_of, section_count, covers}
 use Rattle.pe_image.specs.declared.stretches.Stretch.{Stretch}
 use Rattle.pe_image.specs.Stretches.{found, AreAscending, AreOf, overlay}
 use Rattle.pe_image.proofs.Layers.{overlay_found, overlay_order}

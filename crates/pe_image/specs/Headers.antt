@@ -1,6 +1,6 @@
 -- What the headers of a file give.
 use Rattle.std.specs.Prelude.{ℕ, List}
-use Rattle.cli_format.specs.Image.{sections_place, section_count, directory_place, subsystem_of}
+use Rattle.il_base.specs.cli_format.Image.{sections_place, section_count, directory_place, subsystem_of}
 use Rattle.pe_image.specs.declared.headers.Headers.{Headers}
 
 -- where its sections and directory 14 are

@@ -1,8 +1,8 @@
 -- Stretches of memory in ascending order: of each, where it begins and the first section that holds it (II.25.3).
 use Rattle.std.specs.Prelude.{◌≡◌, ℕ, ◌≤◌, Bool, true, false, nat_le, nat_lt, List, [], ◌∷◌, Option, None, if◌then◌else◌}
 use Rattle.std.specs.Option.{option_or}
-use Rattle.cli_format.specs.declared.section.Section.{Section}
-use Rattle.cli_format.specs.Image.{sections_from, section_of}
+use Rattle.il_base.specs.declared.cli_format.section.Section.{Section}
+use Rattle.il_base.specs.cli_format.Image.{sections_from, section_of}
 use Rattle.pe_image.specs.declared.stretches.Stretch.{Stretch}
 
 -- the section at an RVA among stretches, behind one whose section is known

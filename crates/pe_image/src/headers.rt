@@ -1,11 +1,11 @@
 ghost use Rattle.std.specs.Prelude.{◌≡◌, ◌+◌, ◌<◌, ◌^◌, ◌==◌, ◌||◌, ◌≤◌, length, None, IfOk};
-ghost use Rattle.cli_format.specs.Demand.{Checked, first_fault};
+ghost use Rattle.il_base.specs.cli_format.Demand.{Checked, first_fault};
 ghost use Rattle.pe_image.specs.Headers.{headers_of};
-ghost use Rattle.cli_format.specs.Image.{signature_place, signature_demands, optional_place, magic_demands, directory_place, directory_demands, directory_count_place, is_wide, header_demands, sections_demands, subsystem_of, sections_place, section_count};
+ghost use Rattle.il_base.specs.cli_format.Image.{signature_place, signature_demands, optional_place, magic_demands, directory_place, directory_demands, directory_count_place, is_wide, header_demands, sections_demands, subsystem_of, sections_place, section_count};
 
 use crate::sections::check_sections;
-use cli_format::{NO_CLI, NOT_PE, need, need_bytes, u16_in, u32_in};
 use il_base::BadAt;
+use il_base::cli_format::{NO_CLI, NOT_PE, need, need_bytes, u16_in, u32_in};
 
 /// The magic of an optional header of PE32 (II.25.2.3.1).
 const PE32: u16 = 0x10b;
@@ -14,7 +14,7 @@ const PE32: u16 = 0x10b;
 const PE32_PLUS: u16 = 0x20b;
 
 /// The place of the PE signature, which the DOS header gives (II.25.2.1).
-#[tactic(auto, using(cli_format::proofs::Faults::faults), unfolding(cli_format::specs::Image::signature_place, cli_format::specs::Image::signature_demands))]
+#[tactic(auto, using(il_base::proofs::lemmas::cli_format::Faults::faults), unfolding(il_base::specs::cli_format::Image::signature_place, il_base::specs::cli_format::Image::signature_demands))]
 pub fn find_signature(bytes: &[u8]) -> Result<u32, BadAt>
     requires { length bytes.now < 2 ^ 32 }
     ensures { Checked result (signature_demands bytes.now) (signature_place bytes.now) }
@@ -32,7 +32,7 @@ pub fn find_signature(bytes: &[u8]) -> Result<u32, BadAt>
 }
 
 /// The place of the optional header, behind the signature and the COFF header (II.25.2.3).
-#[tactic(auto, using(cli_format::proofs::Faults::faults), unfolding(cli_format::specs::Image::optional_place, cli_format::specs::Image::magic_demands, cli_format::specs::Image::is_wide))]
+#[tactic(auto, using(il_base::proofs::lemmas::cli_format::Faults::faults), unfolding(il_base::specs::cli_format::Image::optional_place, il_base::specs::cli_format::Image::magic_demands, il_base::specs::cli_format::Image::is_wide))]
 pub fn find_optional(bytes: &[u8], signature: u32) -> Result<usize, BadAt>
     requires small { length bytes.now < 2 ^ 32 }
     requires place { signature ≡ signature_place bytes.now }
@@ -52,7 +52,7 @@ fn is_magic(magic: u16) -> bool
 }
 
 /// The place of directory 14, the CLI header's (II.25.2.3.3).
-#[tactic(auto, using(cli_format::proofs::Faults::faults), unfolding(cli_format::specs::Image::directory_place, cli_format::specs::Image::directory_demands))]
+#[tactic(auto, using(il_base::proofs::lemmas::cli_format::Faults::faults), unfolding(il_base::specs::cli_format::Image::directory_place, il_base::specs::cli_format::Image::directory_demands))]
 pub fn find_directory(bytes: &[u8], optional: usize) -> Result<usize, BadAt>
     requires small { length bytes.now < 2 ^ 32 }
     requires place { optional ≡ optional_place bytes.now }
@@ -70,7 +70,7 @@ pub fn find_directory(bytes: &[u8], optional: usize) -> Result<usize, BadAt>
 }
 
 /// The place of the number of directories, which lies 16 bytes further in PE32+.
-#[tactic(auto, unfolding(cli_format::specs::Image::directory_count_place, cli_format::specs::Image::is_wide))]
+#[tactic(auto, unfolding(il_base::specs::cli_format::Image::directory_count_place, il_base::specs::cli_format::Image::is_wide))]
 fn count_place(bytes: &[u8], optional: usize) -> usize
     requires place { optional ≡ optional_place bytes.now }
     requires reach { optional < 2 ^ 33 }
@@ -98,7 +98,7 @@ pub struct Headers {
 }
 
 /// The headers of a file.
-#[tactic(auto, using(cli_format::proofs::Faults::faults), unfolding(cli_format::specs::Image::header_demands))]
+#[tactic(auto, using(il_base::proofs::lemmas::cli_format::Faults::faults), unfolding(il_base::specs::cli_format::Image::header_demands))]
 pub fn read_headers(bytes: &[u8]) -> Result<Headers, BadAt>
     requires { length bytes.now < 2 ^ 32 }
     ensures checked { Checked result (header_demands bytes.now) (headers_of bytes.now) }
@@ -122,7 +122,7 @@ pub fn read_headers(bytes: &[u8]) -> Result<Headers, BadAt>
 }
 
 /// The place of the first section header, behind the optional header.
-#[tactic(auto, unfolding(cli_format::specs::Image::sections_place))]
+#[tactic(auto, unfolding(il_base::specs::cli_format::Image::sections_place))]
 fn sections_place(bytes: &[u8], signature: u32, optional: usize) -> usize
     requires signature { signature ≡ signature_place bytes.now }
     requires optional { optional ≡ optional_place bytes.now }
@@ -135,7 +135,7 @@ fn sections_place(bytes: &[u8], signature: u32, optional: usize) -> usize
 }
 
 /// The number of sections.
-#[tactic(auto, unfolding(cli_format::specs::Image::section_count))]
+#[tactic(auto, unfolding(il_base::specs::cli_format::Image::section_count))]
 fn section_count(bytes: &[u8], signature: u32) -> u16
     requires { signature ≡ signature_place bytes.now }
     ensures { result ≡ section_count bytes.now }
@@ -143,7 +143,7 @@ fn section_count(bytes: &[u8], signature: u32) -> u16
     u16_in(bytes, signature as usize + 6)
 }
 
-#[tactic(auto, unfolding(cli_format::specs::Image::subsystem_of))]
+#[tactic(auto, unfolding(il_base::specs::cli_format::Image::subsystem_of))]
 fn subsystem_in(bytes: &[u8], optional: usize) -> u16
     requires optional { optional ≡ optional_place bytes.now }
     requires reach { optional < 2 ^ 32 }

@@ -1,12 +1,12 @@
 ghost use Rattle.std.specs.Prelude.{◌≡◌, ◌+◌, ◌<◌, ◌≤◌, ◌^◌, ◌||◌, length, None, Some, IfOk, IfSome, is_some, unwrap_or};
 ghost use Rattle.std.specs.Option.{option_map};
-ghost use Rattle.cli_format.specs.Demand.{Checked, demand, bad};
-ghost use Rattle.cli_format.specs.Image.{image_demands, image_at, image_place, image_tail, metadata_of, metadata_place_of, entry_token_of, cli_flags_of, subsystem_of, resources_of, sections_place, section_count, cli_place, directory_place, cli_demands, il_only_demands, metadata_demands, metadata_place_in, metadata_size, mapped};
+ghost use Rattle.il_base.specs.cli_format.Demand.{Checked, demand, bad};
+ghost use Rattle.il_base.specs.cli_format.Image.{image_demands, image_at, image_place, image_tail, metadata_of, metadata_place_of, entry_token_of, cli_flags_of, subsystem_of, resources_of, sections_place, section_count, cli_place, directory_place, cli_demands, il_only_demands, metadata_demands, metadata_place_in, metadata_size, mapped};
 
 use crate::headers::read_headers;
 use crate::sections::{Sections, part};
-use cli_format::{BAD_RVA, NATIVE, NO_CLI, NOT_IL_ONLY, need, u32_in, u64_in};
 use il_base::BadAt;
+use il_base::cli_format::{BAD_RVA, NATIVE, NO_CLI, NOT_IL_ONLY, need, u32_in, u64_in};
 use std::marker::Model;
 
 /// The PE image of a file (II.25). Contracts see the bytes of the file.
@@ -20,7 +20,7 @@ pub struct Image<'a> {
 
 impl<'a> Model for Image<'a> {
     ghost use Rattle.std.specs.Prelude.{◌≡◌, ◌+◌, ◌≤◌, ℕ, List, Some, length};
-    ghost use Rattle.cli_format.specs.Image.{cli_place, metadata_place_in, metadata_size, subsystem_of};
+    ghost use Rattle.il_base.specs.cli_format.Image.{cli_place, metadata_place_in, metadata_size, subsystem_of};
 
     ghost Value = { List ℕ };
 
@@ -31,7 +31,7 @@ impl<'a> Model for Image<'a> {
 
 impl<'a> Image<'a> {
     /// The image of a file. A refusal is that of the first demand that fails.
-    #[tactic(auto, using(cli_format::proofs::Faults::faults), unfolding(cli_format::specs::Image::image_demands))]
+    #[tactic(auto, using(il_base::proofs::lemmas::cli_format::Faults::faults), unfolding(il_base::specs::cli_format::Image::image_demands))]
     pub fn read(bytes: &'a [u8]) -> Result<Image<'a>, BadAt>
         requires { length bytes.now < 2 ^ 32 }
         ensures { Checked result (image_demands bytes.now) bytes.now }
@@ -79,7 +79,7 @@ impl<'a> Image<'a> {
     }
 
     /// The bytes of the metadata (II.24).
-    #[tactic(auto, unfolding(cli_format::specs::Image::metadata_of, cli_format::specs::Image::metadata_place_of, cli_format::specs::Image::metadata_size))]
+    #[tactic(auto, unfolding(il_base::specs::cli_format::Image::metadata_of, il_base::specs::cli_format::Image::metadata_place_of, il_base::specs::cli_format::Image::metadata_size))]
     pub fn metadata(&self) -> &'a [u8]
         ensures value { result.now ≡ metadata_of self.now }
         ensures within { metadata_place_of self.now + length result.now ≤ length self.now }
@@ -90,7 +90,7 @@ impl<'a> Image<'a> {
     }
 
     /// The place of the metadata in the file.
-    #[tactic(auto, unfolding(cli_format::specs::Image::metadata_place_of))]
+    #[tactic(auto, unfolding(il_base::specs::cli_format::Image::metadata_place_of))]
     pub fn metadata_place(&self) -> u32
         ensures { result ≡ metadata_place_of self.now }
     {
@@ -98,7 +98,7 @@ impl<'a> Image<'a> {
     }
 
     /// The entry point's token (II.25.3.3), 0 where there is none.
-    #[tactic(auto, unfolding(cli_format::specs::Image::entry_token_of))]
+    #[tactic(auto, unfolding(il_base::specs::cli_format::Image::entry_token_of))]
     pub fn entry_token(&self) -> u32
         ensures { result ≡ entry_token_of self.now }
     {
@@ -106,7 +106,7 @@ impl<'a> Image<'a> {
     }
 
     /// The flags of the CLI header (II.25.3.3.1).
-    #[tactic(auto, unfolding(cli_format::specs::Image::cli_flags_of))]
+    #[tactic(auto, unfolding(il_base::specs::cli_format::Image::cli_flags_of))]
     pub fn cli_flags(&self) -> u32
         ensures { result ≡ cli_flags_of self.now }
     {
@@ -121,7 +121,7 @@ impl<'a> Image<'a> {
     }
 
     /// The resources (II.25.3.3). None where their RVA is 0 or the range isn't mapped.
-    #[tactic(auto, unfolding(cli_format::specs::Image::resources_of))]
+    #[tactic(auto, unfolding(il_base::specs::cli_format::Image::resources_of))]
     pub fn resources(&self) -> Option<&'a [u8]>
         ensures { option_map (λ b. b.now) result ≡ resources_of self.now }
     {
@@ -133,7 +133,7 @@ impl<'a> Image<'a> {
 }
 
 /// The place of the CLI header (II.25.3.3).
-#[tactic(auto, using(cli_format::proofs::Faults::faults), unfolding(cli_format::specs::Image::cli_demands, cli_format::specs::Image::cli_place))]
+#[tactic(auto, using(il_base::proofs::lemmas::cli_format::Faults::faults), unfolding(il_base::specs::cli_format::Image::cli_demands, il_base::specs::cli_format::Image::cli_place))]
 fn find_cli(sections: &Sections, directory: usize) -> Result<u32, BadAt>
     requires place { directory ≡ directory_place sections.now }
     requires reach { directory + 4 ≤ length sections.now }
@@ -147,7 +147,7 @@ fn find_cli(sections: &Sections, directory: usize) -> Result<u32, BadAt>
 }
 
 /// The image has IL only (II.25.3.3.1), neither VTableFixups nor a ManagedNativeHeader.
-#[tactic(auto, using(cli_format::proofs::Faults::faults), unfolding(cli_format::specs::Image::il_only_demands, cli_format::specs::Image::cli_flags_of))]
+#[tactic(auto, using(il_base::proofs::lemmas::cli_format::Faults::faults), unfolding(il_base::specs::cli_format::Image::il_only_demands, il_base::specs::cli_format::Image::cli_flags_of))]
 fn check_il_only(bytes: &[u8], cli: u32) -> Result<(), BadAt>
     requires small { length bytes.now < 2 ^ 32 }
     requires place { cli ≡ cli_place bytes.now }
@@ -164,7 +164,7 @@ fn check_il_only(bytes: &[u8], cli: u32) -> Result<(), BadAt>
 }
 
 /// The place of the metadata (II.24).
-#[tactic(auto, using(cli_format::proofs::Faults::faults), unfolding(cli_format::specs::Image::metadata_demands, cli_format::specs::Image::metadata_place_in, cli_format::specs::Image::metadata_place_of, cli_format::specs::Image::metadata_size))]
+#[tactic(auto, using(il_base::proofs::lemmas::cli_format::Faults::faults), unfolding(il_base::specs::cli_format::Image::metadata_demands, il_base::specs::cli_format::Image::metadata_place_in, il_base::specs::cli_format::Image::metadata_place_of, il_base::specs::cli_format::Image::metadata_size))]
 fn find_metadata(sections: &Sections, cli: u32) -> Result<u32, BadAt>
     requires place { cli ≡ cli_place sections.now }
     requires reach { cli + 72 ≤ length sections.now }
@@ -180,7 +180,7 @@ fn find_metadata(sections: &Sections, cli: u32) -> Result<u32, BadAt>
 }
 
 /// The place that was found, or the refusal of a directory at an offset that isn't mapped.
-#[tactic(auto, unfolding(cli_format::specs::Demand::demand, cli_format::specs::Demand::first_fault))]
+#[tactic(auto, unfolding(il_base::specs::cli_format::Demand::demand, il_base::specs::cli_format::Demand::first_fault))]
 fn need_mapped(found: Option<u32>, offset: usize) -> Result<u32, BadAt>
     requires { offset < 2 ^ 32 }
     ensures checked { Checked result (demand (is_some found) (bad offset BAD_RVA)) (unwrap_or found 0) }

@@ -1,6 +1,6 @@
 ghost use Rattle.std.specs.Prelude.{◌≡◌, ◌<◌, ◌^◌, length, IfOk, IfSome};
 ghost use Rattle.std.specs.Option.{option_map};
-ghost use Rattle.cli_format.specs.Image.{image_at, image_tail};
+ghost use Rattle.il_base.specs.cli_format.Image.{image_at, image_tail};
 
 use crate::image::Image;
 use crate::stretches::{Stretch, find};
@@ -20,7 +20,7 @@ pub struct ImageMap<'a> {
 
 impl<'a> Model for ImageMap<'a> {
     ghost use Rattle.std.specs.Prelude.{ℕ, List};
-    ghost use Rattle.cli_format.specs.Image.{section_count};
+    ghost use Rattle.il_base.specs.cli_format.Image.{section_count};
     ghost use Rattle.pe_image.specs.Stretches.{AreOf};
 
     ghost Value = { List ℕ };

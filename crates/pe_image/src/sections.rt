@@ -1,11 +1,11 @@
 ghost use Rattle.std.specs.Prelude.{◌≡◌, ◌+◌, ◌*◌, ◌-◌, ◌<◌, ◌≤◌, ◌^◌, length, take, drop, IfSome, IfOk, None};
 ghost use Rattle.std.specs.Option.{option_map, option_and_then};
-ghost use Rattle.cli_format.specs.Demand.{Checked, first_fault};
-ghost use Rattle.cli_format.specs.Image.{section_demands, sections_demands, section_at, nth_section, section_of, sections_of, sections_place, section_count, covers, place_in, mapped, image_at, image_tail, tail_in};
+ghost use Rattle.il_base.specs.cli_format.Demand.{Checked, first_fault};
+ghost use Rattle.il_base.specs.cli_format.Image.{section_demands, sections_demands, section_at, nth_section, section_of, sections_of, sections_place, section_count, covers, place_in, mapped, image_at, image_tail, tail_in};
 ghost use Rattle.pe_image.specs.Stretches.{AreOf};
 
 use crate::stretches::{Stretch, overlay, stretches_of};
-use cli_format::{Section, need_bytes, u32_in};
+use il_base::cli_format::{Section, need_bytes, u32_in};
 use il_base::{BadAt, NoMemory};
 use std::alloc::Global;
 use std::marker::Model;
@@ -21,8 +21,8 @@ pub struct Sections<'a> {
 
 impl<'a> Model for Sections<'a> {
     ghost use Rattle.std.specs.Prelude.{◌≡◌, ℕ, ◌<◌, ◌^◌, List, length, None};
-    ghost use Rattle.cli_format.specs.Demand.{first_fault};
-    ghost use Rattle.cli_format.specs.Image.{sections_demands, sections_place, section_count};
+    ghost use Rattle.il_base.specs.cli_format.Demand.{first_fault};
+    ghost use Rattle.il_base.specs.cli_format.Image.{sections_demands, sections_place, section_count};
 
     ghost Value = { List ℕ };
 
@@ -79,7 +79,7 @@ impl<'a> Sections<'a> {
     }
 
     /// The place in the file of `len` bytes from an RVA whose first section is known.
-    #[tactic(auto, using(crate::proofs::Finding::lying), unfolding(cli_format::specs::Image::mapped))]
+    #[tactic(auto, using(crate::proofs::Finding::lying), unfolding(il_base::specs::cli_format::Image::mapped))]
     fn map_in(&self, section: Option<Section>, rva: u32, len: u32) -> Option<u32>
         requires { section ≡ section_of (sections_of self.now) rva }
         ensures value { result ≡ mapped self.now rva len }
@@ -93,7 +93,7 @@ impl<'a> Sections<'a> {
     }
 
     /// The `len` bytes from an RVA whose first section is known.
-    #[tactic(auto, unfolding(cli_format::specs::Image::image_at))]
+    #[tactic(auto, unfolding(il_base::specs::cli_format::Image::image_at))]
     pub fn at_in(&self, section: Option<Section>, rva: u32, len: u32) -> Option<&'a [u8]>
         requires { section ≡ section_of (sections_of self.now) rva }
         ensures { option_map (λ b. b.now) result ≡ image_at self.now rva len }
@@ -105,7 +105,7 @@ impl<'a> Sections<'a> {
     }
 
     /// The bytes from an RVA whose first section is known to the end of the section's raw bytes.
-    #[tactic(auto, using(crate::proofs::Finding::lying), unfolding(cli_format::specs::Image::image_tail))]
+    #[tactic(auto, using(crate::proofs::Finding::lying), unfolding(il_base::specs::cli_format::Image::image_tail))]
     pub fn tail_in(&self, section: Option<Section>, rva: u32) -> Option<&'a [u8]>
         requires { section ≡ section_of (sections_of self.now) rva }
         ensures value { option_map (λ b. b.now) result ≡ image_tail self.now rva }
@@ -134,7 +134,7 @@ pub fn part(bytes: &[u8], at: usize, len: usize) -> &[u8]
 }
 
 /// The headers of the sections are in the file, and so are their raw bytes.
-#[tactic(auto, using(cli_format::proofs::Faults::faults), unfolding(cli_format::specs::Image::sections_demands))]
+#[tactic(auto, using(il_base::proofs::lemmas::cli_format::Faults::faults), unfolding(il_base::specs::cli_format::Image::sections_demands))]
 pub fn check_sections(bytes: &[u8], place: usize, count: u16) -> Result<(), BadAt>
     requires small { length bytes.now < 2 ^ 32 }
     requires place { place ≡ sections_place bytes.now }
@@ -152,7 +152,7 @@ pub fn check_sections(bytes: &[u8], place: usize, count: u16) -> Result<(), BadA
 }
 
 /// A section's header and its raw bytes are within the file.
-#[tactic(auto, using(cli_format::proofs::Faults::faults), unfolding(cli_format::specs::Image::section_demands, cli_format::specs::Image::section_place))]
+#[tactic(auto, using(il_base::proofs::lemmas::cli_format::Faults::faults), unfolding(il_base::specs::cli_format::Image::section_demands, il_base::specs::cli_format::Image::section_place))]
 fn check_section(bytes: &[u8], place: usize, i: u16) -> Result<(), BadAt>
     requires small { length bytes.now < 2 ^ 32 }
     requires place { place ≡ sections_place bytes.now }
@@ -166,7 +166,7 @@ fn check_section(bytes: &[u8], place: usize, i: u16) -> Result<(), BadAt>
 }
 
 /// The section with a number, from 0.
-#[tactic(auto, unfolding(cli_format::specs::Image::nth_section, cli_format::specs::Image::section_place))]
+#[tactic(auto, unfolding(il_base::specs::cli_format::Image::nth_section, il_base::specs::cli_format::Image::section_place))]
 fn nth(bytes: &[u8], place: usize, i: u16) -> Section
     requires place { place ≡ sections_place bytes.now }
     requires reach { place < 2 ^ 33 }
@@ -205,7 +205,7 @@ fn stretches_from(
 }
 
 /// The section whose header is at a place.
-#[tactic(auto, unfolding(cli_format::specs::Image::section_at))]
+#[tactic(auto, unfolding(il_base::specs::cli_format::Image::section_at))]
 fn section_in(bytes: &[u8], at: usize) -> Section
     requires { at < 2 ^ 34 }
     ensures { result ≡ section_at bytes.now at }
@@ -219,7 +219,7 @@ fn section_in(bytes: &[u8], at: usize) -> Section
 }
 
 /// Whether an RVA lies in the section.
-#[tactic(auto, unfolding(cli_format::specs::Image::covers))]
+#[tactic(auto, unfolding(il_base::specs::cli_format::Image::covers))]
 fn is_covered(section: &Section, rva: u32) -> bool
     ensures { result ≡ covers section.now rva }
 {
@@ -227,7 +227,7 @@ fn is_covered(section: &Section, rva: u32) -> bool
 }
 
 /// The place of `len` bytes from an RVA in its section, where they lie in its raw bytes.
-#[tactic(auto, unfolding(cli_format::specs::Image::place_in))]
+#[tactic(auto, unfolding(il_base::specs::cli_format::Image::place_in))]
 fn place_within(section: &Section, rva: u32, len: u32) -> Option<u32>
     requires covered { section.now.rva ≤ rva }
     requires small { section.now.raw + section.now.raw_size < 2 ^ 32 }
@@ -242,7 +242,7 @@ fn place_within(section: &Section, rva: u32, len: u32) -> Option<u32>
 }
 
 /// The bytes from an RVA to the end of its section's raw bytes.
-#[tactic(auto, unfolding(cli_format::specs::Image::tail_in, cli_format::specs::Image::place_in))]
+#[tactic(auto, unfolding(il_base::specs::cli_format::Image::tail_in, il_base::specs::cli_format::Image::place_in))]
 fn tail_within<'a>(bytes: &'a [u8], section: &Section, rva: u32) -> Option<&'a [u8]>
     requires covered { section.now.rva ≤ rva }
     requires small { section.now.raw + section.now.raw_size ≤ length bytes.now }

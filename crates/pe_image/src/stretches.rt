@@ -1,9 +1,9 @@
 ghost use Rattle.std.specs.Prelude.{◌≡◌, ◌+◌, ◌<◌, ◌^◌, ℕ, length, None, IfOk, IfSome, MatchOption, [], ◌∷◌, Some, cond};
-ghost use Rattle.cli_format.specs.Image.{covers};
+ghost use Rattle.il_base.specs.cli_format.Image.{covers};
 ghost use Rattle.pe_image.specs.Stretches.{found, AreAscending, is_upper_next, overlay};
 
-use cli_format::Section;
 use il_base::NoMemory;
+use il_base::cli_format::Section;
 use std::alloc::Global;
 
 /// A stretch of memory, up to where the next one of its list begins.

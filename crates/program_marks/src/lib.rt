@@ -2,6 +2,7 @@
 //! link gave, an entry method by its row, and the elements of descriptors; what is made of the world once is made here.
 #![tactic(auto)]
 
+pub mod named_world;
 mod needs;
 
 pub use needs::{Needs, needs_of};

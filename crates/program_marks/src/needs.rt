@@ -2,40 +2,40 @@
 
 ghost use Rattle.std.specs.Prelude.{◌≡◌, IfOk};
 ghost use Rattle.std.specs.Option.{option_map};
-ghost use Rattle.link_rules.specs.Linked.{IsWorld};
-ghost use Rattle.mark_tables.specs.Assemblies.{all_of, IsMarker};
+ghost use Rattle.rules.specs.link_rules.Linked.{IsWorld};
+ghost use Rattle.mark_parts.specs.mark_tables.Assemblies.{all_of, IsMarker};
 ghost use Rattle.attribute_values.specs.Tables.{AreAttributeTables};
-ghost use Rattle.mark_rules.specs.Marking.{Marks};
-ghost use Rattle.mark_rules.specs.BadItems.{IsFirstFlaw};
-ghost use Rattle.mark_flaws.specs.Told.{flaw_told};
-ghost use Rattle.mark_flaws.specs.Tables.{AreFlawTables};
-ghost use Rattle.slashed_names.specs.Names.{AreNames};
-ghost use Rattle.descriptor_types.specs.Types.{AreTypes};
-ghost use Rattle.nested_types.specs.Nested.{AreNested};
+ghost use Rattle.rules.specs.mark_rules.Marking.{Marks};
+ghost use Rattle.rules.specs.mark_rules.BadItems.{IsFirstFlaw};
+ghost use Rattle.bad_items.specs.mark_flaws.Told.{flaw_told};
+ghost use Rattle.bad_items.specs.mark_flaws.Tables.{AreFlawTables};
+ghost use Rattle.descriptor_texts.specs.slashed_names.Names.{AreNames};
+ghost use Rattle.descriptor_texts.specs.descriptor_types.Types.{AreTypes};
+ghost use Rattle.descriptor_texts.specs.nested_types.Nested.{AreNested};
 ghost use Rattle.virtual_calls.specs.Slots.{AreSlots};
 ghost use Rattle.mark_roots.specs.Lookups.{IsLookup, recs_in};
 ghost use Rattle.descriptor_file.specs.declared.root.Root.{Root};
 ghost use Rattle.std.specs.Prelude.{List};
 ghost use Rattle.marking.specs.Holding.{IsMarked};
-ghost use Rattle.flaw_laws.specs.There.{RowsThere};
+ghost use Rattle.base_laws.specs.flaw_laws.There.{RowsThere};
 
+use crate::named_world::NamedWorld;
 use attribute_values::tables::AttributeTables;
+use bad_items::mark_flaws::flaw::Flaw;
+use bad_items::mark_flaws::tables::FlawTables;
 use bad_items::{Program, first_bad};
 use descriptor_file::Root;
-use descriptor_types::types::DescriptorTypes;
+use descriptor_texts::descriptor_types::types::DescriptorTypes;
+use descriptor_texts::nested_types::nested::NestedTypes;
+use descriptor_texts::slashed_names::names::SlashedNames;
 use il_base::NoMemory;
-use link_rules::RowAt;
-use mark_flaws::flaw::Flaw;
-use mark_flaws::tables::FlawTables;
+use il_base::world_model::World;
+use mark_parts::mark_tables::marker::Marker;
 use mark_roots::lookup::Lookup;
-use mark_tables::marker::Marker;
 use marking::{Marked, mark};
-use named_world::NamedWorld;
-use nested_types::nested::NestedTypes;
-use slashed_names::names::SlashedNames;
+use rules::link_rules::RowAt;
 use std::alloc::Global;
 use virtual_calls::slots::Slots;
-use world_model::World;
 
 /// What a program needs.
 #[derive(Drop)]

@@ -4,24 +4,24 @@ use Rattle.std.specs.Prelude.{IsTrue, ◌↔◌}
 use Rattle.il_base.specs.declared.bits.Bits.{Bits}
 use Rattle.il_base.specs.declared.ids.TypeId.{TypeId}
 use Rattle.il_base.specs.declared.ids.Place.{Place}
-use Rattle.world_model.specs.declared.known.BadKind.{BadKind}
-use Rattle.world_model.specs.declared.known.BadKind.TheVariants.{Unresolved, Outside, Over}
-use Rattle.world_model.specs.declared.record.AsmRec.{AsmRec}
-use Rattle.link_rules.specs.declared.row_at.RowAt.{RowAt}
+use Rattle.il_base.specs.declared.world_model.known.BadKind.{BadKind}
+use Rattle.il_base.specs.declared.world_model.known.BadKind.TheVariants.{Unresolved, Outside, Over}
+use Rattle.il_base.specs.declared.world_model.record.AsmRec.{AsmRec}
+use Rattle.rules.specs.declared.link_rules.row_at.RowAt.{RowAt}
 use Rattle.descriptor_file.specs.declared.root.Root.{Root}
-use Rattle.mark_rules.specs.Facts.{Fact}
-use Rattle.mark_rules.specs.Facts.Fact.{marked, shown}
-use Rattle.mark_rules.specs.Marking.{Marks}
-use Rattle.mark_rules.specs.KeepList.{keep_list}
+use Rattle.rules.specs.mark_rules.Facts.{Fact}
+use Rattle.rules.specs.mark_rules.Facts.Fact.{marked, shown}
+use Rattle.rules.specs.mark_rules.Marking.{Marks}
+use Rattle.rules.specs.mark_rules.KeepList.{keep_list}
 use Rattle.marking.specs.declared.marked.Marked.{Marked}
 use Rattle.marking.specs.Holding.{IsMarked}
-use Rattle.merge_rules.specs.Numbers.{Kept}
-use Rattle.merge_rules.specs.Restricted.{restricted}
+use Rattle.rules.specs.merge_rules.Numbers.{Kept}
+use Rattle.rules.specs.merge_rules.Restricted.{restricted}
 use Rattle.merge_plan.specs.declared.kept.KeptItems.{KeptItems}
 use Rattle.merge_plan.specs.Kept.{kept_by}
 use Rattle.merge_plan.specs.Contests.{shown_by}
-use Rattle.record_layout.specs.Laid.{laid}
-use Rattle.record_layout.specs.Limits.{limit_of}
+use Rattle.rules.specs.record_layout.Laid.{laid}
+use Rattle.rules.specs.record_layout.Limits.{limit_of}
 use Rattle.record_writer.specs.CanWrite.{CanWrite}
 use Rattle.kept_marks.specs.Keeping.{KeepsMarked, ShowsMarked}
 use Rattle.program_trim.specs.declared.answers.ProgramTrim.{ProgramTrim}

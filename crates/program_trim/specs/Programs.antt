@@ -2,16 +2,16 @@
 use Rattle.std.specs.Prelude.{◌≡◌, Bool, List, Option, Some, None, Result}
 use Rattle.il_base.specs.declared.ids.TypeId.{TypeId}
 use Rattle.il_base.specs.declared.ids.Place.{Place}
-use Rattle.world_model.specs.declared.known.BadKind.{BadKind}
-use Rattle.world_model.specs.declared.known.BadKind.TheVariants.{Unresolved, Outside, Over}
-use Rattle.world_model.specs.declared.record.AsmRec.{AsmRec}
-use Rattle.link_rules.specs.Linked.{IsWorld}
-use Rattle.mark_flaws.specs.declared.flaw.Flaw.{Flaw}
+use Rattle.il_base.specs.declared.world_model.known.BadKind.{BadKind}
+use Rattle.il_base.specs.declared.world_model.known.BadKind.TheVariants.{Unresolved, Outside, Over}
+use Rattle.il_base.specs.declared.world_model.record.AsmRec.{AsmRec}
+use Rattle.rules.specs.link_rules.Linked.{IsWorld}
+use Rattle.bad_items.specs.declared.mark_flaws.flaw.Flaw.{Flaw}
 use Rattle.marking.specs.declared.marked.Marked.{Marked}
 use Rattle.marking.specs.Holding.{IsMarked}
-use Rattle.merge_rules.specs.Names.{Collision, collision}
-use Rattle.merge_rules.specs.Numbers.{Kept, kept_types}
-use Rattle.merge_rules.specs.Restricted.{restricted}
+use Rattle.rules.specs.merge_rules.Names.{Collision, collision}
+use Rattle.rules.specs.merge_rules.Numbers.{Kept, kept_types}
+use Rattle.rules.specs.merge_rules.Restricted.{restricted}
 use Rattle.merge_plan.specs.declared.outcome.Plan.{Plan}
 use Rattle.merge_plan.specs.declared.outcome.PlanError.{PlanError}
 use Rattle.merge_plan.specs.declared.outcome.PlanError.TheVariants as error

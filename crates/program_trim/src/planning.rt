@@ -6,11 +6,11 @@ ghost use Rattle.merge_plan.specs.Contests.{shown_by};
 ghost use Rattle.program_trim.specs.Programs.{IsPlan, IsInTheWay};
 
 use il_base::Bits;
+use il_base::world_model::AsmRec;
 use merge_plan::outcome::{Plan, PlanError};
 use merge_plan::{KeptItems, plan};
+use resolver::type_links::TypeIndex;
 use std::alloc::Global;
-use type_links::TypeIndex;
-use world_model::AsmRec;
 
 /// The plan of a merge of the kept types of these assemblies, or the first collision of two of them. `shown` has a flag for each
 /// type whose name or identity can be seen when the program runs.

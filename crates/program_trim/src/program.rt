@@ -1,6 +1,6 @@
 use descriptor_file::Root;
-use link_rules::RowAt;
-use world_model::World;
+use il_base::world_model::World;
+use rules::link_rules::RowAt;
 
 /// A program that is to be trimmed.
 #[derive(Clone, Copy)]

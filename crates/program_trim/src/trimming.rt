@@ -1,8 +1,8 @@
 //! The trim of a linked world.
 
 ghost use Rattle.std.specs.Prelude.{◌≡◌, None};
-ghost use Rattle.link_rules.specs.Linked.{IsWorld};
-ghost use Rattle.flaw_laws.specs.There.{RowsThere};
+ghost use Rattle.rules.specs.link_rules.Linked.{IsWorld};
+ghost use Rattle.base_laws.specs.flaw_laws.There.{RowsThere};
 ghost use Rattle.merge_plan.specs.Kept.{kept_by};
 ghost use Rattle.program_trim.specs.Programs.{IsLinked, IsGood, IsSpelled, HasMarks, Keeps, Collides, Names, Leaves, Trims, place_of, refusal_by};
 ghost use Rattle.program_trim.specs.Trim.{LeftIsSpelled, TrimsWorld};
@@ -11,19 +11,19 @@ use crate::answers::{ProgramTrim, TrimFault};
 use crate::planning::plan_of;
 use crate::program::Program;
 use crate::writing::{file_of, list_of};
+use bad_items::mark_flaws::flaw::Flaw;
 use descriptor_file::Root;
 use il_base::Place;
+use il_base::world_model::{AsmRec, BadKind, World};
 use kept_marks::{kept_items, shown_types};
-use link_rules::RowAt;
-use mark_flaws::flaw::Flaw;
 use marking::Marked;
 use merge_plan::KeptItems;
 use merge_plan::outcome::{Plan, PlanError};
 use program_marks::needs_of;
 use record_writer::WriteError;
 use restrict::restrict;
+use rules::link_rules::RowAt;
 use std::alloc::Global;
-use world_model::{AsmRec, BadKind, World};
 
 /// The refusal of a flaw.
 fn refusal_of(flaw: Flaw) -> TrimFault
@@ -113,7 +113,7 @@ fn trim_marked(
 }
 
 /// Trims the world that a link gave. Kept is what the entry method, by its row, and the elements of descriptors lead to, as
-/// `mark_rules/specs/Marking` derives it, in one assembly, which has the name of the first input; with `internal` public types of
+/// `rules/specs/mark_rules/Marking` derives it, in one assembly, which has the name of the first input; with `internal` public types of
 /// the other inputs become internal.
 ///
 /// `Outside` and `Unresolved` come exactly where something needed is outside of the profile or names nothing, with the first place

@@ -1,22 +1,22 @@
 //! The file of what is left, and the keep list.
 
 ghost use Rattle.std.specs.Prelude.{◌≡◌, None, IfOk, IfErr};
-ghost use Rattle.link_rules.specs.Linked.{IsWorld};
-ghost use Rattle.mark_rules.specs.KeepList.{keep_list};
-ghost use Rattle.mark_tables.specs.Assemblies.{all_of, IsMarker};
+ghost use Rattle.rules.specs.link_rules.Linked.{IsWorld};
+ghost use Rattle.rules.specs.mark_rules.KeepList.{keep_list};
+ghost use Rattle.mark_parts.specs.mark_tables.Assemblies.{all_of, IsMarker};
 ghost use Rattle.merge_plan.specs.Kept.{kept_by};
-ghost use Rattle.record_layout.specs.Laid.{laid};
-ghost use Rattle.record_layout.specs.Limits.{limit_of};
+ghost use Rattle.rules.specs.record_layout.Laid.{laid};
+ghost use Rattle.rules.specs.record_layout.Limits.{limit_of};
 ghost use Rattle.record_writer.specs.CanWrite.{CanWrite};
 ghost use Rattle.record_writer.specs.Written.{Refuses, rows_over};
 
+use il_base::world_model::{AsmRec, World};
 use il_base::{NoMemory, Seq, Text};
 use keep_lists::lists::keep_list;
-use mark_tables::marker::Marker;
+use mark_parts::mark_tables::marker::Marker;
 use merge_plan::KeptItems;
 use record_writer::{WriteError, write};
 use std::alloc::Global;
-use world_model::{AsmRec, World};
 
 /// The bytes of the file of a record.
 pub(crate) fn file_of(alloc: Global, rec: &AsmRec) -> Result<Text, WriteError>

@@ -2,10 +2,10 @@
 use Rattle.std.proofs.Common.{◌≡◌, ℕ, ◌<◌, ◌≤◌, Bool, true, false, Option, Some, None, refl, ap, ◌∙◌, lt-ltb, le-ltb}
 use Rattle.std.specs.Prelude.{nat_lt}
 use Rattle.il_base.specs.declared.limit.TheConstants.{ROWS, OUTPUT_LENGTH}
-use Rattle.world_model.specs.declared.record.AsmRec.{AsmRec}
-use Rattle.file_layout.specs.Runs.{runs_have_spelling}
-use Rattle.record_layout.specs.Laid.{laid_length}
-use Rattle.record_layout.specs.Limits.{most_users, most_bytes, users_length, long_table, limit_by, limit_of}
+use Rattle.il_base.specs.declared.world_model.record.AsmRec.{AsmRec}
+use Rattle.rules.specs.file_layout.Runs.{runs_have_spelling}
+use Rattle.rules.specs.record_layout.Laid.{laid_length}
+use Rattle.rules.specs.record_layout.Limits.{most_users, most_bytes, users_length, long_table, limit_by, limit_of}
 use Rattle.record_writer.specs.Written.{rows_by, rows_over}
 
 abbrev limit_as : Option ℕ → Option (ℕ × ℕ)

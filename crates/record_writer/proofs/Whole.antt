@@ -1,19 +1,19 @@
 -- The whole file, by its parts.
 use Rattle.std.proofs.Common.{◌≡◌, ℕ, ◌+◌, ◌-◌, ◌^◌, ◌<◌, List, [], length, map, ap, ap₂, ◌∙◌, subst, arith}
-use Rattle.world_model.specs.declared.members.MethodDefRow.{MethodDefRow}
-use Rattle.world_model.specs.declared.extras.FieldRvaRow.{FieldRvaRow}
-use Rattle.world_model.specs.declared.record.AsmRec.{AsmRec}
-use Rattle.world_model.specs.declared.record.UserText.{UserText}
-use Rattle.file_layout.specs.Bytes.{aligned}
-use Rattle.file_layout.specs.Metadata.{Streams, metadata_bytes}
-use Rattle.file_layout.specs.Image.{Parts, image_bytes, image_length}
-use Rattle.file_layout.specs.Cells.{CellTables, pools_of}
-use Rattle.file_layout.specs.Laid.{streams_with}
-use Rattle.file_layout.specs.Bodies.{code_behind}
-use Rattle.record_layout.specs.FieldData.{with_all_data}
-use Rattle.record_layout.specs.Tables.{code_of, cells_of}
-use Rattle.record_layout.specs.Laid.{streams_of, parts_of, laid, laid_length}
-use Rattle.metadata_writer.specs.Written.{IsPut}
+use Rattle.il_base.specs.declared.world_model.members.MethodDefRow.{MethodDefRow}
+use Rattle.il_base.specs.declared.world_model.extras.FieldRvaRow.{FieldRvaRow}
+use Rattle.il_base.specs.declared.world_model.record.AsmRec.{AsmRec}
+use Rattle.il_base.specs.declared.world_model.record.UserText.{UserText}
+use Rattle.rules.specs.file_layout.Bytes.{aligned}
+use Rattle.rules.specs.file_layout.Metadata.{Streams, metadata_bytes}
+use Rattle.rules.specs.file_layout.Image.{Parts, image_bytes, image_length}
+use Rattle.rules.specs.file_layout.Cells.{CellTables, pools_of}
+use Rattle.rules.specs.file_layout.Laid.{streams_with}
+use Rattle.rules.specs.file_layout.Bodies.{code_behind}
+use Rattle.rules.specs.record_layout.FieldData.{with_all_data}
+use Rattle.rules.specs.record_layout.Tables.{code_of, cells_of}
+use Rattle.rules.specs.record_layout.Laid.{streams_of, parts_of, laid, laid_length}
+use Rattle.record_writer.specs.metadata_writer.Written.{IsPut}
 
 -- the metadata of a record
 pub put_of_record : (rec : AsmRec) (m : List ℕ) (cells : CellTables) (user : List UserText) → cells ≡ cells_of rec → user ≡ rec.user

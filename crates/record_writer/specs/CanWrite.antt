@@ -1,11 +1,11 @@
 -- Which records can be written: each signature and body that has a reading has a spelling.
 use Rattle.std.specs.Prelude.{All, Option, Some, None}
 use Rattle.il_base.specs.declared.body.Body.{Body}
-use Rattle.body_grammar.specs.BodySpelling.{HasSpelling}
-use Rattle.world_model.specs.declared.known.Known.{Known}
-use Rattle.world_model.specs.declared.known.Known.TheVariants.{Good, Bad}
-use Rattle.world_model.specs.declared.record.AsmRec.{AsmRec}
-use Rattle.row_writer.specs.CanWrite.{CanWriteRows}
+use Rattle.il_base.specs.body_grammar.BodySpelling.{HasSpelling}
+use Rattle.il_base.specs.declared.world_model.known.Known.{Known}
+use Rattle.il_base.specs.declared.world_model.known.Known.TheVariants.{Good, Bad}
+use Rattle.il_base.specs.declared.world_model.record.AsmRec.{AsmRec}
+use Rattle.record_writer.specs.row_writer.CanWrite.{CanWriteRows}
 
 abbrev pub HasBody : Option (Known Body) → Type 0
 HasBody None = Unit {0}

@@ -1,12 +1,12 @@
 -- What the writer's steps give.
 use Rattle.std.specs.Prelude.{◌≡◌, ℕ, Bool, true, false, Option, Some, None}
-use Rattle.world_model.specs.declared.record.AsmRec.{AsmRec}
-use Rattle.file_layout.specs.Metadata.{metadata_bytes}
-use Rattle.file_layout.specs.Runs.{runs_have_spelling, unspelled_rows}
-use Rattle.record_layout.specs.Tables.{code_of}
-use Rattle.record_layout.specs.Laid.{streams_of}
-use Rattle.record_layout.specs.Limits.{long_table, limit_of}
-use Rattle.metadata_writer.specs.Written.{IsPut}
+use Rattle.il_base.specs.declared.world_model.record.AsmRec.{AsmRec}
+use Rattle.rules.specs.file_layout.Metadata.{metadata_bytes}
+use Rattle.rules.specs.file_layout.Runs.{runs_have_spelling, unspelled_rows}
+use Rattle.rules.specs.record_layout.Tables.{code_of}
+use Rattle.rules.specs.record_layout.Laid.{streams_of}
+use Rattle.rules.specs.record_layout.Limits.{long_table, limit_of}
+use Rattle.record_writer.specs.metadata_writer.Written.{IsPut}
 use Rattle.record_writer.specs.declared.error.WriteError.{WriteError}
 use Rattle.record_writer.specs.declared.error.WriteError.TheVariants.{Limit, NoMemory}
 use Rattle.record_writer.specs.declared.writing.Content.{Content}

@@ -1,17 +1,17 @@
 //! Method bodies and where they are (II.25.4).
 
 ghost use Rattle.std.specs.Prelude.{◌≡◌, ◌+◌, ◌%◌, ◌<◌, ◌^◌, [], length, map, All, IfOk, OnOk};
-ghost use Rattle.body_grammar.specs.BodySpelling.{HasSpelling};
-ghost use Rattle.file_layout.specs.Bytes.{aligned};
-ghost use Rattle.file_layout.specs.Bodies as layout;
+ghost use Rattle.il_base.specs.body_grammar.BodySpelling.{HasSpelling};
+ghost use Rattle.rules.specs.file_layout.Bytes.{aligned};
+ghost use Rattle.rules.specs.file_layout.Bodies as layout;
 ghost use Rattle.record_writer.specs.CanWrite.{HasBody};
 
-use byte_writer::{next_multiple, pad};
+use crate::byte_writer::{next_multiple, pad};
+use crate::image_writer::CODE_RVA;
+use il_base::world_model::{Known, MethodDefRow};
 use il_base::{Body, NoMemory};
 use il_code::write_body;
-use image_writer::CODE_RVA;
 use std::alloc::Global;
-use world_model::{Known, MethodDefRow};
 
 /// The bodies of methods, and their addresses.
 #[derive(Drop)]
@@ -31,7 +31,7 @@ fn rva_behind(len: usize) -> u32
 }
 
 /// Puts a body after the others.
-#[tactic(auto, unfolding(file_layout::specs::Bodies::body_behind))]
+#[tactic(auto, unfolding(rules::specs::file_layout::Bodies::body_behind))]
 fn put_body(out: &mut Vec<u8>, body: &Body) -> Result<(), NoMemory>
     requires { HasSpelling body.now }
     ensures { OnOk result (out.new.items ≡ layout.body_behind out.old.items body.now) }
@@ -58,7 +58,7 @@ fn put_method(out: &mut Vec<u8>, body: &Option<Known<Body>>) -> Result<u32, NoMe
 }
 
 /// The bodies of methods, in their order.
-#[tactic(auto, unfolding(file_layout::specs::Bodies::code_behind, file_layout::specs::Bodies::rvas_behind))]
+#[tactic(auto, unfolding(rules::specs::file_layout::Bodies::code_behind, rules::specs::file_layout::Bodies::rvas_behind))]
 pub fn put_bodies(alloc: Global, methods: &[MethodDefRow]) -> Result<Bodies, NoMemory>
     requires { All (λ m. HasBody m.body) methods.now }
     ensures bytes { IfOk result (λ c. c.bytes.items ≡ layout.code_behind [] (map (λ m. m.body) methods.now)) }

@@ -1,14 +1,14 @@
 //! The bytes of fields and where they are (II.22.18).
 
 ghost use Rattle.std.specs.Prelude.{◌≡◌, ◌+◌, ◌%◌, ◌<◌, ◌^◌, ◌++◌, length, IfOk, OnOk};
-ghost use Rattle.file_layout.specs.Bytes.{aligned, padded};
-ghost use Rattle.record_layout.specs.FieldData as layout;
+ghost use Rattle.rules.specs.file_layout.Bytes.{aligned, padded};
+ghost use Rattle.rules.specs.record_layout.FieldData as layout;
 
-use byte_writer::{next_multiple, pad};
+use crate::byte_writer::{next_multiple, pad};
+use crate::image_writer::CODE_RVA;
+use il_base::world_model::{FieldRvaRow, Known};
 use il_base::{NoMemory, Text};
-use image_writer::CODE_RVA;
 use std::alloc::Global;
-use world_model::{FieldRvaRow, Known};
 
 /// The code of bodies with the bytes of fields after it.
 #[derive(Drop)]
@@ -42,7 +42,7 @@ fn put_bytes(out: &mut Vec<u8>, bytes: &Known<Text>) -> Result<(), NoMemory>
 }
 
 /// Puts the bytes of fields after the code of bodies, in their order.
-#[tactic(auto, unfolding(record_layout::specs::FieldData::with_data, record_layout::specs::FieldData::with_all_data, record_layout::specs::FieldData::data_rvas))]
+#[tactic(auto, unfolding(rules::specs::record_layout::FieldData::with_data, rules::specs::record_layout::FieldData::with_all_data, rules::specs::record_layout::FieldData::data_rvas))]
 pub fn put_field_data(
     alloc: Global,
     bodies: Vec<u8>,

@@ -3,8 +3,12 @@
 #![tactic(auto)]
 
 mod bodies;
+pub mod byte_writer;
 mod error;
 mod field_data;
+pub mod image_writer;
+pub mod metadata_writer;
+pub mod row_writer;
 mod rows;
 mod writing;
 

@@ -1,12 +1,12 @@
 //! The limit on rows: a table that has too many, or a run without a spelling (II.24.2.6).
 
 ghost use Rattle.std.specs.Prelude.{◌≡◌, nat_lt, find};
-ghost use Rattle.cli_format.specs.Metadata.{most_rows};
-ghost use Rattle.file_layout.specs.Runs as runs;
-ghost use Rattle.record_layout.specs.Limits as limits;
+ghost use Rattle.il_base.specs.cli_format.Metadata.{most_rows};
+ghost use Rattle.rules.specs.file_layout.Runs as runs;
+ghost use Rattle.rules.specs.record_layout.Limits as limits;
 ghost use Rattle.record_writer.specs.Written.{rows_over};
 
-use world_model::{AsmRec, EventMapRow, MethodDefRow, PropertyMapRow, TypeDefRow};
+use il_base::world_model::{AsmRec, EventMapRow, MethodDefRow, PropertyMapRow, TypeDefRow};
 
 /// The most rows that a table may have.
 const MOST_ROWS: usize = 1_048_576;
@@ -28,7 +28,7 @@ fn first_long(sizes: &[usize]) -> Option<usize>
 
 /// The number of rows of the first table that has too many.
 #[rattlefmt::skip]
-#[tactic(auto, unfolding(world_model::specs::Records::table_sizes, record_layout::specs::Limits::long_table))]
+#[tactic(auto, unfolding(il_base::specs::world_model::Records::table_sizes, rules::specs::record_layout::Limits::long_table))]
 fn long_table(rec: &AsmRec) -> Option<usize>
     ensures { result ≡ limits.long_table rec.now }
 {
@@ -96,7 +96,7 @@ fn property_runs_fit(count: usize, rows: &[PropertyMapRow]) -> bool
 }
 
 /// Whether each run of a record has a spelling.
-#[tactic(auto, unfolding(world_model::specs::Records::table_sizes, file_layout::specs::Runs::runs_have_spelling))]
+#[tactic(auto, unfolding(il_base::specs::world_model::Records::table_sizes, rules::specs::file_layout::Runs::runs_have_spelling))]
 fn runs_have_spelling(rec: &AsmRec) -> bool
     ensures { result ≡ runs.runs_have_spelling rec.now }
 {

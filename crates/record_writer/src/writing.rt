@@ -1,23 +1,23 @@
 //! The file of a record, after the bytes of a vector, within the limits on rows and bytes.
 
 ghost use Rattle.std.specs.Prelude.{◌≡◌, ◌+◌, ◌<◌, ◌≤◌, ◌^◌, ◌++◌, length, IfErr, IfOk, OnErr, OnOk, IsTrue, ◌↔◌, None};
-ghost use Rattle.record_layout.specs.Laid.{laid};
-ghost use Rattle.record_layout.specs.Limits.{users_length, most_users, limit_of};
-ghost use Rattle.image_writer.specs.Views.{HasPlaces};
+ghost use Rattle.rules.specs.record_layout.Laid.{laid};
+ghost use Rattle.rules.specs.record_layout.Limits.{users_length, most_users, limit_of};
+ghost use Rattle.record_writer.specs.image_writer.Views.{HasPlaces};
 ghost use Rattle.record_writer.specs.CanWrite.{CanWrite};
 ghost use Rattle.record_writer.specs.Written.{IsContent, Refuses, rows_over};
 
 use crate::bodies::{Bodies, put_bodies};
 use crate::error::WriteError;
 use crate::field_data::put_field_data;
+use crate::image_writer::{Parts, image, image_length};
+use crate::metadata_writer::{metadata_of, users};
+use crate::row_writer::tables_of;
 use crate::rows::rows_over;
 use il_base::NoMemory;
 use il_base::limit::{OUTPUT_LENGTH, ROWS};
-use image_writer::{Parts, image, image_length};
-use metadata_writer::{metadata_of, users};
-use row_writer::tables_of;
+use il_base::world_model::AsmRec;
 use std::alloc::Global;
-use world_model::AsmRec;
 
 /// The most bytes that a file may have.
 const MOST: u64 = 268_435_456;

@@ -5,13 +5,13 @@ use Rattle.std.specs.List.{flat_map}
 use Rattle.std.specs.Option.{option_and_then}
 use Rattle.il_base.specs.declared.ids.TypeId.{TypeId}
 use Rattle.il_base.specs.declared.table.TheConstants.{TYPE_REF}
-use Rattle.world_model.specs.declared.assemblies.AssemblyRefRow.{AssemblyRefRow}
-use Rattle.link_rules.specs.Members.{type_home}
-use Rattle.link_rules.specs.Cycles.{listed}
-use Rattle.type_rules.specs.Rows.{type_row_at}
-use Rattle.merge_rules.specs.Absent.{same_assembly, absent_row, reference_at}
-use Rattle.merge_rules.specs.Refs.{Output, same_id, each_once, is_reference, scope_type, assemblies_of, own_scope, first_or, row_token, assembly_refs, type_token, assembly_token, scope_token, type_ref_row, type_ref_rows}
-use Rattle.reference_assemblies.specs.Assemblies.{assembly_token_by, assemblies_by}
+use Rattle.il_base.specs.declared.world_model.assemblies.AssemblyRefRow.{AssemblyRefRow}
+use Rattle.rules.specs.link_rules.Members.{type_home}
+use Rattle.rules.specs.link_rules.Cycles.{listed}
+use Rattle.rules.specs.type_rules.Rows.{type_row_at}
+use Rattle.rules.specs.merge_rules.Absent.{same_assembly, absent_row, reference_at}
+use Rattle.rules.specs.merge_rules.Refs.{Output, same_id, each_once, is_reference, scope_type, assemblies_of, own_scope, first_or, row_token, assembly_refs, type_token, assembly_token, scope_token, type_ref_row, type_ref_rows}
+use Rattle.reference_rows.specs.reference_assemblies.Assemblies.{assembly_token_by, assemblies_by}
 use Rattle.reference_rows.specs.declared.tokens.TypeTokens.{TypeTokens}
 use Rattle.reference_rows.specs.Types.{recs_in, kept_type_token, type_token_by, other_scope_by, scope_token_by, found_row, absent_ref, type_ref_by, type_ref_rows_by}
 use Rattle.reference_rows.specs.Laws.{AreOf, AreTypesOf}

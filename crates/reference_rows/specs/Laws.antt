@@ -1,10 +1,10 @@
 -- With what the output refers to, the tokens and rows are its own.
 use Rattle.std.specs.Prelude.{◌≡◌, List}
 use Rattle.il_base.specs.declared.ids.TypeId.{TypeId}
-use Rattle.world_model.specs.declared.assemblies.AssemblyRefRow.{AssemblyRefRow}
-use Rattle.merge_rules.specs.Numbers.{kept_types}
-use Rattle.merge_rules.specs.Refs.{Output, type_refs, assembly_refs, type_token, type_ref_rows}
-use Rattle.reference_assemblies.specs.Assemblies.{assemblies_by}
+use Rattle.il_base.specs.declared.world_model.assemblies.AssemblyRefRow.{AssemblyRefRow}
+use Rattle.rules.specs.merge_rules.Numbers.{kept_types}
+use Rattle.rules.specs.merge_rules.Refs.{Output, type_refs, assembly_refs, type_token, type_ref_rows}
+use Rattle.reference_rows.specs.reference_assemblies.Assemblies.{assemblies_by}
 use Rattle.reference_rows.specs.declared.tokens.TypeTokens.{TypeTokens}
 use Rattle.reference_rows.specs.Types.{recs_in, type_token_by, type_ref_rows_by}
 

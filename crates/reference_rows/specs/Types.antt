@@ -4,18 +4,18 @@ use Rattle.std.specs.List.{flat_map}
 use Rattle.std.specs.Option.{option_and_then}
 use Rattle.il_base.specs.declared.ids.TypeId.{TypeId}
 use Rattle.il_base.specs.declared.table.TheConstants.{TYPE_REF, TYPE_DEF}
-use Rattle.world_model.specs.declared.assemblies.AssemblyRefRow.{AssemblyRefRow}
-use Rattle.world_model.specs.declared.types.TypeDefRow.{TypeDefRow}
-use Rattle.world_model.specs.declared.types.TypeRefRow.{TypeRefRow}
-use Rattle.world_model.specs.declared.record.AsmRec.{AsmRec}
-use Rattle.link_rules.specs.declared.row_at.RowAt.{RowAt}
-use Rattle.link_rules.specs.Members.{type_home}
-use Rattle.link_rules.specs.Cycles.{listed}
-use Rattle.type_rules.specs.Rows.{type_row_at}
-use Rattle.merge_rules.specs.Absent.{absent_row, reference_at}
-use Rattle.merge_rules.specs.Refs.{same_id, is_reference, scope_type, assemblies_of, own_scope, first_or, row_token, kept_token}
-use Rattle.reference_scopes.specs.Scopes.{recs_of, IsScopes}
-use Rattle.reference_assemblies.specs.Assemblies.{assembly_token_by}
+use Rattle.il_base.specs.declared.world_model.assemblies.AssemblyRefRow.{AssemblyRefRow}
+use Rattle.il_base.specs.declared.world_model.types.TypeDefRow.{TypeDefRow}
+use Rattle.il_base.specs.declared.world_model.types.TypeRefRow.{TypeRefRow}
+use Rattle.il_base.specs.declared.world_model.record.AsmRec.{AsmRec}
+use Rattle.rules.specs.declared.link_rules.row_at.RowAt.{RowAt}
+use Rattle.rules.specs.link_rules.Members.{type_home}
+use Rattle.rules.specs.link_rules.Cycles.{listed}
+use Rattle.rules.specs.type_rules.Rows.{type_row_at}
+use Rattle.rules.specs.merge_rules.Absent.{absent_row, reference_at}
+use Rattle.rules.specs.merge_rules.Refs.{same_id, is_reference, scope_type, assemblies_of, own_scope, first_or, row_token, kept_token}
+use Rattle.reference_rows.specs.reference_scopes.Scopes.{recs_of, IsScopes}
+use Rattle.reference_rows.specs.reference_assemblies.Assemblies.{assembly_token_by}
 use Rattle.reference_rows.specs.declared.tokens.TypeTokens.{TypeTokens}
 
 -- the records of all assemblies

@@ -3,19 +3,19 @@
 ghost use Rattle.std.specs.Prelude.{◌≡◌, ◌++◌, IfOk, OnOk};
 ghost use Rattle.std.specs.List.{flat_map};
 ghost use Rattle.std.specs.Option.{option_copied, option_and_then};
-ghost use Rattle.link_rules.specs.Members.{type_home};
-ghost use Rattle.type_rules.specs.Rows.{type_row_at};
-ghost use Rattle.reference_scopes.specs.Scopes.{recs_of};
+ghost use Rattle.rules.specs.link_rules.Members.{type_home};
+ghost use Rattle.rules.specs.type_rules.Rows.{type_row_at};
+ghost use Rattle.reference_rows.specs.reference_scopes.Scopes.{recs_of};
 ghost use Rattle.reference_rows.specs.Types.{AreTokens, named_row, found_by, absent_by, type_ref_by, type_ref_rows_by};
 
 use crate::tokens::TypeTokens;
-use absent_types::rows::reference_at;
+use il_base::world_model::{AsmRec, AssemblyRefRow, TypeDefRow, TypeRefRow};
 use il_base::{NoMemory, Seq, TypeId};
-use link_rules::RowAt;
-use member_search::homes::type_home;
-use member_search::linked::assembly_at;
+use rules::link_rules::RowAt;
 use std::alloc::Global;
-use world_model::{AsmRec, AssemblyRefRow, TypeDefRow, TypeRefRow};
+use token_keys::absent_types::rows::reference_at;
+use type_tables::member_search::homes::type_home;
+use type_tables::member_search::linked::assembly_at;
 
 /// A row with these names.
 fn named_row(

@@ -2,22 +2,22 @@
 
 ghost use Rattle.std.specs.Prelude.{◌≡◌, Some, IfOk};
 ghost use Rattle.il_base.specs.declared.table.TheConstants.{TYPE_DEF};
-ghost use Rattle.merge_rules.specs.Refs.{kept_token, first_or, assemblies_of, own_scope};
+ghost use Rattle.rules.specs.merge_rules.Refs.{kept_token, first_or, assemblies_of, own_scope};
 ghost use Rattle.std.specs.Prelude.{map};
-ghost use Rattle.reference_scopes.specs.Scopes.{recs_of};
-ghost use Rattle.reference_assemblies.specs.Assemblies.{assembly_token_by};
+ghost use Rattle.reference_rows.specs.reference_scopes.Scopes.{recs_of};
+ghost use Rattle.reference_rows.specs.reference_assemblies.Assemblies.{assembly_token_by};
 ghost use Rattle.reference_rows.specs.Types.{AreTokens, kept_type_token, type_token_by, other_scope_by, scope_token_by};
 
+use crate::reference_assemblies::assemblies::assembly_token;
+use crate::reference_scopes::scopes::Scopes;
+use il_base::world_model::{AsmRec, AssemblyRefRow};
 use il_base::{NoMemory, TypeId, table};
-use link_rules::RowAt;
-use member_search::homes::type_home;
 use merge_plan::Numbers;
-use met_keys::row_tokens::row_token;
-use met_keys::types::MetTypes;
-use reference_assemblies::assemblies::assembly_token;
-use reference_scopes::scopes::Scopes;
+use rules::link_rules::RowAt;
 use std::alloc::Global;
-use world_model::{AsmRec, AssemblyRefRow};
+use token_keys::met_keys::row_tokens::row_token;
+use token_keys::met_keys::types::MetTypes;
+use type_tables::member_search::homes::type_home;
 
 /// What the tokens of types are made of.
 #[derive(Clone, Copy)]

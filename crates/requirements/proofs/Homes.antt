@@ -4,14 +4,14 @@ use Rattle.std.specs.Option.{option_and_then, option_map}
 use Rattle.std.specs.Prelude.{slice_get}
 use Rattle.il_base.specs.declared.ids.MethodId.{MethodId}
 use Rattle.il_base.specs.declared.body.Body.{Body}
-use Rattle.world_model.specs.declared.known.Known.{Known}
-use Rattle.world_model.specs.declared.known.Known.TheVariants.{Good, Bad}
-use Rattle.world_model.specs.declared.members.MethodDefRow.{MethodDefRow}
-use Rattle.world_model.specs.declared.record.AsmRec.{AsmRec}
-use Rattle.link_rules.specs.declared.row_at.RowAt.{RowAt}
-use Rattle.type_rules.specs.Slots.{method_home}
-use Rattle.flow_rules.specs.declared.called.Called.{Called}
-use Rattle.flow_rules.specs.Methods.{Setting, with_locals, with_body, setting_in, setting_at, setting_of}
+use Rattle.il_base.specs.declared.world_model.known.Known.{Known}
+use Rattle.il_base.specs.declared.world_model.known.Known.TheVariants.{Good, Bad}
+use Rattle.il_base.specs.declared.world_model.members.MethodDefRow.{MethodDefRow}
+use Rattle.il_base.specs.declared.world_model.record.AsmRec.{AsmRec}
+use Rattle.rules.specs.declared.link_rules.row_at.RowAt.{RowAt}
+use Rattle.rules.specs.type_rules.Slots.{method_home}
+use Rattle.value_flow.specs.declared.flow_rules.called.Called.{Called}
+use Rattle.value_flow.specs.flow_rules.Methods.{Setting, with_locals, with_body, setting_in, setting_at, setting_of}
 
 by_own : (asm : ℕ) (rec : AsmRec) (b : Body) (o : Option Called) (l : Option ℕ) (s : Setting)
     → option_and_then (λ own. option_map (with_locals asm rec own b) l) o ≡ Some s → s.asm ≡ asm

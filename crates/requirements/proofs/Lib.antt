@@ -2,3 +2,4 @@ pub mod Lists
 pub mod Looping
 pub mod Homes
 pub mod Same
+pub mod lemmas

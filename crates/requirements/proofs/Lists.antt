@@ -1,7 +1,7 @@
 -- Lists at the end of others.
 use Rattle.std.proofs.Common.{◌≡◌, List, [], ◌++◌, Option, Some, append_assoc}
 use Rattle.std.specs.List.{flat_map}
-use Rattle.link_rules.specs.Cycles.{listed}
+use Rattle.rules.specs.link_rules.Cycles.{listed}
 use Rattle.std.proofs.lemmas.List.{append-nil}
 
 pub two_put : {A : Type 0} (out xs ys : List A) → (out ++ xs) ++ ys ≡ out ++ (xs ++ ys)

@@ -5,20 +5,20 @@ use Rattle.std.specs.List.{position_from}
 use Rattle.std.specs.Option.{option_and_then, option_map}
 use Rattle.il_base.specs.declared.ids.MethodId.{MethodId}
 use Rattle.il_base.specs.declared.ids.TypeId.{TypeId}
-use Rattle.world_model.specs.declared.record.AsmRec.{AsmRec}
-use Rattle.link_rules.specs.declared.row_at.RowAt.{RowAt}
-use Rattle.world_model.specs.Worlds.{type_id}
-use Rattle.type_rules.specs.Slots.{method_home, type_of_method}
-use Rattle.stack_depths.specs.Depths.{depth_at}
-use Rattle.flow_rules.specs.Methods.{Setting, setting_of}
-use Rattle.flow_rules.specs.Steps.{offsets, place_in}
-use Rattle.body_graph.specs.declared.graph.Graph.{Graph}
-use Rattle.body_graph.specs.declared.places.Places.{Places}
-use Rattle.body_graph.specs.Places.{ArePlaces, place_at}
-use Rattle.body_graph.specs.Graphs.{depth_of}
+use Rattle.il_base.specs.declared.world_model.record.AsmRec.{AsmRec}
+use Rattle.rules.specs.declared.link_rules.row_at.RowAt.{RowAt}
+use Rattle.il_base.specs.world_model.Worlds.{type_id}
+use Rattle.rules.specs.type_rules.Slots.{method_home, type_of_method}
+use Rattle.value_flow.specs.stack_depths.Depths.{depth_at}
+use Rattle.value_flow.specs.flow_rules.Methods.{Setting, setting_of}
+use Rattle.value_flow.specs.flow_rules.Steps.{offsets, place_in}
+use Rattle.value_flow.specs.declared.body_graph.graph.Graph.{Graph}
+use Rattle.value_flow.specs.declared.body_graph.places.Places.{Places}
+use Rattle.value_flow.specs.body_graph.Places.{ArePlaces, place_at}
+use Rattle.value_flow.specs.body_graph.Graphs.{depth_of}
 use Rattle.value_flow.specs.declared.flow.Flow.{Flow}
 use Rattle.value_flow.specs.Flows.{owner_of, Carries, is_carried}
-use Rattle.site_rules.specs.Values.{Flowed}
+use Rattle.requirements.specs.site_rules.Values.{Flowed}
 use Rattle.requirements.specs.Ties.{IsFlowed, IsFlowOn}
 
 same_truth : {P : Type 0} (b c : Bool) → b ≡ true ↔ P → c ≡ true ↔ P → b ≡ c

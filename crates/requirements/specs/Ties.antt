@@ -2,18 +2,18 @@
 use Rattle.std.specs.Prelude.{◌≡◌, ℕ, ◌↔◌, true, List, Option, Some}
 use Rattle.std.specs.List.{flat_map}
 use Rattle.il_base.specs.declared.ids.MethodId.{MethodId}
-use Rattle.world_model.specs.declared.record.AsmRec.{AsmRec}
-use Rattle.link_rules.specs.Cycles.{listed}
-use Rattle.type_rules.specs.Slots.{method_home}
-use Rattle.stack_depths.specs.Depths.{depth_at}
-use Rattle.flow_rules.specs.Methods.{Setting, setting_of}
-use Rattle.flow_rules.specs.Steps.{offsets, place_in}
-use Rattle.body_graph.specs.Graphs.{IsGraph}
+use Rattle.il_base.specs.declared.world_model.record.AsmRec.{AsmRec}
+use Rattle.rules.specs.link_rules.Cycles.{listed}
+use Rattle.rules.specs.type_rules.Slots.{method_home}
+use Rattle.value_flow.specs.stack_depths.Depths.{depth_at}
+use Rattle.value_flow.specs.flow_rules.Methods.{Setting, setting_of}
+use Rattle.value_flow.specs.flow_rules.Steps.{offsets, place_in}
+use Rattle.value_flow.specs.body_graph.Graphs.{IsGraph}
 use Rattle.value_flow.specs.declared.flow.Flow.{Flow}
 use Rattle.value_flow.specs.Flows.{owner_of, Carries, IsFlow}
-use Rattle.site_rules.specs.declared.site.Site.{Site}
-use Rattle.site_rules.specs.Values.{Flowed}
-use Rattle.site_rules.specs.Bodies.{head_sites, sites_of_body}
+use Rattle.requirements.specs.declared.site_rules.site.Site.{Site}
+use Rattle.requirements.specs.site_rules.Values.{Flowed}
+use Rattle.requirements.specs.site_rules.Bodies.{head_sites, sites_of_body}
 
 -- a method of a world, where the evaluation stack has these depths, and what walks carry is carried
 pub record IsFlowed (recs : List AsmRec) (m : MethodId) (depths : List (Option ℕ)) (f : Flowed) : Type 0 where

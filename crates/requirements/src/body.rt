@@ -3,21 +3,21 @@
 ghost use Rattle.std.specs.Prelude.{◌≡◌, ◌+◌, ◌-◌, suc, IfOk};
 ghost use Rattle.std.specs.Option.{option_copied, option_and_then};
 ghost use Rattle.il_base.specs.declared.table.TheConstants.{METHOD_DEF};
-ghost use Rattle.world_model.specs.Tokens.{token_of};
-ghost use Rattle.flow_rules.specs.Counts.{one_if};
-ghost use Rattle.flow_rules.specs.Moves.{fixed_in, token_in, named_use, named_field};
-ghost use Rattle.body_graph.specs.Methods.{setting_in};
-ghost use Rattle.mark_tables.specs.Assemblies.{all_of};
-ghost use Rattle.site_rules.specs.Values.{place_of};
+ghost use Rattle.il_base.specs.world_model.Tokens.{token_of};
+ghost use Rattle.value_flow.specs.flow_rules.Counts.{one_if};
+ghost use Rattle.value_flow.specs.flow_rules.Moves.{fixed_in, token_in, named_use, named_field};
+ghost use Rattle.value_flow.specs.body_graph.Methods.{setting_in};
+ghost use Rattle.mark_parts.specs.mark_tables.Assemblies.{all_of};
+ghost use Rattle.requirements.specs.site_rules.Values.{place_of};
 ghost use Rattle.requirements.specs.Bodies.{flowed, IsBody};
 
-use body_graph::methods::Method;
-use generic_sites::links::{field_named, method_named};
+use crate::generic_sites::links::{field_named, method_named};
+use crate::site_kinds::known::Annotated;
+use il_base::world_model::{FieldUse, MethodUse, token_of};
 use il_base::{MethodId, NoMemory, Operand, Place, TypeId, table};
-use link_rules::RowAt;
-use site_kinds::known::Annotated;
+use rules::link_rules::RowAt;
 use value_flow::Flow;
-use world_model::{FieldUse, MethodUse, token_of};
+use value_flow::body_graph::methods::Method;
 
 /// A method whose flow is known.
 #[derive(Clone, Copy)]

@@ -1,13 +1,13 @@
 -- The inputs of a world are the first of its assemblies.
 use Rattle.std.proofs.Common.{◌≡◌, ℕ, ◌≤◌, List, [], ◌∷◌, ◌++◌, length, take, Err, refl, ap, ◌∙◌, arith}
 use Rattle.std.proofs.lemmas.List.{length-append}
-use Rattle.world_model.specs.declared.record.AsmRec.{AsmRec}
-use Rattle.core_table.specs.Record.{core_record}
-use Rattle.link_rules.specs.CoreNames.{missing_names, core_with}
-use Rattle.link_rules.specs.declared.link_error.LinkError.{LinkError}
-use Rattle.link_rules.specs.declared.link_error.LinkError.TheVariants as fault
-use Rattle.link_rules.specs.Faults.{link_fault}
-use Rattle.link_rules.specs.Linked.{assemblies, link_fault_of, Links}
+use Rattle.il_base.specs.declared.world_model.record.AsmRec.{AsmRec}
+use Rattle.il_base.specs.core_table.Record.{core_record}
+use Rattle.rules.specs.link_rules.CoreNames.{missing_names, core_with}
+use Rattle.rules.specs.declared.link_rules.link_error.LinkError.{LinkError}
+use Rattle.rules.specs.declared.link_rules.link_error.LinkError.TheVariants as fault
+use Rattle.rules.specs.link_rules.Faults.{link_fault}
+use Rattle.rules.specs.link_rules.Linked.{assemblies, link_fault_of, Links}
 use Rattle.link_faults.specs.Answer.{Answers}
 
 first_of : {A : Type 0} (xs ys : List A) → take (length xs) (xs ++ ys) ≡ xs

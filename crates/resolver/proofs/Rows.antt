@@ -2,7 +2,7 @@
 use Rattle.std.proofs.Common.{◌≡◌, ℕ, ◌+◌, List, [], ◌∷◌, ◌++◌, map, sym, ap, ◌∙◌, append_assoc, arith}
 use Rattle.std.specs.List.{range_with_len}
 use Rattle.std.proofs.lemmas.List.FromFn.{map-range_with_len_more}
-use Rattle.world_model.specs.declared.world.Home.{Home}
+use Rattle.il_base.specs.declared.world_model.world.Home.{Home}
 
 pub one_more : (f : ℕ → Home) (start now next : List Home) (i : ℕ) (h : Home) → h ≡ f i → next ≡ now ++ h ∷ []
     → now ≡ start ++ map f (range_with_len 0 i) → next ≡ start ++ map f (range_with_len 0 (i + 1))

@@ -3,7 +3,7 @@ use Rattle.std.specs.Prelude.{ℕ, length}
 use Rattle.il_base.specs.declared.table.TheConstants.{TYPE_DEF, FIELD, METHOD_DEF, INTERFACE_IMPL, EVENT, PROPERTY, ASSEMBLY}
 use Rattle.il_base.specs.declared.ids.Item.{Item}
 use Rattle.il_base.specs.declared.ids.Item.TheVariants as item
-use Rattle.world_model.specs.declared.record.AsmRec.{AsmRec}
+use Rattle.il_base.specs.declared.world_model.record.AsmRec.{AsmRec}
 use Rattle.resolver.specs.declared.kind.Kind.{Kind}
 use Rattle.resolver.specs.declared.kind.Kind.TheVariants as kind
 

@@ -1,16 +1,16 @@
 //! The assemblies of a world.
 
 ghost use Rattle.std.specs.Prelude.{◌≡◌, ◌++◌, ◌∷◌, [], List, IfOk, OnOk};
-ghost use Rattle.world_model.specs.declared.record.AsmRec.{AsmRec};
-ghost use Rattle.link_rules.specs.CoreNames.{core_with};
-ghost use Rattle.link_rules.specs.Linked.{assemblies};
+ghost use Rattle.il_base.specs.declared.world_model.record.AsmRec.{AsmRec};
+ghost use Rattle.rules.specs.link_rules.CoreNames.{core_with};
+ghost use Rattle.rules.specs.link_rules.Linked.{assemblies};
 
-use core_names::{add_names, missing_names};
-use core_table::core;
+use crate::core_names::{add_names, missing_names};
+use il_base::core_table::core;
+use il_base::world_model::AsmRec;
 use il_base::{NoMemory, Seq};
-use link_rules::CoreTypeName;
+use rules::link_rules::CoreTypeName;
 use std::alloc::Global;
-use world_model::AsmRec;
 
 /// Adds types without members to the last assembly, the core library.
 fn add_to_last(alloc: Global, all: &mut Seq<AsmRec>, names: &[CoreTypeName]) -> Result<(), NoMemory>
@@ -27,7 +27,7 @@ fn add_to_last(alloc: Global, all: &mut Seq<AsmRec>, names: &[CoreTypeName]) -> 
 }
 
 /// The inputs, and after them the core library with the names that modifiers use.
-#[tactic(auto, unfolding(link_rules::specs::Linked::assemblies))]
+#[tactic(auto, unfolding(rules::specs::link_rules::Linked::assemblies))]
 pub(crate) fn assemblies(alloc: Global, inputs: Seq<AsmRec>) -> Result<Seq<AsmRec>, NoMemory>
     ensures { IfOk result (λ all. all ≡ assemblies inputs) }
 {

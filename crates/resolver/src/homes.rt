@@ -2,13 +2,13 @@
 
 ghost use Rattle.std.specs.Prelude.{◌≡◌, ◌++◌, length, map, OnOk, IfOk};
 ghost use Rattle.std.specs.List.{range_with_len};
-ghost use Rattle.link_rules.specs.Linked.{home, homes_from, homes};
+ghost use Rattle.rules.specs.link_rules.Linked.{home, homes_from, homes};
 ghost use Rattle.resolver.specs.Kinds.{count_in, item_of, table_of};
 
 use crate::kind::{Kind, count_in, item_of, table_of};
+use il_base::world_model::{AsmRec, Home, token_of};
 use il_base::{AsmId, NoMemory, Seq};
 use std::alloc::Global;
-use world_model::{AsmRec, Home, token_of};
 
 /// Adds those of one kind in one assembly, of which `before` stand in the assemblies before it.
 fn add_rows(
@@ -56,7 +56,7 @@ fn add_kind(homes: &mut Seq<Home>, kind: Kind, all: &[AsmRec]) -> Result<(), NoM
 }
 
 /// Where each item of these assemblies stands: the kinds one after the other, in each the assemblies in order.
-#[tactic(auto, unfolding(link_rules::specs::Linked::homes))]
+#[tactic(auto, unfolding(rules::specs::link_rules::Linked::homes))]
 pub(crate) fn homes(alloc: Global, all: &[AsmRec]) -> Result<Seq<Home>, NoMemory>
     ensures { IfOk result (λ hs. hs ≡ homes all.now) }
 {

@@ -3,8 +3,8 @@
 ghost use Rattle.std.specs.Prelude.{◌≡◌};
 ghost use Rattle.resolver.specs.Kinds.{count_in, item_of, table_of};
 
+use il_base::world_model::AsmRec;
 use il_base::{AsmId, EventId, FieldId, ImplId, Item, MethodId, PropId, TypeId, table};
-use world_model::AsmRec;
 
 /// A kind of items, in the order in which their places stand in a world.
 #[derive(Clone, Copy, Debug, PartialEq, Eq)]

@@ -1,21 +1,21 @@
 //! Linking.
 
 ghost use Rattle.std.specs.Prelude.{◌≡◌, IfOk};
-ghost use Rattle.link_rules.specs.Linked.{Links, world_in};
-ghost use Rattle.link_rules.specs.Laws.{AreTypeLinks};
+ghost use Rattle.rules.specs.link_rules.Linked.{Links, world_in};
+ghost use Rattle.rules.specs.link_rules.Laws.{AreTypeLinks};
 
 use crate::assemblies::assemblies;
 use crate::homes::homes;
+use crate::member_links::{field_links, method_links};
+use crate::type_links::type_links;
+use il_base::world_model::{AsmRec, TypeLink, World};
 use il_base::{NoMemory, Seq};
 use link_faults::link_fault;
-use link_rules::LinkError;
-use member_links::{field_links, method_links};
+use rules::link_rules::LinkError;
 use std::alloc::Global;
-use type_links::type_links;
-use world_model::{AsmRec, TypeLink, World};
 
 /// The world of these assemblies, the core library among them, where their type tokens name this.
-#[tactic(auto, unfolding(link_rules::specs::Linked::world_in))]
+#[tactic(auto, unfolding(rules::specs::link_rules::Linked::world_in))]
 fn world_with(alloc: Global, all: Seq<AsmRec>, types: Vec<TypeLink>) -> Result<World, NoMemory>
     requires { AreTypeLinks all types.items }
     ensures { IfOk result (λ w. w ≡ world_in all) }

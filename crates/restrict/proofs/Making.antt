@@ -2,10 +2,10 @@
 use Rattle.std.proofs.Common.{◌≡◌, Bool, List, [], Some, None, sym, ap, ◌∙◌}
 use Rattle.std.specs.Prelude.{slice_get}
 use Rattle.std.specs.Option.{option_map}
-use Rattle.world_model.specs.declared.record.AsmRec.{AsmRec}
-use Rattle.merge_rules.specs.Numbers.{Kept}
-use Rattle.merge_rules.specs.Refs.{Output}
-use Rattle.merge_rules.specs.Restricted.{kept_bits, placed_methods, moved_methods, restricted_by, output_of, restricted}
+use Rattle.il_base.specs.declared.world_model.record.AsmRec.{AsmRec}
+use Rattle.rules.specs.merge_rules.Numbers.{Kept}
+use Rattle.rules.specs.merge_rules.Refs.{Output}
+use Rattle.rules.specs.merge_rules.Restricted.{kept_bits, placed_methods, moved_methods, restricted_by, output_of, restricted}
 use Rattle.merged_tables.specs.Parts.{output_by}
 use Rattle.restrict.specs.declared.rows.OutputRows.{OutputRows}
 use Rattle.restrict.specs.declared.record.FirstRows.{FirstRows}

@@ -1,7 +1,7 @@
 -- The record of the rows that are left.
 use Rattle.std.specs.Prelude.{◌≡◌, [], map, None}
-use Rattle.world_model.specs.declared.record.AsmRec.{AsmRec}
-use Rattle.merge_rules.specs.Restricted.{kept_bits, moved_assembly}
+use Rattle.il_base.specs.declared.world_model.record.AsmRec.{AsmRec}
+use Rattle.rules.specs.merge_rules.Restricted.{kept_bits, moved_assembly}
 use Rattle.restrict.specs.declared.rows.OutputRows.{OutputRows}
 use Rattle.restrict.specs.declared.record.FirstRows.{FirstRows}
 

@@ -1,8 +1,8 @@
 -- The plan that a merge goes by.
 use Rattle.std.specs.Prelude.{◌≡◌, List, map}
-use Rattle.world_model.specs.declared.record.AsmRec.{AsmRec}
-use Rattle.merge_rules.specs.Numbers.{Kept, kept_types}
-use Rattle.merge_rules.specs.Names.{new_names}
+use Rattle.il_base.specs.declared.world_model.record.AsmRec.{AsmRec}
+use Rattle.rules.specs.merge_rules.Numbers.{Kept, kept_types}
+use Rattle.rules.specs.merge_rules.Names.{new_names}
 use Rattle.merge_plan.specs.declared.outcome.Plan.{Plan}
 use Rattle.merge_plan.specs.Plans.{named}
 

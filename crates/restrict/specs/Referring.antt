@@ -1,9 +1,9 @@
 -- What an output refers to, over what code holds.
 use Rattle.std.specs.Prelude.{◌≡◌, List, map}
-use Rattle.merge_rules.specs.Refs.{Output}
-use Rattle.merge_rules.specs.Attributes.{kept_attributes}
-use Rattle.merged_attributes.specs.declared.attributes.Attribute.{Attribute}
-use Rattle.merged_attributes.specs.Attributes.{told}
+use Rattle.rules.specs.merge_rules.Refs.{Output}
+use Rattle.rules.specs.merge_rules.Attributes.{kept_attributes}
+use Rattle.member_rows.specs.declared.merged_attributes.attributes.Attribute.{Attribute}
+use Rattle.member_rows.specs.merged_attributes.Attributes.{told}
 use Rattle.output_references.specs.References.{AreReferencesOf}
 use Rattle.restrict.specs.declared.referring.Referring.{Referring}
 

@@ -1,21 +1,21 @@
 -- What the rows of an output are made of, and these rows.
 use Rattle.std.specs.Prelude.{◌≡◌, Bool, List, map}
-use Rattle.world_model.specs.declared.extras.CustomAttributeRow.{CustomAttributeRow}
-use Rattle.world_model.specs.declared.record.AsmRec.{AsmRec}
-use Rattle.type_links.specs.Index.{IsIndex}
-use Rattle.mark_tables.specs.Assemblies.{all_of}
-use Rattle.merge_rules.specs.Refs.{Output}
-use Rattle.merge_rules.specs.Attributes.{kept_attributes}
-use Rattle.merge_rules.specs.Moved.{moved_callee, kept_texts}
-use Rattle.merge_rules.specs.Restricted.{attribute_row, new_text}
+use Rattle.il_base.specs.declared.world_model.extras.CustomAttributeRow.{CustomAttributeRow}
+use Rattle.il_base.specs.declared.world_model.record.AsmRec.{AsmRec}
+use Rattle.resolver.specs.type_links.Index.{IsIndex}
+use Rattle.mark_parts.specs.mark_tables.Assemblies.{all_of}
+use Rattle.rules.specs.merge_rules.Refs.{Output}
+use Rattle.rules.specs.merge_rules.Attributes.{kept_attributes}
+use Rattle.rules.specs.merge_rules.Moved.{moved_callee, kept_texts}
+use Rattle.rules.specs.merge_rules.Restricted.{attribute_row, new_text}
 use Rattle.merge_plan.specs.Kept.{kept_by}
-use Rattle.kept_tables.specs.Kept.{AreKept}
-use Rattle.world_keys.specs.Keys.{IsWorldKeys}
-use Rattle.key_tokens.specs.Keys.{AreKeyTokens}
-use Rattle.key_tokens.specs.Laws.{AreKeysOf}
-use Rattle.merged_members.specs.Laws.{HaveTokens}
-use Rattle.reference_tables.specs.Tables.{AreTablesOf}
-use Rattle.merged_types.specs.Laws.{IsPlanOf}
+use Rattle.merge_plan.specs.kept_tables.Kept.{AreKept}
+use Rattle.token_keys.specs.world_keys.Keys.{IsWorldKeys}
+use Rattle.reference_rows.specs.key_tokens.Keys.{AreKeyTokens}
+use Rattle.reference_rows.specs.key_tokens.Laws.{AreKeysOf}
+use Rattle.merged_tables.specs.merged_members.Laws.{HaveTokens}
+use Rattle.output_references.specs.reference_tables.Tables.{AreTablesOf}
+use Rattle.merged_tables.specs.merged_types.Laws.{IsPlanOf}
 use Rattle.merged_tables.specs.Parts.{output_by}
 use Rattle.merged_tables.specs.Rows.{AreMergedTables}
 use Rattle.restrict.specs.declared.rows.Sources.{Sources}

@@ -4,12 +4,12 @@ ghost use Rattle.std.specs.Prelude.{◌≡◌, IfOk};
 ghost use Rattle.restrict.specs.Made.{made, AreFirstRows};
 
 use crate::rows::OutputRows;
-use first_input_rows::assemblies::assembly_rows;
-use first_input_rows::header::kept_bits;
-use first_input_rows::modules::module_rows;
+use il_base::world_model::{AsmRec, AssemblyRow, ModuleRow};
 use il_base::{NoMemory, Seq};
+use merge_plan::first_input_rows::assemblies::assembly_rows;
+use merge_plan::first_input_rows::header::kept_bits;
+use merge_plan::first_input_rows::modules::module_rows;
 use std::alloc::Global;
-use world_model::{AsmRec, AssemblyRow, ModuleRow};
 
 /// The first assembly's own rows.
 #[derive(Drop)]

@@ -1,25 +1,25 @@
 //! Attributes, and what the output refers to.
 
 ghost use Rattle.std.specs.Prelude.{◌≡◌, IfOk};
-ghost use Rattle.type_links.specs.Index.{IsIndex};
-ghost use Rattle.mark_tables.specs.Assemblies.{all_of};
+ghost use Rattle.resolver.specs.type_links.Index.{IsIndex};
+ghost use Rattle.mark_parts.specs.mark_tables.Assemblies.{all_of};
 ghost use Rattle.merge_plan.specs.Kept.{kept_by};
-ghost use Rattle.kept_tables.specs.Kept.{AreKept};
-ghost use Rattle.world_keys.specs.Keys.{IsWorldKeys};
-ghost use Rattle.reference_scopes.specs.Scopes.{recs_of, IsScopes};
+ghost use Rattle.merge_plan.specs.kept_tables.Kept.{AreKept};
+ghost use Rattle.token_keys.specs.world_keys.Keys.{IsWorldKeys};
+ghost use Rattle.reference_rows.specs.reference_scopes.Scopes.{recs_of, IsScopes};
 ghost use Rattle.merged_tables.specs.Parts.{output_by};
 ghost use Rattle.restrict.specs.Referring.{AreReferring};
 
 use il_base::NoMemory;
-use kept_tables::tables::KeptTables;
+use member_rows::merged_attributes::laws::attributes_tell;
+use member_rows::merged_attributes::{Attribute, kept_attributes};
 use merge_plan::KeptItems;
-use merged_attributes::laws::attributes_tell;
-use merged_attributes::{Attribute, kept_attributes};
+use merge_plan::kept_tables::tables::KeptTables;
 use output_references::{OutputReferences, output_mets, output_references};
-use reference_scopes::scopes::Scopes;
+use reference_rows::reference_scopes::scopes::Scopes;
+use resolver::type_links::TypeIndex;
 use std::alloc::Global;
-use type_links::TypeIndex;
-use world_keys::WorldKeys;
+use token_keys::world_keys::WorldKeys;
 
 /// The attributes that are written, and what has reference rows.
 #[derive(Drop)]

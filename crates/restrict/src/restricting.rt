@@ -1,8 +1,8 @@
 //! The record that is left.
 
 ghost use Rattle.std.specs.Prelude.{◌≡◌, Some, slice_get, IfOk};
-ghost use Rattle.link_rules.specs.Linked.{IsWorld};
-ghost use Rattle.merge_rules.specs.Restricted.{restricted};
+ghost use Rattle.rules.specs.link_rules.Linked.{IsWorld};
+ghost use Rattle.rules.specs.merge_rules.Restricted.{restricted};
 ghost use Rattle.merge_plan.specs.Kept.{kept_by};
 ghost use Rattle.merged_tables.specs.Parts.{output_by};
 ghost use Rattle.restrict.specs.Plans.{HasNewNames};
@@ -11,13 +11,13 @@ ghost use Rattle.restrict.specs.Rows.{AreOutputRows};
 use crate::record::{first_rows, made};
 use crate::rows::{OutputRows, output_rows};
 use il_base::NoMemory;
-use mark_tables::marker::Marker;
-use member_search::linked::assembly_at;
+use il_base::world_model::{AsmRec, World};
+use mark_parts::mark_tables::marker::Marker;
 use merge_plan::KeptItems;
 use merge_plan::outcome::Plan;
+use resolver::type_links::TypeIndex;
 use std::alloc::Global;
-use type_links::TypeIndex;
-use world_model::{AsmRec, World};
+use type_tables::member_search::linked::assembly_at;
 
 /// The rows of the output of a world with these kept items but those of `first`, the first assembly.
 fn rows_left(

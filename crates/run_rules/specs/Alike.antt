@@ -1,7 +1,7 @@
 -- When two runs are the same, where the methods of one world have new numbers in another.
 use Rattle.std.specs.Prelude.{◌≡◌, ℕ, List}
 use Rattle.il_base.specs.declared.ids.Place.{Place}
-use Rattle.world_model.specs.declared.record.AsmRec.{AsmRec}
+use Rattle.il_base.specs.declared.world_model.record.AsmRec.{AsmRec}
 use Rattle.run_rules.specs.declared.answers.EndKind.{EndKind}
 use Rattle.run_rules.specs.declared.answers.EndKind.TheVariants.{Ended, Threw, Spent, Stopped, Stuck}
 use Rattle.run_rules.specs.Runs.{FileRun, place_at}

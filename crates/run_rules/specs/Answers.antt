@@ -4,11 +4,11 @@ use Rattle.std.specs.Option.{option_and_then}
 use Rattle.std.specs.Io.KnownBytes.{Appends}
 use Rattle.il_outside.specs.Streams.{SinkState, AppendsPrefix}
 use Rattle.il_outside.specs.Faults.{Rose}
-use Rattle.cli_format.specs.Demand.{first_fault}
-use Rattle.cli_format.specs.declared.error.TablesError.{TablesError}
-use Rattle.world_model.specs.declared.assemblies.AssemblyRow.{AssemblyRow}
-use Rattle.world_model.specs.declared.record.AsmRec.{AsmRec}
-use Rattle.record_format.specs.Record.{record_demands, record_at}
+use Rattle.il_base.specs.cli_format.Demand.{first_fault}
+use Rattle.il_base.specs.declared.cli_format.error.TablesError.{TablesError}
+use Rattle.il_base.specs.declared.world_model.assemblies.AssemblyRow.{AssemblyRow}
+use Rattle.il_base.specs.declared.world_model.record.AsmRec.{AsmRec}
+use Rattle.rules.specs.record_format.Record.{record_demands, record_at}
 use Rattle.inputs.specs.declared.error.InputError.{InputError}
 use Rattle.inputs.specs.declared.error.InputError.TheVariants as refused
 use Rattle.inputs.specs.Files.{input_fault}

@@ -2,16 +2,16 @@
 use Rattle.std.specs.Prelude.{ℕ, suc, List, [], ◌∷◌, Option, Some, None, unwrap_or}
 use Rattle.il_base.specs.declared.ids.Place.{Place}
 use Rattle.il_base.specs.declared.table.TheConstants.{METHOD_DEF}
-use Rattle.world_model.specs.declared.record.AsmRec.{AsmRec}
-use Rattle.world_model.specs.Tokens.{token_of, index_in}
-use Rattle.link_rules.specs.declared.row_at.RowAt.{RowAt}
-use Rattle.link_rules.specs.Members.{home_from, methods_in}
-use Rattle.link_rules.specs.Linked.{world_of}
+use Rattle.il_base.specs.declared.world_model.record.AsmRec.{AsmRec}
+use Rattle.il_base.specs.world_model.Tokens.{token_of, index_in}
+use Rattle.rules.specs.declared.link_rules.row_at.RowAt.{RowAt}
+use Rattle.rules.specs.link_rules.Members.{home_from, methods_in}
+use Rattle.rules.specs.link_rules.Linked.{world_of}
 use Rattle.inputs.specs.Files.{records}
-use Rattle.cil_values.specs.declared.end.End.{End}
-use Rattle.cil_values.specs.declared.end.End.TheVariants as run_end
-use Rattle.step_rules.specs.Run as whole
-use Rattle.view_rules.specs.Answers.{queries_of}
+use Rattle.il_base.specs.declared.cil_values.end.End.{End}
+use Rattle.il_base.specs.declared.cil_values.end.End.TheVariants as run_end
+use Rattle.rules.specs.step_rules.Run as whole
+use Rattle.rules.specs.view_rules.Answers.{queries_of}
 use Rattle.run_rules.specs.declared.answers.EndKind.{EndKind}
 use Rattle.run_rules.specs.declared.answers.EndKind.TheVariants.{Ended, Threw, Spent, Stopped, Stuck}
 

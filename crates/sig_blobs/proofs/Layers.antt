@@ -7,9 +7,9 @@ use Rattle.il_base.specs.declared.sig.Sig.{Sig, fold-Sig, fold-roll-Sig}
 use Rattle.il_base.specs.declared.sig.Sig.TheOpen.{Sig-F}
 use Rattle.il_base.specs.declared.sig.Sig.TheVariants.{Named, Array, ByRef, Inst, Var, MVar, Mod, Pinned, rolls-Prim, rolls-Named, rolls-Array, rolls-ByRef, rolls-Inst, rolls-Var, rolls-MVar, rolls-Mod, rolls-Pinned}
 use Rattle.il_base.specs.declared.sig.Sig.TheVariants as sig
-use Rattle.blob_grammar.specs.Numbers.{shortest}
-use Rattle.blob_grammar.specs.Tokens.{token_bytes}
-use Rattle.blob_grammar.specs.Signatures.{class_byte, modifier_byte, layer_bytes, type_bytes, types_bytes}
+use Rattle.il_base.specs.blob_grammar.Numbers.{shortest}
+use Rattle.il_base.specs.blob_grammar.Tokens.{token_bytes}
+use Rattle.il_base.specs.blob_grammar.Signatures.{class_byte, modifier_byte, layer_bytes, type_bytes, types_bytes}
 use Rattle.sig_blobs.specs.Answers.{Extends}
 
 -- the written bytes of each type

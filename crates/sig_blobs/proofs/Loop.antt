@@ -1,10 +1,10 @@
 -- Reading types one behind another, as a loop does.
 use Rattle.std.proofs.Common.{◌≡◌, ℕ, zero, suc, length, get_or, take, drop, ◌-◌, ◌+◌, ◌≤◌, ◌<◌, List, [], ◌∷◌, ◌++◌, Result, Ok, Err, refl, sym, ap, ◌∙◌, append_assoc, arith}
 use Rattle.std.proofs.lemmas.List.{append-nil, take_all}
-use Rattle.blob_grammar.specs.declared.element.Element.{Element}
+use Rattle.il_base.specs.declared.blob_grammar.element.Element.{Element}
 use Rattle.il_base.specs.declared.sig.Sig.{Sig}
-use Rattle.blob_grammar.specs.Reading.{Fault, Reader, ◌>>=◌, type_at, types_at, type_by}
-use Rattle.blob_grammar.specs.Signatures.{element}
+use Rattle.il_base.specs.blob_grammar.Reading.{Fault, Reader, ◌>>=◌, type_at, types_at, type_by}
+use Rattle.il_base.specs.blob_grammar.Signatures.{element}
 use Rattle.sig_blobs.specs.declared.error.Unread.{Unread}
 use Rattle.sig_blobs.specs.declared.error.Unread.TheVariants as unread
 use Rattle.sig_blobs.specs.Answers.{Fails}

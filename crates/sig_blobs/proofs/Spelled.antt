@@ -6,8 +6,8 @@ use Rattle.il_base.specs.declared.sig.MethodSig.{MethodSig}
 use Rattle.il_base.specs.declared.sig.Sig.{Sig, out-Sig}
 use Rattle.il_base.specs.declared.sig.Sig.TheOpen.{Sig-F}
 use Rattle.il_base.specs.declared.sig.Sig.TheVariants.{Array, ByRef, Inst, Var, MVar, Mod, Pinned, outs-Array, outs-ByRef, outs-Pinned, outs-Mod, outs-Inst}
-use Rattle.blob_grammar.specs.Numbers.{IsNumber, one, two, four}
-use Rattle.blob_grammar.specs.Signatures.{levels, IsType, AreTypes, primitive, named, of_type, of_method, vector, reference, pinned, modified, instance, none, more, AreParts, parts, IsMethod, plain, generic, IsProperty, property, IsField, field, AreCounted, counted}
+use Rattle.il_base.specs.blob_grammar.Numbers.{IsNumber, one, two, four}
+use Rattle.il_base.specs.blob_grammar.Signatures.{levels, IsType, AreTypes, primitive, named, of_type, of_method, vector, reference, pinned, modified, instance, none, more, AreParts, parts, IsMethod, plain, generic, IsProperty, property, IsField, field, AreCounted, counted}
 use Rattle.sig_blobs.specs.Answers.{HasSpelling, HaveSpellings}
 
 number_small : (n : ℕ) (bs : List ℕ) → IsNumber n bs → n < 536870912

@@ -1,9 +1,9 @@
 -- What a call answers, by what its bytes give.
 use Rattle.std.specs.Prelude.{◌≡◌, ℕ, ◌<◌, ◌++◌, List, length, All, Result, Ok, Err}
 use Rattle.il_base.specs.declared.sig.Sig.{Sig}
-use Rattle.blob_grammar.specs.Laws.{IsSpelled}
-use Rattle.blob_grammar.specs.Signatures.{IsType}
-use Rattle.blob_grammar.specs.Reading.{Fault}
+use Rattle.il_base.specs.blob_grammar.Laws.{IsSpelled}
+use Rattle.il_base.specs.blob_grammar.Signatures.{IsType}
+use Rattle.il_base.specs.blob_grammar.Reading.{Fault}
 use Rattle.sig_blobs.specs.declared.error.SigError.{SigError}
 use Rattle.sig_blobs.specs.declared.error.SigError.TheVariants as sig_error
 use Rattle.sig_blobs.specs.declared.error.Unread.{Unread}

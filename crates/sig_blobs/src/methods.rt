@@ -1,5 +1,5 @@
 ghost use Rattle.std.specs.Prelude.{◌≡◌};
-ghost use Rattle.blob_grammar.specs.Reading.{type_at, types_at, parts_at, generic_at, method_at, property_at, field_at, counted_at};
+ghost use Rattle.il_base.specs.blob_grammar.Reading.{type_at, types_at, parts_at, generic_at, method_at, property_at, field_at, counted_at};
 ghost use Rattle.sig_blobs.specs.Answers.{Gives};
 
 use crate::error::{MALFORMED, Unread};
@@ -9,7 +9,7 @@ use il_base::{MethodSig, Seq, Sig};
 use std::alloc::Global;
 
 /// A method's signature in front (II.23.2.1 to II.23.2.3).
-#[tactic(auto, unfolding(blob_grammar::specs::Reading::method_at))]
+#[tactic(auto, unfolding(il_base::specs::blob_grammar::Reading::method_at))]
 pub fn method_of(alloc: Global, bytes: &[u8]) -> Result<(MethodSig, &[u8]), Unread>
     ensures { Gives (λ x. (x.0, x.1.now)) result (method_at bytes.now) }
 {
@@ -30,7 +30,7 @@ pub fn method_of(alloc: Global, bytes: &[u8]) -> Result<(MethodSig, &[u8]), Unre
 }
 
 /// A property's signature in front (II.23.2.5).
-#[tactic(auto, unfolding(blob_grammar::specs::Reading::property_at))]
+#[tactic(auto, unfolding(il_base::specs::blob_grammar::Reading::property_at))]
 pub fn property_of(alloc: Global, bytes: &[u8]) -> Result<(MethodSig, &[u8]), Unread>
     ensures { Gives (λ x. (x.0, x.1.now)) result (property_at bytes.now) }
 {
@@ -49,7 +49,7 @@ pub fn property_of(alloc: Global, bytes: &[u8]) -> Result<(MethodSig, &[u8]), Un
 }
 
 /// A field's signature in front (II.23.2.4).
-#[tactic(auto, unfolding(blob_grammar::specs::Reading::field_at))]
+#[tactic(auto, unfolding(il_base::specs::blob_grammar::Reading::field_at))]
 pub fn field_of(alloc: Global, bytes: &[u8]) -> Result<(Sig, &[u8]), Unread>
     ensures { Gives (λ x. (x.0, x.1.now)) result (field_at bytes.now) }
 {
@@ -67,7 +67,7 @@ pub fn field_of(alloc: Global, bytes: &[u8]) -> Result<(Sig, &[u8]), Unread>
 }
 
 /// Types in front, behind a leading byte and their count (II.23.2.6, II.23.2.15).
-#[tactic(auto, unfolding(blob_grammar::specs::Reading::counted_at))]
+#[tactic(auto, unfolding(il_base::specs::blob_grammar::Reading::counted_at))]
 pub fn counted_of(alloc: Global, lead: u8, bytes: &[u8]) -> Result<(Seq<Sig>, &[u8]), Unread>
     ensures { Gives (λ x. (x.0, x.1.now)) result (counted_at lead bytes.now) }
 {
@@ -96,7 +96,7 @@ fn generic_of(alloc: Global, this: bool, bytes: &[u8]) -> Result<(MethodSig, &[u
 }
 
 /// The count of parameters, the return type and the parameters' types.
-#[tactic(auto, unfolding(blob_grammar::specs::Reading::parts_at))]
+#[tactic(auto, unfolding(il_base::specs::blob_grammar::Reading::parts_at))]
 fn parts_of(
     alloc: Global,
     this: bool,

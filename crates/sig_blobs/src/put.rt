@@ -1,13 +1,13 @@
 ghost use Rattle.std.specs.Prelude.{◌≡◌, ◌++◌, ◌<◌, ◌∷◌, [], length, take, All, OnOk, OnErr};
-ghost use Rattle.blob_grammar.specs.Numbers.{shortest};
-ghost use Rattle.blob_grammar.specs.Tokens.{token_bytes};
-ghost use Rattle.blob_grammar.specs.Signatures.{type_bytes, types_bytes, class_byte, modifier_byte};
+ghost use Rattle.il_base.specs.blob_grammar.Numbers.{shortest};
+ghost use Rattle.il_base.specs.blob_grammar.Tokens.{token_bytes};
+ghost use Rattle.il_base.specs.blob_grammar.Signatures.{type_bytes, types_bytes, class_byte, modifier_byte};
 ghost use Rattle.sig_blobs.specs.Answers.{HasSpelling, HaveSpellings, Extends};
 
 use il_base::{NoMemory, Sig};
 
 /// Puts the shortest spelling of a number behind the bytes (II.23.2).
-#[tactic(auto, unfolding(blob_grammar::specs::Numbers::shortest))]
+#[tactic(auto, unfolding(il_base::specs::blob_grammar::Numbers::shortest))]
 pub fn put_number(n: u32, out: &mut Vec<u8>) -> Result<(), NoMemory>
     requires { n < 536870912 }
     ensures ok { OnOk result (out.new.items ≡ out.old.items ++ shortest n) }
@@ -29,7 +29,7 @@ pub fn put_number(n: u32, out: &mut Vec<u8>) -> Result<(), NoMemory>
 }
 
 /// Puts the shortest spelling of a token behind the bytes (II.23.2.8).
-#[tactic(auto, unfolding(blob_grammar::specs::Tokens::token_bytes))]
+#[tactic(auto, unfolding(il_base::specs::blob_grammar::Tokens::token_bytes))]
 pub fn put_token(token: u32, out: &mut Vec<u8>) -> Result<(), NoMemory>
     ensures ok { OnOk result (out.new.items ≡ out.old.items ++ token_bytes token) }
     ensures err { OnErr result (out.new.items ≡ out.old.items) }
@@ -170,7 +170,7 @@ pub fn put_counted(room: u32, types: &[Sig], out: &mut Vec<u8>) -> Result<(), No
 
 /// Puts the spellings of some types behind the bytes.
 #[cycle(writing)]
-#[tactic(auto, using(crate::proofs::Layers::extends_behind, crate::proofs::Layers::extends_same), unfolding(blob_grammar::specs::Signatures::types_bytes))]
+#[tactic(auto, using(crate::proofs::Layers::extends_behind, crate::proofs::Layers::extends_same), unfolding(il_base::specs::blob_grammar::Signatures::types_bytes))]
 pub fn put_types(room: u32, types: &[Sig], out: &mut Vec<u8>) -> Result<(), NoMemory>
     requires { All (HasSpelling room) types.now }
     ensures ok { OnOk result (out.new.items ≡ out.old.items ++ types_bytes types.now) }

@@ -1,5 +1,5 @@
 ghost use Rattle.std.specs.Prelude.{◌≡◌, ◌≤◌, ◌^◌, ◌<◌, ℕ, List, Result, length};
-ghost use Rattle.blob_grammar.specs.Reading.{Fault, whole, type_of_blob, method_of_blob, property_of_blob, field_of_blob, locals_of_blob, instance_of_blob};
+ghost use Rattle.il_base.specs.blob_grammar.Reading.{Fault, whole, type_of_blob, method_of_blob, property_of_blob, field_of_blob, locals_of_blob, instance_of_blob};
 ghost use Rattle.sig_blobs.specs.Answers.{Gives, Answers};
 
 use crate::error::{MALFORMED, SigError, Unread};

@@ -1,10 +1,10 @@
 ghost use Rattle.std.specs.Prelude.{◌≡◌};
-ghost use Rattle.blob_grammar.specs.Reading.{type_at, types_at, type_by, leaf_by, modified_at, instance_at};
+ghost use Rattle.il_base.specs.blob_grammar.Reading.{type_at, types_at, type_by, leaf_by, modified_at, instance_at};
 ghost use Rattle.sig_blobs.specs.Answers.{Gives};
 
 use crate::error::{FLOAT, MALFORMED, Unread};
 use crate::numbers::{class_of, number_of, token_of};
-use blob_grammar::Element;
+use il_base::blob_grammar::Element;
 use il_base::{Boxed, Seq, Sig};
 use std::alloc::Global;
 
@@ -13,7 +13,7 @@ pub const LEVELS: u32 = 64;
 
 /// The type in front (II.23.2.12), where at most `room` constructs that hold a type may open.
 #[cycle(types)]
-#[tactic(auto, unfolding(blob_grammar::specs::Reading::type_at))]
+#[tactic(auto, unfolding(il_base::specs::blob_grammar::Reading::type_at))]
 pub fn type_of(alloc: Global, room: u32, bytes: &[u8]) -> Result<(Sig, &[u8]), Unread>
     ensures { Gives (λ x. (x.0, x.1.now)) result (type_at room bytes.now) }
 {

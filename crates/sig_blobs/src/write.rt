@@ -1,7 +1,7 @@
 ghost use Rattle.std.specs.Prelude.{◌≡◌, ◌++◌, ◌∷◌, ◌<◌, length, take, OnOk, OnErr};
-ghost use Rattle.blob_grammar.specs.Numbers.{shortest};
-ghost use Rattle.blob_grammar.specs.Laws.{IsSpelled};
-ghost use Rattle.blob_grammar.specs.Signatures.{levels, IsType, IsMethod, IsProperty, IsField, AreLocals, IsInstance, type_bytes, method_bytes, property_bytes, field_bytes, locals_bytes, instance_bytes, parts_bytes, plain_byte, generic_byte, property_byte, method_head, types_bytes};
+ghost use Rattle.il_base.specs.blob_grammar.Numbers.{shortest};
+ghost use Rattle.il_base.specs.blob_grammar.Laws.{IsSpelled};
+ghost use Rattle.il_base.specs.blob_grammar.Signatures.{levels, IsType, IsMethod, IsProperty, IsField, AreLocals, IsInstance, type_bytes, method_bytes, property_bytes, field_bytes, locals_bytes, instance_bytes, parts_bytes, plain_byte, generic_byte, property_byte, method_head, types_bytes};
 ghost use Rattle.sig_blobs.specs.Answers.{HasSpelling, HaveSpellings, Extends};
 
 use crate::put::{put_counted, put_number, put_type, put_types};

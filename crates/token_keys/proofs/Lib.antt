@@ -1,3 +1,4 @@
 pub mod MadeLayers
 pub mod Plain
 pub mod Prims
+pub mod lemmas

@@ -5,17 +5,17 @@ use Rattle.std.specs.List.{count_by, list_any}
 use Rattle.std.proofs.Math.Bool.{or-false}
 use Rattle.std.proofs.lemmas.List.Sums.{sum_by-cons}
 use Rattle.il_base.specs.declared.table.TheConstants.{TYPE_DEF}
-use Rattle.world_model.specs.declared.types.GenericParamRow.{GenericParamRow}
-use Rattle.world_model.specs.declared.record.AsmRec.{AsmRec}
-use Rattle.world_model.specs.Tokens.{token_of}
-use Rattle.link_rules.specs.declared.row_at.RowAt.{RowAt}
-use Rattle.link_rules.specs.Cycles.{listed}
-use Rattle.type_rules.specs.Rows.{rec_at}
-use Rattle.link_rules.specs.Members.{is_param_of, param_count}
-use Rattle.member_search.specs.Names.{places}
+use Rattle.il_base.specs.declared.world_model.types.GenericParamRow.{GenericParamRow}
+use Rattle.il_base.specs.declared.world_model.record.AsmRec.{AsmRec}
+use Rattle.il_base.specs.world_model.Tokens.{token_of}
+use Rattle.rules.specs.declared.link_rules.row_at.RowAt.{RowAt}
+use Rattle.rules.specs.link_rules.Cycles.{listed}
+use Rattle.rules.specs.type_rules.Rows.{rec_at}
+use Rattle.rules.specs.link_rules.Members.{is_param_of, param_count}
+use Rattle.type_tables.specs.member_search.Names.{places}
 use Rattle.type_tables.specs.declared.groups.Groups.{Groups}
 use Rattle.type_tables.specs.Groups.{is_key, rows_with, AreGroups}
-use Rattle.mark_tables.specs.Owners.{param_owners}
+use Rattle.mark_parts.specs.mark_tables.Owners.{param_owners}
 
 one_more : (b : Bool) (i : ℕ) (ks : List ℕ) (count : ℕ) → length ks ≡ count → length (if b then i ∷ ks else ks) ≡ (if b then 1 else 0) + count
 one_more true i ks count e = omega (arith, e)

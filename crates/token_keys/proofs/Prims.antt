@@ -2,12 +2,12 @@
 use Rattle.std.proofs.Common.{◌≡◌, ℕ, List, Option, Some, None, sym, ap, ◌∙◌}
 use Rattle.std.specs.Option.{option_map}
 use Rattle.il_base.specs.declared.ids.TypeId.{TypeId}
-use Rattle.world_model.specs.declared.expr.TypeExpr.{out-TypeExpr, out-roll-TypeExpr}
-use Rattle.world_model.specs.declared.expr.TypeExpr.TheOpen.{TypeExpr-F}
-use Rattle.world_model.specs.declared.expr.TypeExpr.TheVariants as expr
-use Rattle.world_model.specs.declared.record.AsmRec.{AsmRec}
-use Rattle.world_model.specs.Worlds.{prim_type}
-use Rattle.merge_rules.specs.Keys.{named, expr_key_in, expr_key}
+use Rattle.il_base.specs.declared.world_model.expr.TypeExpr.{out-TypeExpr, out-roll-TypeExpr}
+use Rattle.il_base.specs.declared.world_model.expr.TypeExpr.TheOpen.{TypeExpr-F}
+use Rattle.il_base.specs.declared.world_model.expr.TypeExpr.TheVariants as expr
+use Rattle.il_base.specs.declared.world_model.record.AsmRec.{AsmRec}
+use Rattle.il_base.specs.world_model.Worlds.{prim_type}
+use Rattle.rules.specs.merge_rules.Keys.{named, expr_key_in, expr_key}
 
 out_prim : (n : ℕ) → out-TypeExpr (expr.Prim n) ≡ TypeExpr-F.Prim n
 out_prim n = ap out-TypeExpr (sym (expr.rolls-Prim n)) ∙ out-roll-TypeExpr (TypeExpr-F.Prim n)

@@ -1,9 +1,9 @@
 -- An assembly of a world with the numbers of its tokens.
 use Rattle.std.specs.Prelude.{◌≡◌, ℕ, List}
-use Rattle.world_model.specs.declared.record.AsmRec.{AsmRec}
-use Rattle.mark_tables.specs.Assemblies as assemblies
-use Rattle.mark_tables.specs.Assemblies.{all_of, IsAssembly, IsMarker}
-use Rattle.signature_rows.specs.Laws.{AreNumbers}
+use Rattle.il_base.specs.declared.world_model.record.AsmRec.{AsmRec}
+use Rattle.mark_parts.specs.mark_tables.Assemblies as assemblies
+use Rattle.mark_parts.specs.mark_tables.Assemblies.{all_of, IsAssembly, IsMarker}
+use Rattle.token_keys.specs.signature_rows.Laws.{AreNumbers}
 use Rattle.token_keys.specs.declared.keys.Keys.{Keys}
 
 -- all assemblies of the world, the place of this one, and its record

@@ -1,2 +1,11 @@
 pub mod Instances
 pub mod Keys
+pub mod key_codes
+pub mod met_keys
+pub mod signature_rows
+pub mod met_forms
+pub mod absent_types
+pub mod core_scopes
+pub mod copied_attributes
+pub mod type_numbers
+pub mod world_keys

@@ -1,6 +1,6 @@
-use mark_tables::assembly::Assembly;
-use mark_tables::marker::Marker;
-use moved_parts::NewTokens;
+use mark_parts::mark_tables::assembly::Assembly;
+use mark_parts::mark_tables::marker::Marker;
+use merge_plan::moved_parts::NewTokens;
 
 /// An assembly of a world, and the numbers of the types that its tokens name.
 #[derive(Clone, Copy)]

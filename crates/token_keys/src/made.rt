@@ -1,15 +1,15 @@
 //! Signatures that are made of types, with the numbers of types.
 
 ghost use Rattle.std.specs.Prelude.{◌≡◌, suc, map, IfOk};
-ghost use Rattle.merge_rules.specs.Keys.{is_value, made_sig};
+ghost use Rattle.rules.specs.merge_rules.Keys.{is_value, made_sig};
 ghost use Rattle.type_tables.specs.Tables.{IsTables};
 
+use il_base::world_model::TypeExpr;
 use il_base::{Boxed, NoMemory, Seq, Sig, TypeId};
-use member_search::homes::type_home;
 use std::alloc::Global;
-use subtypes::references::is_value_type;
+use type_tables::member_search::homes::type_home;
+use type_tables::subtypes::references::is_value_type;
 use type_tables::tables::Tables;
-use world_model::TypeExpr;
 
 /// The number of a type: one more than its place among the types of the world.
 fn number_of(id: TypeId) -> Result<u32, NoMemory>

@@ -4,30 +4,30 @@ ghost use Rattle.std.specs.Prelude.{◌≡◌, ◌==◌, ◌||◌, slice_get, If
 ghost use Rattle.std.specs.List.{list_any};
 ghost use Rattle.std.specs.Option.{option_copied, option_map, option_and_then};
 ghost use Rattle.il_base.specs.declared.table.TheConstants.{METHOD_SPEC};
-ghost use Rattle.world_model.specs.Tokens.{index_in};
-ghost use Rattle.link_rules.specs.Members.{type_home, owner_of, param_count};
-ghost use Rattle.link_rules.specs.Cycles.{listed};
-ghost use Rattle.type_rules.specs.Rows.{rec_at};
-ghost use Rattle.mark_rules.specs.Naming.{method_named, field_named};
-ghost use Rattle.mark_tables.specs.Assemblies.{all_of, IsMarker};
-ghost use Rattle.world_model.specs.declared.expr.TypeExpr.{out-TypeExpr};
-ghost use Rattle.merge_rules.specs.Keys.{good, is_bare_in, is_plain_input, is_plain_owner, method_key_of, field_key_of, method_key, field_key, instance_by, instance_key};
-ghost use Rattle.key_codes.specs.Keys as coded;
+ghost use Rattle.il_base.specs.world_model.Tokens.{index_in};
+ghost use Rattle.rules.specs.link_rules.Members.{type_home, owner_of, param_count};
+ghost use Rattle.rules.specs.link_rules.Cycles.{listed};
+ghost use Rattle.rules.specs.type_rules.Rows.{rec_at};
+ghost use Rattle.rules.specs.mark_rules.Naming.{method_named, field_named};
+ghost use Rattle.mark_parts.specs.mark_tables.Assemblies.{all_of, IsMarker};
+ghost use Rattle.il_base.specs.declared.world_model.expr.TypeExpr.{out-TypeExpr};
+ghost use Rattle.rules.specs.merge_rules.Keys.{good, is_bare_in, is_plain_input, is_plain_owner, method_key_of, field_key_of, method_key, field_key, instance_by, instance_key};
+ghost use Rattle.token_keys.specs.key_codes.Keys as coded;
 ghost use Rattle.token_keys.specs.Keys.{IsKeys, recs_of, place_of, rec_of};
 ghost use Rattle.token_keys.specs.Instances.{made_instance};
 
+use crate::key_codes::keys::{FieldKey, InstanceKey, MethodKey};
 use crate::keys::Keys;
 use crate::sigs::world_sigs;
-use il_base::{NoMemory, table};
-use key_codes::keys::{FieldKey, InstanceKey, MethodKey};
-use link_rules::RowAt;
-use mark_parts::tokens::{field_link, method_link};
-use mark_tables::marker::Marker;
-use member_search::bases::definition;
-use std::alloc::Global;
-use world_model::{
+use il_base::world_model::{
     AsmRec, FieldUse, Known, MethodSpecRow, MethodUse, TypeExpr, index_in, table_of, token_of,
 };
+use il_base::{NoMemory, table};
+use mark_parts::mark_tables::marker::Marker;
+use mark_parts::tokens::{field_link, method_link};
+use rules::link_rules::RowAt;
+use std::alloc::Global;
+use type_tables::member_search::bases::definition;
 
 /// Whether a type is there and has no generic parameters (II.22.20).
 fn is_plain(marker: &Marker<'_>, at: RowAt) -> Result<bool, NoMemory>
@@ -159,7 +159,7 @@ fn field_named<'a>(keys: &Keys<'a>, token: u32) -> Option<&'a FieldUse>
 }
 
 /// The key of the method that a MethodDef, MemberRef or MethodSpec token names, without its arguments; None where it names none.
-#[tactic(auto, unfolding(merge_rules::specs::Keys::method_key))]
+#[tactic(auto, unfolding(rules::specs::merge_rules::Keys::method_key))]
 pub fn method_key(alloc: Global, keys: &Keys<'_>, token: u32) -> Result<Option<MethodKey>, NoMemory>
     requires { IsKeys keys.now }
     ensures { IfOk result (λ k. option_map coded.method_key k ≡ method_key (recs_of keys.now) (place_of keys.now) (rec_of keys.now) token) }
@@ -175,7 +175,7 @@ pub fn method_key(alloc: Global, keys: &Keys<'_>, token: u32) -> Result<Option<M
 }
 
 /// The key of the field that a Field or MemberRef token names; None where it names none.
-#[tactic(auto, unfolding(merge_rules::specs::Keys::field_key))]
+#[tactic(auto, unfolding(rules::specs::merge_rules::Keys::field_key))]
 pub fn field_key(alloc: Global, keys: &Keys<'_>, token: u32) -> Result<Option<FieldKey>, NoMemory>
     requires { IsKeys keys.now }
     ensures { IfOk result (λ k. option_map coded.field_key k ≡ field_key (recs_of keys.now) (place_of keys.now) (rec_of keys.now) token) }
@@ -239,7 +239,7 @@ fn instance_by(
 }
 
 /// The key of the method with arguments that a MethodSpec token names; None where it names none.
-#[tactic(auto, unfolding(merge_rules::specs::Keys::instance_key))]
+#[tactic(auto, unfolding(rules::specs::merge_rules::Keys::instance_key))]
 pub fn instance_key(
     alloc: Global,
     keys: &Keys<'_>,

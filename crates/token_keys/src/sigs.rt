@@ -1,13 +1,13 @@
 //! Signatures over the types of the world (II.23.2).
 
 ghost use Rattle.std.specs.Prelude.{◌≡◌, IfOk};
-ghost use Rattle.merge_rules.specs.Keys.{world_sig, world_sigs};
+ghost use Rattle.rules.specs.merge_rules.Keys.{world_sig, world_sigs};
 ghost use Rattle.token_keys.specs.Keys.{IsKeys, recs_of, place_of, rec_of};
 
 use crate::keys::Keys;
+use crate::signature_rows::laws::signatures_tell;
 use il_base::{NoMemory, Seq, Sig};
-use moved_parts::{moved_sig, moved_sigs};
-use signature_rows::laws::signatures_tell;
+use merge_plan::moved_parts::{moved_sig, moved_sigs};
 use std::alloc::Global;
 
 /// A signature with the numbers of types in place of tokens.

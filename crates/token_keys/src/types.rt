@@ -3,20 +3,20 @@
 ghost use Rattle.std.specs.Prelude.{◌≡◌, slice_get, IfOk};
 ghost use Rattle.std.specs.Option.{option_copied, option_map, option_and_then};
 ghost use Rattle.il_base.specs.declared.table.TheConstants.{TYPE_SPEC};
-ghost use Rattle.world_model.specs.Tokens.{index_in};
+ghost use Rattle.il_base.specs.world_model.Tokens.{index_in};
 ghost use Rattle.type_tables.specs.Tables.{IsTables};
-ghost use Rattle.merge_rules.specs.Keys.{spec, numbered_key, class_number, made_sig, spec_key, type_key, expr_key};
-ghost use Rattle.key_codes.specs.Keys as coded;
+ghost use Rattle.rules.specs.merge_rules.Keys.{spec, numbered_key, class_number, made_sig, spec_key, type_key, expr_key};
+ghost use Rattle.token_keys.specs.key_codes.Keys as coded;
 ghost use Rattle.token_keys.specs.Keys.{IsKeys, recs_of, place_of, rec_of};
 
+use crate::key_codes::keys::TypeKey;
 use crate::keys::Keys;
 use crate::made::made_sig;
 use crate::sigs::world_sig;
+use il_base::world_model::{AsmRec, Known, TypeExpr, TypeSpecRow, index_in, prim_type, table_of};
 use il_base::{NoMemory, TypeId, table};
-use key_codes::keys::TypeKey;
 use std::alloc::Global;
 use type_tables::tables::Tables;
-use world_model::{AsmRec, Known, TypeExpr, TypeSpecRow, index_in, prim_type, table_of};
 
 /// The row of TypeSpec that a token names (II.22.39).
 fn spec_row(rec: &AsmRec, token: u32) -> Option<&TypeSpecRow>
@@ -69,7 +69,7 @@ fn class_number(keys: &Keys<'_>, token: u32) -> u32
 
 /// The key of the type that a TypeDef, TypeRef or TypeSpec token names; a TypeSpec token stays one. None for a token that names no
 /// row, and for a TypeSpec row whose signature has no reading.
-#[tactic(auto, unfolding(merge_rules::specs::Keys::type_key))]
+#[tactic(auto, unfolding(rules::specs::merge_rules::Keys::type_key))]
 pub fn type_key(alloc: Global, keys: &Keys<'_>, token: u32) -> Result<Option<TypeKey>, NoMemory>
     requires { IsKeys keys.now }
     ensures { IfOk result (λ k. option_map coded.type_key k ≡ type_key (recs_of keys.now) (place_of keys.now) (rec_of keys.now) token) }
@@ -102,7 +102,7 @@ fn made_key(alloc: Global, tables: &Tables<'_>, ty: &TypeExpr) -> Result<Option<
 }
 
 /// The key of a type that is written from a use: an owner of a member. None for a primitive that the core library has no type for.
-#[tactic(auto, unfolding(merge_rules::specs::Keys::expr_key))]
+#[tactic(auto, unfolding(rules::specs::merge_rules::Keys::expr_key))]
 pub fn expr_key(
     alloc: Global,
     tables: &Tables<'_>,

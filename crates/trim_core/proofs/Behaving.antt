@@ -4,38 +4,38 @@ use Rattle.std.specs.Prelude.{unwrap_or, if◌then◌else◌}
 use Rattle.std.specs.Option.{is_some, option_map}
 use Rattle.std.proofs.lemmas.Bool.{le-leb, lt-ltb, ltb-true}
 use Rattle.il_base.specs.declared.table.TheConstants.{METHOD_DEF}
-use Rattle.cli_format.specs.declared.error.TablesError.{TablesError}
-use Rattle.cli_format.specs.Demand.{first_fault}
-use Rattle.record_format.specs.Record.{record_demands, record_at, HasRecord}
-use Rattle.world_model.specs.declared.record.AsmRec.{AsmRec}
-use Rattle.world_model.specs.declared.world.World.{World}
-use Rattle.world_model.specs.Tokens.{index_in}
-use Rattle.world_model.specs.Worlds.{row_below}
+use Rattle.il_base.specs.declared.cli_format.error.TablesError.{TablesError}
+use Rattle.il_base.specs.cli_format.Demand.{first_fault}
+use Rattle.rules.specs.record_format.Record.{record_demands, record_at, HasRecord}
+use Rattle.il_base.specs.declared.world_model.record.AsmRec.{AsmRec}
+use Rattle.il_base.specs.declared.world_model.world.World.{World}
+use Rattle.il_base.specs.world_model.Tokens.{index_in}
+use Rattle.il_base.specs.world_model.Worlds.{row_below}
 use Rattle.descriptor_file.specs.declared.root.Root.{Root}
-use Rattle.link_rules.specs.declared.row_at.RowAt.{RowAt}
-use Rattle.link_rules.specs.Types.{at_row}
-use Rattle.link_rules.specs.Linked.{assemblies, world_in, world_of, link_fault_of}
-use Rattle.cil_values.specs.declared.end.End.{End}
-use Rattle.cil_values.specs.declared.end.End.TheVariants as run_end
-use Rattle.step_rules.specs.Run.{Outcome, run_from}
-use Rattle.view_rules.specs.Answers.{queries_of}
-use Rattle.change_rules.specs.Change.{Rho}
-use Rattle.change_rules.specs.States.{move_end}
-use Rattle.lock_steps.specs.Laws.{move_outcome}
+use Rattle.rules.specs.declared.link_rules.row_at.RowAt.{RowAt}
+use Rattle.rules.specs.link_rules.Types.{at_row}
+use Rattle.rules.specs.link_rules.Linked.{assemblies, world_in, world_of, link_fault_of}
+use Rattle.il_base.specs.declared.cil_values.end.End.{End}
+use Rattle.il_base.specs.declared.cil_values.end.End.TheVariants as run_end
+use Rattle.rules.specs.step_rules.Run.{Outcome, run_from}
+use Rattle.rules.specs.view_rules.Answers.{queries_of}
+use Rattle.rules.specs.change_rules.Change.{Rho}
+use Rattle.rules.specs.change_rules.States.{move_end}
+use Rattle.run_laws.specs.lock_steps.Laws.{move_outcome}
 use Rattle.inputs.specs.declared.error.InputError.{InputError}
 use Rattle.inputs.specs.Files.{or_fault, unless, length_fault, bytes_of, limit_fault, unread_as, record_fault, linking_fault, entry_fault, input_fault, records, unlinked_as, names_method}
-use Rattle.mark_rules.specs.Facts.Fact.{marked}
-use Rattle.mark_rules.specs.Marking.{Marks}
+use Rattle.rules.specs.mark_rules.Facts.Fact.{marked}
+use Rattle.rules.specs.mark_rules.Marking.{Marks}
 use Rattle.mark_numbers.specs.Numbers.{is_there}
-use Rattle.merge_rules.specs.Numbers.{Kept}
-use Rattle.merged_owners.specs.Laws.{AreMarked, AreKept}
-use Rattle.merged_loads.specs.Laws.{AreOfFiles}
-use Rattle.merged_world_rules.specs.Merge.{Merge, IsMerge}
-use Rattle.merged_world_rules.specs.NewNumbers.{rho_of}
-use Rattle.trim_behaves.specs.Laws.{FilesMerge, merge_of}
-use Rattle.trim_behaves.specs.Behaves as law
-use Rattle.trim_behaves.specs.Behaves.{TrimsBehave}
-use Rattle.spelled_trims.specs.Laws.{TrimIsSpelled}
+use Rattle.rules.specs.merge_rules.Numbers.{Kept}
+use Rattle.merge_laws.specs.merged_owners.Laws.{AreMarked, AreKept}
+use Rattle.merge_laws.specs.merged_loads.Laws.{AreOfFiles}
+use Rattle.rules.specs.merged_world_rules.Merge.{Merge, IsMerge}
+use Rattle.rules.specs.merged_world_rules.NewNumbers.{rho_of}
+use Rattle.trim_laws.specs.trim_behaves.Laws.{FilesMerge, merge_of}
+use Rattle.trim_laws.specs.trim_behaves.Behaves as law
+use Rattle.trim_laws.specs.trim_behaves.Behaves.{TrimsBehave}
+use Rattle.trim_laws.specs.spelled_trims.Laws.{TrimIsSpelled}
 use Rattle.run_rules.specs.Runs.{FileRun, end_of, file_run, entry_of, world_run, run_of_files}
 use Rattle.run_rules.specs.Alike.{SameEnd, SameRun}
 use Rattle.program_trim.specs.declared.answers.ProgramTrim.{ProgramTrim}

@@ -1,22 +1,22 @@
 -- What files were taken as, and what a trim of them is.
 use Rattle.std.proofs.Common.{◌≡◌, ℕ, zero, suc, ◌<◌, ◌≤◌, List, [], ◌∷◌, ◌++◌, length, take, Option, Some, None, Result, Ok, Err, refl, sym, ap, subst, ◌∙◌, arith, rules}
 use Rattle.std.specs.Option.{option_map}
-use Rattle.blob_grammar.specs.Laws.{AreBytes}
-use Rattle.record_format.specs.Record.{record_at}
-use Rattle.world_model.specs.declared.record.AsmRec.{AsmRec}
-use Rattle.world_model.specs.declared.world.World.{World}
-use Rattle.core_table.specs.Record.{core_record}
-use Rattle.link_rules.specs.declared.link_error.LinkError.{LinkError}
-use Rattle.link_rules.specs.CoreNames.{missing_names, core_with}
-use Rattle.link_rules.specs.Linked.{IsWorld, assemblies, world_in, world_of, link_fault_of}
-use Rattle.flaw_laws.specs.There.{RowsThere}
+use Rattle.il_base.specs.blob_grammar.Laws.{AreBytes}
+use Rattle.rules.specs.record_format.Record.{record_at}
+use Rattle.il_base.specs.declared.world_model.record.AsmRec.{AsmRec}
+use Rattle.il_base.specs.declared.world_model.world.World.{World}
+use Rattle.il_base.specs.core_table.Record.{core_record}
+use Rattle.rules.specs.declared.link_rules.link_error.LinkError.{LinkError}
+use Rattle.rules.specs.link_rules.CoreNames.{missing_names, core_with}
+use Rattle.rules.specs.link_rules.Linked.{IsWorld, assemblies, world_in, world_of, link_fault_of}
+use Rattle.base_laws.specs.flaw_laws.There.{RowsThere}
 use Rattle.inputs.specs.declared.error.InputError.{InputError}
 use Rattle.inputs.specs.Files.{or_fault, limit_fault, record_fault, linking_fault, entry_fault, input_fault, records, unlinked_as, Passes, Takes}
 use Rattle.descriptor_file.specs.declared.root.Root.{Root}
 use Rattle.descriptor_roots.specs.declared.error.RootsError.{RootsError}
 use Rattle.descriptor_roots.specs.Roots.{ReadsRoots, roots_of, descriptor_fault}
-use Rattle.trim_behaves.specs.Laws.{FilesMerge}
-use Rattle.trim_behaves.specs.Behaves.{TrimsBehave}
+use Rattle.trim_laws.specs.trim_behaves.Laws.{FilesMerge}
+use Rattle.trim_laws.specs.trim_behaves.Behaves.{TrimsBehave}
 use Rattle.trim_core.specs.declared.answers.Opts.{Opts}
 use Rattle.trim_core.specs.declared.answers.Refusal.{Refusal}
 use Rattle.trim_core.specs.declared.answers.Refusal.TheVariants as refusal

@@ -1,12 +1,12 @@
 -- What is so of the bytes that a trim of files writes: they load as what is left, which links and runs as the files do.
 use Rattle.std.specs.Prelude.{◌≡◌, ◌≤◌, ℕ, List, [], ◌∷◌, length, Some, None}
-use Rattle.world_model.specs.declared.record.AsmRec.{AsmRec}
-use Rattle.record_format.specs.Record.{HasRecord}
-use Rattle.link_rules.specs.declared.row_at.RowAt.{RowAt}
-use Rattle.link_rules.specs.Members.{methods_in}
-use Rattle.link_rules.specs.Linked.{assemblies, link_fault_of}
-use Rattle.merge_rules.specs.Numbers.{Kept, kept_methods, new_row}
-use Rattle.merged_world_rules.specs.Numbering.{number_at}
+use Rattle.il_base.specs.declared.world_model.record.AsmRec.{AsmRec}
+use Rattle.rules.specs.record_format.Record.{HasRecord}
+use Rattle.rules.specs.declared.link_rules.row_at.RowAt.{RowAt}
+use Rattle.rules.specs.link_rules.Members.{methods_in}
+use Rattle.rules.specs.link_rules.Linked.{assemblies, link_fault_of}
+use Rattle.rules.specs.merge_rules.Numbers.{Kept, kept_methods, new_row}
+use Rattle.rules.specs.merged_world_rules.Numbering.{number_at}
 use Rattle.inputs.specs.Files.{input_fault, records}
 use Rattle.run_rules.specs.Runs.{run_of_files}
 use Rattle.run_rules.specs.Alike.{SameRun}

@@ -3,15 +3,15 @@ use Rattle.std.specs.Prelude.{ℕ, suc, List, [], ◌++◌, codes, slice_get, Op
 use Rattle.std.specs.List.{flat_map}
 use Rattle.il_base.specs.declared.ids.TypeId.{TypeId}
 use Rattle.il_base.specs.declared.table.TheConstants.{TYPE_DEF}
-use Rattle.world_model.specs.declared.types.TypeDefRow.{TypeDefRow}
-use Rattle.world_model.specs.declared.record.AsmRec.{AsmRec}
-use Rattle.world_model.specs.Tokens.{token_of}
-use Rattle.link_rules.specs.declared.row_at.RowAt.{RowAt}
-use Rattle.link_rules.specs.Members.{type_home}
-use Rattle.link_rules.specs.Cycles.{listed}
-use Rattle.link_rules.specs.Linked.{world_of}
-use Rattle.mark_rules.specs.KeepList.{hex_8}
-use Rattle.merge_rules.specs.Names.{assembly_name, old_name}
+use Rattle.il_base.specs.declared.world_model.types.TypeDefRow.{TypeDefRow}
+use Rattle.il_base.specs.declared.world_model.record.AsmRec.{AsmRec}
+use Rattle.il_base.specs.world_model.Tokens.{token_of}
+use Rattle.rules.specs.declared.link_rules.row_at.RowAt.{RowAt}
+use Rattle.rules.specs.link_rules.Members.{type_home}
+use Rattle.rules.specs.link_rules.Cycles.{listed}
+use Rattle.rules.specs.link_rules.Linked.{world_of}
+use Rattle.rules.specs.mark_rules.KeepList.{hex_8}
+use Rattle.rules.specs.merge_rules.Names.{assembly_name, old_name}
 use Rattle.inputs.specs.declared.error.InputError.{InputError}
 use Rattle.inputs.specs.Files.{input_fault, records}
 

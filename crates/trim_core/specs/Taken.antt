@@ -1,8 +1,8 @@
 -- What files were taken as.
 use Rattle.std.specs.Prelude.{◌≡◌, ℕ, List, Some, None, slice_get}
-use Rattle.blob_grammar.specs.Laws.{AreBytes}
-use Rattle.world_model.specs.declared.world.World.{World}
-use Rattle.link_rules.specs.Linked.{world_of}
+use Rattle.il_base.specs.blob_grammar.Laws.{AreBytes}
+use Rattle.il_base.specs.declared.world_model.world.World.{World}
+use Rattle.rules.specs.link_rules.Linked.{world_of}
 use Rattle.inputs.specs.Files.{input_fault, records}
 
 -- the world of files that no limit and no demand refuses

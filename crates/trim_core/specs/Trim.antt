@@ -1,8 +1,8 @@
 -- What a trim of files gives, and when it refuses.
 use Rattle.std.specs.Prelude.{◌≡◌, ◌≤◌, ℕ, Bool, List, [], length, Option, Some, None, Result, Ok, Err, if◌then◌else◌}
-use Rattle.world_model.specs.declared.record.AsmRec.{AsmRec}
-use Rattle.link_rules.specs.declared.row_at.RowAt.{RowAt}
-use Rattle.link_rules.specs.Linked.{world_of}
+use Rattle.il_base.specs.declared.world_model.record.AsmRec.{AsmRec}
+use Rattle.rules.specs.declared.link_rules.row_at.RowAt.{RowAt}
+use Rattle.rules.specs.link_rules.Linked.{world_of}
 use Rattle.inputs.specs.Files.{records}
 use Rattle.descriptor_file.specs.declared.root.Root.{Root}
 use Rattle.descriptor_roots.specs.Roots.{roots_of}

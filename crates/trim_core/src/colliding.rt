@@ -2,21 +2,21 @@
 
 ghost use Rattle.std.specs.Prelude.{◌≡◌, ◌++◌, suc, option_copied, IfOk, OnOk};
 ghost use Rattle.il_base.specs.declared.table.TheConstants.{TYPE_DEF};
-ghost use Rattle.world_model.specs.Tokens.{token_of};
-ghost use Rattle.link_rules.specs.Faults.{own_name};
-ghost use Rattle.type_rules.specs.Rows.{rec_at};
-ghost use Rattle.type_rules.specs.Texts.{full_name};
-ghost use Rattle.mark_rules.specs.KeepList.{hex_8};
-ghost use Rattle.merge_rules.specs.Names.{assembly_name, old_name};
+ghost use Rattle.il_base.specs.world_model.Tokens.{token_of};
+ghost use Rattle.rules.specs.link_rules.Faults.{own_name};
+ghost use Rattle.rules.specs.type_rules.Rows.{rec_at};
+ghost use Rattle.rules.specs.type_rules.Texts.{full_name};
+ghost use Rattle.rules.specs.mark_rules.KeepList.{hex_8};
+ghost use Rattle.rules.specs.merge_rules.Names.{assembly_name, old_name};
 ghost use Rattle.trim_core.specs.Colliding.{place_text, type_place, type_name, collision_in, collision_text, row_in};
 
 use crate::digits::hex_8;
+use il_base::world_model::{AsmRec, TypeDefRow, token_of};
 use il_base::{NoMemory, Seq, Text, TypeId, table};
 use inputs::{InputError, take_files};
-use link_rules::RowAt;
-use member_search::homes::type_home;
+use rules::link_rules::RowAt;
 use std::alloc::Global;
-use world_model::{AsmRec, TypeDefRow, token_of};
+use type_tables::member_search::homes::type_home;
 
 /// The simple name of an assembly; empty where it has none.
 fn own_name(rec: &AsmRec) -> &[u8]

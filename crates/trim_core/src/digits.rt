@@ -1,7 +1,7 @@
 //! Tokens in hexadecimal.
 
 ghost use Rattle.std.specs.Prelude.{◌≡◌, ◌<◌};
-ghost use Rattle.mark_rules.specs.KeepList.{hex_digit, hex_8};
+ghost use Rattle.rules.specs.mark_rules.KeepList.{hex_digit, hex_8};
 
 /// A lower-case hexadecimal digit.
 fn hex_digit(n: u32) -> u8

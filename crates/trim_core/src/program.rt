@@ -1,11 +1,11 @@
 //! The trim of any files.
 
 ghost use Rattle.std.specs.Prelude.{◌≡◌};
-ghost use Rattle.link_rules.specs.Linked.{IsWorld};
-ghost use Rattle.flaw_laws.specs.There.{RowsThere};
+ghost use Rattle.rules.specs.link_rules.Linked.{IsWorld};
+ghost use Rattle.base_laws.specs.flaw_laws.There.{RowsThere};
 ghost use Rattle.inputs.specs.Files.{records};
 ghost use Rattle.trim_core.specs.Told.{entry_row};
-ghost use Rattle.blob_grammar.specs.Laws.{AreBytes};
+ghost use Rattle.il_base.specs.blob_grammar.Laws.{AreBytes};
 ghost use Rattle.trim_core.specs.Taken.{Bytes, IsTaken};
 ghost use Rattle.descriptor_roots.specs.Roots.{roots_of};
 ghost use Rattle.program_trim.specs.Trim.{LeftIsSpelled};
@@ -14,14 +14,14 @@ ghost use Rattle.trim_core.specs.Trim.{TrimsProgram, TrimsFiles, list_if};
 use crate::answers::{Opts, Refusal, Trimmed};
 use crate::taking::{entry_row, inputs_of};
 use descriptor_file::Root;
+use il_base::world_model::World;
 use il_base::{Seq, Text};
 use input_laws::laws::files_told;
-use link_rules::RowAt;
 use program_trim::{ProgramTrim, TrimFault, trim_world};
-use spelled_trims::laws::trim_is_spelled;
+use rules::link_rules::RowAt;
 use std::alloc::Global;
-use trim_behaves::laws::{files_merge, trims_behave};
-use world_model::World;
+use trim_laws::spelled_trims::laws::trim_is_spelled;
+use trim_laws::trim_behaves::laws::{files_merge, trims_behave};
 
 /// What is needed of files that were taken as a world: it is linked, and its rows of MethodImpl name rows of it.
 fn world_told(files: &Seq<Text>, world: &World)

@@ -5,9 +5,9 @@ ghost use Rattle.inputs.specs.Files.{records};
 ghost use Rattle.trim_core.specs.Told.{entry_row};
 ghost use Rattle.trim_core.specs.Taken.{IsTaken};
 
+use il_base::world_model::{AsmRec, World, index_in};
 use il_base::{Seq, Text, table};
-use link_rules::RowAt;
-use world_model::{AsmRec, World, index_in};
+use rules::link_rules::RowAt;
 
 /// The records of the files, which are the first of their world.
 #[tactic(auto, using(crate::proofs::FileLemmas::inputs_within, crate::proofs::FileLemmas::inputs_are))]

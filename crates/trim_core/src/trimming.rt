@@ -12,10 +12,10 @@ use crate::answers::{Opts, Refusal, Trimmed};
 use crate::program::trim_program;
 use crate::taking::inputs_of;
 use descriptor_roots::{RootsError, descriptor_roots, within_length};
+use il_base::world_model::World;
 use il_base::{Seq, Text, limit};
 use inputs::{InputError, take_files, within_limits};
 use std::alloc::Global;
-use world_model::World;
 
 /// Why files are refused, as it is answered.
 fn input_refusal(error: InputError) -> Refusal

@@ -1,10 +1,10 @@
 -- The names of nested types, one more at a time.
 use Rattle.std.proofs.Common.{◌≡◌, ℕ, suc, List, [], ◌∷◌, ◌++◌, Option, Some, None, slice_get, ◌+◌, ◌-◌, ◌<◌, refl, sym, ap, ◌∙◌, append_assoc, arith}
 use Rattle.std.proofs.lemmas.List.{append-nil}
-use Rattle.world_model.specs.declared.types.TypeDefRow.{TypeDefRow}
-use Rattle.world_model.specs.declared.record.AsmRec.{AsmRec}
-use Rattle.link_rules.specs.Types.{encloser}
-use Rattle.type_rules.specs.Texts.{part_or_none, row_name}
+use Rattle.il_base.specs.declared.world_model.types.TypeDefRow.{TypeDefRow}
+use Rattle.il_base.specs.declared.world_model.record.AsmRec.{AsmRec}
+use Rattle.rules.specs.link_rules.Types.{encloser}
+use Rattle.rules.specs.type_rules.Texts.{part_or_none, row_name}
 use Rattle.type_names.specs.Chains.{bare_or_none, bare_name, own_name, inner_name, inner_names}
 
 pub inner_push : (rec : AsmRec) (ks : List ℕ) (k : ℕ) → inner_names rec (ks ++ k ∷ []) ≡ inner_name rec k ++ inner_names rec ks

@@ -1,7 +1,7 @@
 -- Two texts, compared byte by byte.
 use Rattle.std.proofs.Common.{◌≡◌, ℕ, zero, suc, ◌+◌, ◌<◌, List, [], ◌∷◌, length, drop, Bool, true, false, not, ◌&&◌, nat_eq, Option, slice_get, refl, sym, ap, ◌∙◌, add-one, arith}
 use Rattle.std.specs.Option.{option_eq}
-use Rattle.world_model.specs.Core.{same_name}
+use Rattle.il_base.specs.world_model.Core.{same_name}
 
 further : (xs ys : List ℕ) (i : ℕ) → i < length xs → i < length ys → option_eq nat_eq (slice_get xs i) (slice_get ys i) ≡ true → same_name (drop i xs) (drop i ys) ≡ same_name (drop (suc i) xs) (drop (suc i) ys)
 further [] ys i h k e = absurd (omega arith)

@@ -2,12 +2,12 @@
 use Rattle.std.proofs.Common.{◌≡◌, ℕ, zero, suc, List, [], ◌∷◌, length, drop, Bool, true, false, if◌then◌else◌, Option, Some, None, slice_get, nat_lt, ◌-◌, refl, sym, ap, ◌++◌}
 use Rattle.std.proofs.lemmas.List.{append-nil}
 use Rattle.il_base.specs.declared.ids.TypeId.{TypeId}
-use Rattle.world_model.specs.declared.record.AsmRec.{AsmRec}
-use Rattle.world_model.specs.Worlds.{types_in}
-use Rattle.link_rules.specs.declared.row_at.RowAt.{RowAt}
-use Rattle.link_rules.specs.Types.{at_row}
-use Rattle.link_rules.specs.Members.{home_from}
-use Rattle.type_rules.specs.Texts.{row_name, name_at, definition_text}
+use Rattle.il_base.specs.declared.world_model.record.AsmRec.{AsmRec}
+use Rattle.il_base.specs.world_model.Worlds.{types_in}
+use Rattle.rules.specs.declared.link_rules.row_at.RowAt.{RowAt}
+use Rattle.rules.specs.link_rules.Types.{at_row}
+use Rattle.rules.specs.link_rules.Members.{home_from}
+use Rattle.rules.specs.type_rules.Texts.{row_name, name_at, definition_text}
 use Rattle.type_names.specs.Homes.{row_of, name_of_row}
 
 first_left : {A : Type 0} (xs : List A) (a : ℕ) (x : A) (rest : List A) → drop a xs ≡ x ∷ rest → slice_get xs a ≡ Some x

@@ -2,7 +2,7 @@
 use Rattle.std.proofs.Common.{◌≡◌, ℕ, Bool, true, false, cond, Option, Some, None, is_some, refl, sym, true≢false}
 use Rattle.std.specs.HashMap.{HashMap, get}
 use Rattle.std.specs.HashMap.Eq.{lookup_congr}
-use Rattle.link_rules.specs.Types.{or_else}
+use Rattle.rules.specs.link_rules.Types.{or_else}
 use Rattle.type_names.specs.declared.full_name.FullName.{FullName}
 use Rattle.type_names.specs.FullNames.{same_full_name, row_if}
 use Rattle.type_names.specs.FullNameLaws.{same_full_name_is_equality}

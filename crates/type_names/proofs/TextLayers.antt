@@ -2,12 +2,12 @@
 use Rattle.std.proofs.Common.{◌≡◌, ℕ, ◌++◌, codes, Bool, List, map, Some, refl, sym, ap, ◌∙◌, append_assoc}
 use Rattle.std.specs.Fmt.{decimal}
 use Rattle.il_base.specs.declared.ids.TypeId.{TypeId}
-use Rattle.world_model.specs.declared.expr.TypeExpr.{TypeExpr, fold-TypeExpr, fold-roll-TypeExpr}
-use Rattle.world_model.specs.declared.expr.TypeExpr.TheOpen.{TypeExpr-F}
-use Rattle.world_model.specs.declared.expr.TypeExpr.TheVariants as expr
-use Rattle.world_model.specs.declared.record.AsmRec.{AsmRec}
-use Rattle.world_model.specs.Worlds.{prim_type}
-use Rattle.type_rules.specs.Texts.{definition_text, joined, modifier_text, text_layer, text}
+use Rattle.il_base.specs.declared.world_model.expr.TypeExpr.{TypeExpr, fold-TypeExpr, fold-roll-TypeExpr}
+use Rattle.il_base.specs.declared.world_model.expr.TypeExpr.TheOpen.{TypeExpr-F}
+use Rattle.il_base.specs.declared.world_model.expr.TypeExpr.TheVariants as expr
+use Rattle.il_base.specs.declared.world_model.record.AsmRec.{AsmRec}
+use Rattle.il_base.specs.world_model.Worlds.{prim_type}
+use Rattle.rules.specs.type_rules.Texts.{definition_text, joined, modifier_text, text_layer, text}
 
 module _ (recs : List AsmRec) where
   pub text_prim : (n : ℕ) → text recs (expr.Prim n) ≡ definition_text recs (prim_type recs n)

@@ -1,15 +1,15 @@
 -- A type that is found is among those of its assembly, and its id among those of the world.
 use Rattle.std.proofs.Common.{◌≡◌, ℕ, zero, suc, ◌+◌, ◌<◌, ◌≤◌, List, [], ◌∷◌, length, codes, Bool, true, false, if◌then◌else◌, ◌&&◌, Option, Some, None, MatchOption, slice_get, refl, sym, ap, ◌∙◌, arith}
 use Rattle.il_base.specs.declared.ids.TypeId.{TypeId}
-use Rattle.world_model.specs.Core.{same_name}
-use Rattle.world_model.specs.Worlds.{rows_before, types_in, type_id}
-use Rattle.world_model.specs.declared.types.TypeDefRow.{TypeDefRow}
-use Rattle.world_model.specs.declared.record.AsmRec.{AsmRec}
+use Rattle.il_base.specs.world_model.Core.{same_name}
+use Rattle.il_base.specs.world_model.Worlds.{rows_before, types_in, type_id}
+use Rattle.il_base.specs.declared.world_model.types.TypeDefRow.{TypeDefRow}
+use Rattle.il_base.specs.declared.world_model.record.AsmRec.{AsmRec}
 use Rattle.std.specs.Option.{option_map}
-use Rattle.link_rules.specs.declared.row_at.RowAt.{RowAt}
-use Rattle.link_rules.specs.Types.{same_place, encloser, at_row, is_added, listed_at}
-use Rattle.type_rules.specs.Texts.{part_name}
-use Rattle.type_rules.specs.Searches.{named_from, named_within, nested_along, type_along, type_along_at}
+use Rattle.rules.specs.declared.link_rules.row_at.RowAt.{RowAt}
+use Rattle.rules.specs.link_rules.Types.{same_place, encloser, at_row, is_added, listed_at}
+use Rattle.rules.specs.type_rules.Texts.{part_name}
+use Rattle.rules.specs.type_rules.Searches.{named_from, named_within, nested_along, type_along, type_along_at}
 
 named_below : (rec : AsmRec) (around : Option ℕ) (name : List ℕ) (ts : List TypeDefRow) (k j : ℕ) → named_from rec around name k ts ≡ Some j → j < k + length ts
 named_below rec around name [] k j h = absurd (cc)

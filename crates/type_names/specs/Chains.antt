@@ -1,8 +1,8 @@
 -- A type and its enclosers, from inside outwards.
 use Rattle.std.specs.Prelude.{ℕ, List, [], ◌∷◌, ◌++◌, codes, Option, Some, None, slice_get}
-use Rattle.world_model.specs.declared.types.TypeDefRow.{TypeDefRow}
-use Rattle.world_model.specs.declared.record.AsmRec.{AsmRec}
-use Rattle.type_rules.specs.Texts.{part_or_none}
+use Rattle.il_base.specs.declared.world_model.types.TypeDefRow.{TypeDefRow}
+use Rattle.il_base.specs.declared.world_model.record.AsmRec.{AsmRec}
+use Rattle.rules.specs.type_rules.Texts.{part_or_none}
 use Rattle.type_names.specs.declared.chain.Chain.{Chain}
 
 abbrev pub bare_or_none : Option TypeDefRow → List ℕ

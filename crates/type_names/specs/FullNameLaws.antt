@@ -4,8 +4,8 @@ use Rattle.std.proofs.Common.{ap, sym, true≢false}
 use Rattle.std.specs.Hash as fed
 use Rattle.std.specs.Cmp.{IsEquivalence, and_equiv, on_equiv, nat_eq_equiv, unsigned_Decides, first_so, second_so}
 use Rattle.std.specs.Cmp.Lexicographic.{nat_list_eq_equiv, pointwise_decides}
-use Rattle.world_model.specs.Core.{same_name}
-use Rattle.link_rules.specs.Types.{same_place}
+use Rattle.il_base.specs.world_model.Core.{same_name}
+use Rattle.rules.specs.link_rules.Types.{same_place}
 use Rattle.type_names.specs.declared.full_name.FullName.{FullName}
 use Rattle.type_names.specs.FullNames.{name_of, same_full_name, hashed_name, hashed}
 

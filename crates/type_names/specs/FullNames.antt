@@ -2,9 +2,9 @@
 use Rattle.std.specs.Prelude.{ℕ, List, ◌++◌, ◌&&◌, Bool, true, false, Option, Some, None}
 use Rattle.std.specs.List.{flat_map}
 use Rattle.std.specs.Hash as fed
-use Rattle.world_model.specs.Core.{same_name}
-use Rattle.link_rules.specs.Types.{same_place}
-use Rattle.type_rules.specs.Texts.{full_name_of}
+use Rattle.il_base.specs.world_model.Core.{same_name}
+use Rattle.rules.specs.link_rules.Types.{same_place}
+use Rattle.rules.specs.type_rules.Texts.{full_name_of}
 use Rattle.type_names.specs.declared.full_name.FullName.{FullName}
 
 abbrev pub name_of : FullName → List ℕ

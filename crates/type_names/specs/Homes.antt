@@ -1,8 +1,8 @@
 -- The row of a type, with the assembly that has it.
 use Rattle.std.specs.Prelude.{ℕ, ◌-◌, List, [], ◌∷◌, length, Option, Some, None, nat_lt, if◌then◌else◌}
-use Rattle.world_model.specs.declared.record.AsmRec.{AsmRec}
-use Rattle.world_model.specs.Worlds.{types_in}
-use Rattle.type_rules.specs.Texts.{row_name}
+use Rattle.il_base.specs.declared.world_model.record.AsmRec.{AsmRec}
+use Rattle.il_base.specs.world_model.Worlds.{types_in}
+use Rattle.rules.specs.type_rules.Texts.{row_name}
 
 -- the assembly and the row of the type with this number
 abbrev pub row_of : List AsmRec → ℕ → Option (AsmRec × ℕ)

@@ -5,10 +5,10 @@ ghost use Rattle.std.specs.Option.{option_map};
 ghost use Rattle.type_names.specs.Homes.{row_of};
 
 use crate::nested::Nested;
+use il_base::world_model::AsmRec;
 use il_base::{NoMemory, Seq, TypeId};
 use std::alloc::Global;
 use std::marker::Model;
-use world_model::AsmRec;
 
 /// The assemblies of a world, the last one the core library, with the enclosers of their nested types. Contracts see the
 /// records.
@@ -21,8 +21,8 @@ pub(crate) struct Assemblies<'a> {
 impl<'a> Model for Assemblies<'a> {
     ghost use Rattle.std.specs.Prelude.{◌≡◌, List};
     ghost use Rattle.std.specs.Coded.{coded_list};
-    ghost use Rattle.world_model.specs.declared.record.AsmRec.{AsmRec};
-    ghost use Rattle.world_model.specs.contracts.record.AsmRec as asm_rec;
+    ghost use Rattle.il_base.specs.declared.world_model.record.AsmRec.{AsmRec};
+    ghost use Rattle.il_base.specs.contracts.world_model.record.AsmRec as asm_rec;
 
     ghost Value = { List AsmRec };
 

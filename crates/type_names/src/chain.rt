@@ -1,13 +1,13 @@
 //! A type and its enclosers (II.22.32), from inside outwards.
 
 ghost use Rattle.std.specs.Prelude.{◌≡◌, ◌++◌, length, IfOk, OnOk};
-ghost use Rattle.type_rules.specs.Texts.{full_name, row_name};
+ghost use Rattle.rules.specs.type_rules.Texts.{full_name, row_name};
 ghost use Rattle.type_names.specs.Chains.{bare_name, own_name, inner_names, chain_name};
 
 use crate::nested::Nested;
+use il_base::world_model::{AsmRec, TypeDefRow};
 use il_base::{NoMemory, Seq, Text};
 use std::alloc::Global;
-use world_model::{AsmRec, TypeDefRow};
 
 /// A type and its enclosers, by their rows from 0.
 #[derive(Drop)]
@@ -20,7 +20,7 @@ pub(crate) struct Chain {
 
 impl Chain {
     /// A type and its enclosers, at most as many as the assembly has types.
-    #[tactic(auto, unfolding(type_rules::specs::Texts::row_name))]
+    #[tactic(auto, unfolding(rules::specs::type_rules::Texts::row_name))]
     pub(crate) fn of(alloc: Global, nested: &Nested, row: u32) -> Result<Chain, NoMemory>
         ensures { IfOk result (λ c. chain_name nested.now c ≡ row_name nested.now (length nested.now.type_def) row) }
     {

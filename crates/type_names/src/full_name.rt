@@ -2,9 +2,9 @@
 
 ghost use Rattle.std.specs.Prelude.{◌≡◌, ◌+◌, length, slice_get, fold};
 ghost use Rattle.std.specs.Cmp.{partial_equiv_from_equiv};
-ghost use Rattle.world_model.specs.Core.{same_name};
-ghost use Rattle.link_rules.specs.Types.{same_place};
-ghost use Rattle.type_rules.specs.Texts.{full_name_of};
+ghost use Rattle.il_base.specs.world_model.Core.{same_name};
+ghost use Rattle.rules.specs.link_rules.Types.{same_place};
+ghost use Rattle.rules.specs.type_rules.Texts.{full_name_of};
 ghost use Rattle.type_names.specs.FullNames.{same_full_name, hashed_name, hashed};
 ghost use Rattle.type_names.specs.FullNameLaws.{same_full_name_is_equality, hashed_alike};
 

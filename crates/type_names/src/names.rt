@@ -1,18 +1,18 @@
 //! Types by the names that texts give them.
 
 ghost use Rattle.std.specs.Prelude.{◌≡◌, ◌<◌, length, position, IfOk};
-ghost use Rattle.link_rules.specs.Types.{at_row, is_added, is_called, assembly_named};
-ghost use Rattle.type_rules.specs.Texts.{text};
-ghost use Rattle.type_rules.specs.Searches.{type_along_at, find_type};
+ghost use Rattle.rules.specs.link_rules.Types.{at_row, is_added, is_called, assembly_named};
+ghost use Rattle.rules.specs.type_rules.Texts.{text};
+ghost use Rattle.rules.specs.type_rules.Searches.{type_along_at, find_type};
 
 use crate::assemblies::Assemblies;
 use crate::rows::TypeRows;
 use attr_blobs::TypeName;
-use core_table::TYPE_COUNT;
+use il_base::core_table::TYPE_COUNT;
+use il_base::world_model::{AsmRec, TypeExpr, is_core_name, type_id};
 use il_base::{AsmId, NoMemory, Seq, Text, TypeId};
 use std::alloc::Global;
 use std::marker::Model;
-use world_model::{AsmRec, TypeExpr, is_core_name, type_id};
 
 /// An index of the types of a world by their names, made once. Contracts see the records, of which the last is the core
 /// library's.
@@ -25,9 +25,9 @@ pub struct TypeNames<'a> {
 impl<'a> Model for TypeNames<'a> {
     ghost use Rattle.std.specs.Prelude.{◌≡◌, ◌<◌, List, length};
     ghost use Rattle.std.specs.Coded.{coded_list};
-    ghost use Rattle.world_model.specs.declared.record.AsmRec.{AsmRec};
-    ghost use Rattle.world_model.specs.contracts.record.AsmRec as asm_rec;
-    ghost use Rattle.world_model.specs.Worlds.{rows_before, types_in};
+    ghost use Rattle.il_base.specs.declared.world_model.record.AsmRec.{AsmRec};
+    ghost use Rattle.il_base.specs.contracts.world_model.record.AsmRec as asm_rec;
+    ghost use Rattle.il_base.specs.world_model.Worlds.{rows_before, types_in};
 
     ghost Value = { List AsmRec };
 
@@ -65,7 +65,7 @@ impl<'a> TypeNames<'a> {
 
     /// The type that a name is of: without an assembly's name it is looked for in the assembly that asks and then in the
     /// core library, with one in that assembly alone. A name that only modifiers use is not a type of the core library here.
-    #[tactic(auto, unfolding(type_rules::specs::Searches::find_type))]
+    #[tactic(auto, unfolding(rules::specs::type_rules::Searches::find_type))]
     pub fn find_type(&self, from: AsmId, n: &TypeName) -> Option<TypeId>
         ensures { result ≡ find_type self.now from.0 n.now }
     {
@@ -143,7 +143,7 @@ fn first_called(recs: &[AsmRec], name: &[u8]) -> Option<usize>
 }
 
 /// The place, from 0, of the first assembly of this name, and else of the core library, if the name is one of its own.
-#[tactic(auto, unfolding(link_rules::specs::Types::assembly_named))]
+#[tactic(auto, unfolding(rules::specs::link_rules::Types::assembly_named))]
 fn assembly_named(recs: &[AsmRec], name: &[u8]) -> Option<usize>
     ensures { result ≡ assembly_named recs.now name.now }
 {

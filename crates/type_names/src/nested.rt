@@ -1,13 +1,13 @@
 //! An assembly with the enclosers of its nested types (II.22.32).
 
 ghost use Rattle.std.specs.Prelude.{◌≡◌, IfOk};
-ghost use Rattle.link_rules.specs.Types.{encloser};
+ghost use Rattle.rules.specs.link_rules.Types.{encloser};
 
+use il_base::world_model::{AsmRec, index_in, wide_token};
 use il_base::{NoMemory, table};
 use std::alloc::Global;
 use std::collections::HashMap;
 use std::marker::Model;
-use world_model::{AsmRec, index_in, wide_token};
 
 /// An assembly, and the encloser of each nested type. Contracts see the record.
 #[derive(Drop)]
@@ -20,9 +20,9 @@ pub(crate) struct Nested<'a> {
 impl<'a> Model for Nested<'a> {
     ghost use Rattle.std.specs.Prelude.{◌≡◌, ℕ, None, unwrap_or, nat_eq};
     ghost use Rattle.std.specs.HashMap.{get};
-    ghost use Rattle.world_model.specs.declared.record.AsmRec.{AsmRec};
-    ghost use Rattle.world_model.specs.contracts.record.AsmRec as asm_rec;
-    ghost use Rattle.link_rules.specs.Types.{encloser_in};
+    ghost use Rattle.il_base.specs.declared.world_model.record.AsmRec.{AsmRec};
+    ghost use Rattle.il_base.specs.contracts.world_model.record.AsmRec as asm_rec;
+    ghost use Rattle.rules.specs.link_rules.Types.{encloser_in};
 
     ghost Value = { AsmRec };
 
@@ -55,7 +55,7 @@ impl<'a> Nested<'a> {
     }
 
     /// The row, from 0, of the type that encloses a type; None for a type that isn't nested.
-    #[tactic(auto, unfolding(link_rules::specs::Types::encloser))]
+    #[tactic(auto, unfolding(rules::specs::link_rules::Types::encloser))]
     pub(crate) fn encloser(&self, row: u32) -> Option<u32>
         ensures { result ≡ encloser self.now row }
     {

@@ -2,19 +2,19 @@
 
 ghost use Rattle.std.specs.Prelude.{◌≡◌, IfOk, OnOk};
 ghost use Rattle.std.specs.HashMap.{get};
-ghost use Rattle.link_rules.specs.Types.{or_else};
-ghost use Rattle.type_rules.specs.Texts.{part_name};
-ghost use Rattle.type_rules.specs.Searches.{named_within, nested_along, type_along};
+ghost use Rattle.rules.specs.link_rules.Types.{or_else};
+ghost use Rattle.rules.specs.type_rules.Texts.{part_name};
+ghost use Rattle.rules.specs.type_rules.Searches.{named_within, nested_along, type_along};
 ghost use Rattle.type_names.specs.declared.full_name.FullName.{FullName};
 ghost use Rattle.type_names.specs.FullNames.{name_of, same_full_name, row_if};
 
 use crate::full_name::FullName;
 use crate::nested::Nested;
+use il_base::world_model::{AsmRec, TypeDefRow};
 use il_base::{NoMemory, Text};
 use std::alloc::Global;
 use std::collections::HashMap;
 use std::marker::Model;
-use world_model::{AsmRec, TypeDefRow};
 
 /// An assembly, and the first type of each name and encloser. Contracts see the record.
 #[derive(Drop)]
@@ -27,9 +27,9 @@ pub(crate) struct TypeRows<'a> {
 impl<'a> Model for TypeRows<'a> {
     ghost use Rattle.std.specs.Prelude.{◌≡◌};
     ghost use Rattle.std.specs.HashMap.{get};
-    ghost use Rattle.world_model.specs.declared.record.AsmRec.{AsmRec};
-    ghost use Rattle.world_model.specs.contracts.record.AsmRec as asm_rec;
-    ghost use Rattle.type_rules.specs.Searches.{named_within};
+    ghost use Rattle.il_base.specs.declared.world_model.record.AsmRec.{AsmRec};
+    ghost use Rattle.il_base.specs.contracts.world_model.record.AsmRec as asm_rec;
+    ghost use Rattle.rules.specs.type_rules.Searches.{named_within};
     ghost use Rattle.type_names.specs.declared.full_name.FullName.{FullName};
     ghost use Rattle.type_names.specs.FullNames.{name_of, same_full_name};
 
@@ -101,7 +101,7 @@ impl<'a> TypeRows<'a> {
 
     /// The row, from 0, of the type that a path names: the full name of a type that isn't nested, then the names of
     /// nested types from outside inwards.
-    #[tactic(auto, unfolding(type_rules::specs::Searches::type_along, type_rules::specs::Searches::nested_along))]
+    #[tactic(auto, unfolding(rules::specs::type_rules::Searches::type_along, rules::specs::type_rules::Searches::nested_along))]
     pub(crate) fn along(&self, path: &[Text]) -> Option<u32>
         ensures { result ≡ type_along self.now path.now }
     {
@@ -120,7 +120,7 @@ impl<'a> TypeRows<'a> {
     }
 
     /// The row, from 0, of the nested type that the rest of a path names.
-    #[tactic(auto, unfolding(type_rules::specs::Searches::nested_along))]
+    #[tactic(auto, unfolding(rules::specs::type_rules::Searches::nested_along))]
     fn nested_along(&self, row: u32, path: &[Text]) -> Option<u32>
         ensures { result ≡ nested_along self.now path.now (Some row) }
     {

@@ -2,15 +2,15 @@
 
 ghost use Rattle.std.specs.Prelude.{◌≡◌, ◌++◌, codes, map, IfOk, OnOk};
 ghost use Rattle.std.specs.Fmt.{decimal};
-ghost use Rattle.world_model.specs.Worlds.{prim_type};
+ghost use Rattle.il_base.specs.world_model.Worlds.{prim_type};
 ghost use Rattle.type_names.specs.Commas.{separator};
-ghost use Rattle.type_rules.specs.Texts.{definition_text, joined, modifier_text, text};
+ghost use Rattle.rules.specs.type_rules.Texts.{definition_text, joined, modifier_text, text};
 
 use crate::assemblies::Assemblies;
 use crate::chain::Chain;
+use il_base::world_model::{AsmRec, TypeExpr, prim_type};
 use il_base::{NoMemory, Seq, Text, TypeId};
 use std::alloc::Global;
-use world_model::{AsmRec, TypeExpr, prim_type};
 
 /// The text of a type: its namespace, a full stop and its name; a nested type behind its encloser and `+`; arguments in
 /// brackets behind a constructed type, `[]` behind an array's element, `&` behind what is referred to. The last of the
@@ -124,7 +124,7 @@ fn put_definition(
 }
 
 /// Puts the name of the core library's type that a primitive is at the end.
-#[tactic(auto, unfolding(type_rules::specs::Texts::definition_text))]
+#[tactic(auto, unfolding(rules::specs::type_rules::Texts::definition_text))]
 fn put_primitive(
     alloc: Global,
     world: &Assemblies,

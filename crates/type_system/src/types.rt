@@ -2,25 +2,25 @@
 
 ghost use Rattle.std.specs.Prelude.{◌≡◌, IfOk};
 ghost use Rattle.std.specs.Bool.{Decides};
-ghost use Rattle.world_model.specs.Exprs.{subst};
-ghost use Rattle.link_rules.specs.Linked.{IsWorld};
-ghost use Rattle.type_rules.specs.Subtypes.{IsSubtype, is_subtype};
-ghost use Rattle.type_rules.specs.Dispatch.{dispatch};
-ghost use Rattle.type_rules.specs.Texts.{text};
+ghost use Rattle.il_base.specs.world_model.Exprs.{subst};
+ghost use Rattle.rules.specs.link_rules.Linked.{IsWorld};
+ghost use Rattle.rules.specs.type_rules.Subtypes.{IsSubtype, is_subtype};
+ghost use Rattle.rules.specs.type_rules.Dispatch.{dispatch};
+ghost use Rattle.rules.specs.type_rules.Texts.{text};
 ghost use Rattle.type_tables.specs.Tables.{IsTables};
-ghost use Rattle.type_rules.specs.Searches.{find_type, members_named};
+ghost use Rattle.rules.specs.type_rules.Searches.{find_type, members_named};
 
 use attr_blobs::TypeName;
+use il_base::world_model::{TypeExpr, World};
 use il_base::{AsmId, Item, MethodId, NoMemory, Seq, Text, TypeId};
-use named_members::members::members_named;
 use std::alloc::Global;
 use std::marker::Model;
-use subtypes::relation::is_subtype;
 use type_names::TypeNames;
+use type_tables::subtypes::relation::is_subtype;
 use type_tables::tables::Tables;
 use virtual_calls::dispatch::dispatch;
+use virtual_calls::named_members::members::members_named;
 use virtual_calls::slots::Slots;
-use world_model::{TypeExpr, World};
 
 /// A world with what questions on its types are answered by, made once. Contracts see the world, which a link gave.
 #[derive(Drop)]
@@ -32,8 +32,8 @@ pub struct Types<'w> {
 
 impl<'w> Model for Types<'w> {
     ghost use Rattle.std.specs.Prelude.{◌≡◌};
-    ghost use Rattle.world_model.specs.declared.world.World.{World};
-    ghost use Rattle.world_model.specs.contracts.world.World as world;
+    ghost use Rattle.il_base.specs.declared.world_model.world.World.{World};
+    ghost use Rattle.il_base.specs.contracts.world_model.world.World as world;
     ghost use Rattle.type_tables.specs.Tables.{IsTables};
     ghost use Rattle.virtual_calls.specs.Slots.{AreSlots};
 

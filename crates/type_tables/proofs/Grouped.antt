@@ -4,8 +4,8 @@ use Rattle.std.specs.Prelude.{slice_get, ◌==◌, ◌||◌, if◌then◌else◌
 use Rattle.std.specs.List.{list_any, flat_map}
 use Rattle.std.specs.Option.{option_map_or}
 use Rattle.std.proofs.lemmas.List.Concat.{flat_map-cons}
-use Rattle.link_rules.specs.Types.{or_else}
-use Rattle.member_search.specs.Names.{places}
+use Rattle.rules.specs.link_rules.Types.{or_else}
+use Rattle.type_tables.specs.member_search.Names.{places}
 use Rattle.type_tables.specs.declared.groups.Groups.{Groups}
 use Rattle.type_tables.specs.Groups.{is_key, first_of, rows_with, AreGroups}
 

@@ -2,3 +2,4 @@ pub mod Uses
 pub mod Worlds
 pub mod Grouped
 pub mod Owned
+pub mod lemmas

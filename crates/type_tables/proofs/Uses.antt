@@ -3,10 +3,10 @@ use Rattle.std.proofs.Common.{◌≡◌, ℕ, Bool, true, false, List, Option, S
 use Rattle.std.specs.Prelude.{◌==◌}
 use Rattle.std.specs.Option.{option_and_then}
 use Rattle.std.proofs.lemmas.Bool.{eqb-true}
-use Rattle.world_model.specs.declared.record.AsmRec.{AsmRec}
-use Rattle.world_model.specs.Tokens.{table_of}
-use Rattle.link_rules.specs.Members.{generic_method}
-use Rattle.type_rules.specs.Dispatch.{good_use}
+use Rattle.il_base.specs.declared.world_model.record.AsmRec.{AsmRec}
+use Rattle.il_base.specs.world_model.Tokens.{table_of}
+use Rattle.rules.specs.link_rules.Members.{generic_method}
+use Rattle.rules.specs.type_rules.Dispatch.{good_use}
 
 no_use : (recs : List AsmRec) (a : ℕ) (rec : AsmRec) (token : ℕ) → (table_of token == 0x06) ≡ false → (table_of token == 0x0a) ≡ false → good_use (generic_method recs a rec token) ≡ None
 unfolding generic_method

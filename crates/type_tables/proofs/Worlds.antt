@@ -1,9 +1,9 @@
 -- A world that a link gave has the links of all its type tokens.
 use Rattle.std.proofs.Common.{List, refl, sym, subst}
-use Rattle.world_model.specs.declared.record.AsmRec.{AsmRec}
-use Rattle.world_model.specs.declared.world.World.{World}
-use Rattle.link_rules.specs.Laws.{AreTypeLinks}
-use Rattle.link_rules.specs.Linked.{world_in, assemblies, IsWorld}
+use Rattle.il_base.specs.declared.world_model.record.AsmRec.{AsmRec}
+use Rattle.il_base.specs.declared.world_model.world.World.{World}
+use Rattle.rules.specs.link_rules.Laws.{AreTypeLinks}
+use Rattle.rules.specs.link_rules.Linked.{world_in, assemblies, IsWorld}
 
 in_world : (all : List AsmRec) → AreTypeLinks (world_in all).recs (world_in all).types
 unfolding world_in

@@ -1,8 +1,8 @@
 -- The rows of a table by what one of their columns holds.
 use Rattle.std.specs.Prelude.{◌≡◌, ℕ, nat_eq, Bool, List, [], ◌∷◌, Option, None, unwrap_or}
 use Rattle.std.specs.HashMap.{HashMap, get}
-use Rattle.link_rules.specs.Types.{or_else}
-use Rattle.member_search.specs.Names.{places}
+use Rattle.rules.specs.link_rules.Types.{or_else}
+use Rattle.type_tables.specs.member_search.Names.{places}
 use Rattle.type_tables.specs.declared.groups.Groups.{Groups}
 
 -- whether a column holds this

@@ -1,3 +1,5 @@
 pub mod Groups
 pub mod Tables
 pub mod Uses
+pub mod member_search
+pub mod subtypes

@@ -1,22 +1,22 @@
 -- What questions on the types of a world are answered by.
 use Rattle.std.specs.Prelude.{◌≡◌, ℕ, List, map}
 use Rattle.std.specs.List.{AllZip}
-use Rattle.world_model.specs.declared.record.AsmRec.{AsmRec}
-use Rattle.world_model.specs.declared.types.InterfaceImplRow.{InterfaceImplRow}
-use Rattle.world_model.specs.declared.members.MethodImplRow.{MethodImplRow}
-use Rattle.world_model.specs.declared.members.PropertyMapRow.{PropertyMapRow}
-use Rattle.world_model.specs.declared.members.EventMapRow.{EventMapRow}
-use Rattle.world_model.specs.declared.members.MethodSemanticsRow.{MethodSemanticsRow}
-use Rattle.link_rules.specs.Laws.{TellTokens, TellSignatures, TellMethods}
-use Rattle.link_rules.specs.Linked.{IsWorld}
-use Rattle.member_search.specs.Names.{AreNames}
-use Rattle.member_search.specs.Owners.{AreMethodOwners}
+use Rattle.il_base.specs.declared.world_model.record.AsmRec.{AsmRec}
+use Rattle.il_base.specs.declared.world_model.types.InterfaceImplRow.{InterfaceImplRow}
+use Rattle.il_base.specs.declared.world_model.members.MethodImplRow.{MethodImplRow}
+use Rattle.il_base.specs.declared.world_model.members.PropertyMapRow.{PropertyMapRow}
+use Rattle.il_base.specs.declared.world_model.members.EventMapRow.{EventMapRow}
+use Rattle.il_base.specs.declared.world_model.members.MethodSemanticsRow.{MethodSemanticsRow}
+use Rattle.rules.specs.link_rules.Laws.{TellTokens, TellSignatures, TellMethods}
+use Rattle.rules.specs.link_rules.Linked.{IsWorld}
+use Rattle.type_tables.specs.member_search.Names.{AreNames}
+use Rattle.type_tables.specs.member_search.Owners.{AreMethodOwners}
 use Rattle.type_tables.specs.declared.tables.RowTables.{RowTables}
 use Rattle.type_tables.specs.declared.tables.Rows.{Rows}
 use Rattle.type_tables.specs.declared.tables.Tables.{Tables}
-use Rattle.member_search.specs.Linked.{IsScope}
+use Rattle.type_tables.specs.member_search.Linked.{IsScope}
 use Rattle.type_tables.specs.Groups.{AreGroups}
-use Rattle.type_laws.specs.Uses.{TellsUses}
+use Rattle.base_laws.specs.type_laws.Uses.{TellsUses}
 
 -- ---- the columns by which rows are grouped
 

@@ -1,10 +1,10 @@
 -- The method that a MethodDef or MemberRef token names.
 use Rattle.std.specs.Prelude.{ℕ, List, Option, slice_get}
 use Rattle.std.specs.Option.{option_and_then}
-use Rattle.world_model.specs.declared.record.AsmRec.{AsmRec}
-use Rattle.world_model.specs.declared.expr.MethodUse.{MethodUse}
-use Rattle.link_rules.specs.Members.{generic_method}
-use Rattle.type_rules.specs.Dispatch.{good_use}
+use Rattle.il_base.specs.declared.world_model.record.AsmRec.{AsmRec}
+use Rattle.il_base.specs.declared.world_model.expr.MethodUse.{MethodUse}
+use Rattle.rules.specs.link_rules.Members.{generic_method}
+use Rattle.rules.specs.type_rules.Dispatch.{good_use}
 
 -- of an assembly; any other token names none
 abbrev pub use_in : List AsmRec → ℕ → ℕ → Option MethodUse

@@ -3,8 +3,8 @@
 ghost use Rattle.std.specs.Prelude.{◌≡◌, ℕ, ◌∷◌, [], ◌++◌, nat_eq, false, IfOk, OnOk, if◌then◌else◌};
 ghost use Rattle.type_tables.specs.Groups.{rows_of, AreRowsOf, rows_with, AreGroups};
 
+use crate::member_search::counted::row_of;
 use il_base::{NoMemory, Seq};
-use member_search::counted::row_of;
 use std::alloc::Global;
 use std::collections::HashMap;
 

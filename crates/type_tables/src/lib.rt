@@ -3,5 +3,7 @@
 #![tactic(auto)]
 
 pub mod groups;
+pub mod member_search;
 pub mod methods;
+pub mod subtypes;
 pub mod tables;

@@ -3,22 +3,22 @@
 ghost use Rattle.std.specs.Prelude.{◌≡◌, suc, Some, None, slice_get, slice_index_or, IfOk};
 ghost use Rattle.std.specs.List.{position_from};
 ghost use Rattle.std.specs.Option.{option_copied, option_map, option_and_then};
-ghost use Rattle.world_model.specs.Worlds.{rows_before};
-ghost use Rattle.link_rules.specs.Members.{methods_in, owns_method, generic_method};
-ghost use Rattle.type_rules.specs.Slots.{method_row_at, method_home, type_of_method, type_of_row};
-ghost use Rattle.type_rules.specs.Dispatch.{good_use, method_id};
-ghost use Rattle.type_rules.specs.Searches.{has_owner};
+ghost use Rattle.il_base.specs.world_model.Worlds.{rows_before};
+ghost use Rattle.rules.specs.link_rules.Members.{methods_in, owns_method, generic_method};
+ghost use Rattle.rules.specs.type_rules.Slots.{method_row_at, method_home, type_of_method, type_of_row};
+ghost use Rattle.rules.specs.type_rules.Dispatch.{good_use, method_id};
+ghost use Rattle.rules.specs.type_rules.Searches.{has_owner};
 ghost use Rattle.type_tables.specs.Uses.{use_in};
 ghost use Rattle.type_tables.specs.Tables.{AreRowTables, IsTables};
 
+use crate::member_search::counted::{Counted, row_of, rows_before, sum};
+use crate::member_search::linked::assembly_at;
+use crate::member_search::method_types::open_method_type;
 use crate::tables::{RowTables, Tables};
+use il_base::world_model::{AsmRec, Known, MethodDefRow, MethodUse, TypeDefRow, table_of};
 use il_base::{AsmId, MethodId, NoMemory, table};
-use link_rules::{MethodType, RowAt};
-use member_search::counted::{Counted, row_of, rows_before, sum};
-use member_search::linked::assembly_at;
-use member_search::method_types::open_method_type;
+use rules::link_rules::{MethodType, RowAt};
 use std::alloc::Global;
-use world_model::{AsmRec, Known, MethodDefRow, MethodUse, TypeDefRow, table_of};
 
 /// The row of a method.
 pub fn method_row_at(all: &[AsmRec], at: RowAt) -> Option<&MethodDefRow>
@@ -31,7 +31,7 @@ pub fn method_row_at(all: &[AsmRec], at: RowAt) -> Option<&MethodDefRow>
 }
 
 /// The assembly and row of a method.
-#[tactic(auto, unfolding(link_rules::specs::Members::home_from))]
+#[tactic(auto, unfolding(rules::specs::link_rules::Members::home_from))]
 pub fn method_home(all: &[AsmRec], id: MethodId) -> Result<Option<RowAt>, NoMemory>
     ensures { IfOk result (λ at. at ≡ method_home all.now id) }
 {

@@ -3,19 +3,19 @@
 ghost use Rattle.std.specs.Prelude.{◌≡◌, slice_get, IfOk, IfSome};
 ghost use Rattle.std.specs.Option.{option_map};
 ghost use Rattle.std.specs.List.{AllZip};
-ghost use Rattle.link_rules.specs.Linked.{IsWorld};
-ghost use Rattle.member_search.specs.Linked.{IsLinked};
+ghost use Rattle.rules.specs.link_rules.Linked.{IsWorld};
+ghost use Rattle.type_tables.specs.member_search.Linked.{IsLinked};
 ghost use Rattle.type_tables.specs.Tables.{interface_classes, impl_classes, property_parents, event_parents, associations, AreRowTables, AreRowsAt, IsTables};
 
 use crate::groups::Groups;
+use crate::member_search::linked::{Linked, Scope, assembly_at};
+use crate::member_search::names::{Names, names_of};
+use crate::member_search::owners::method_owners;
+use base_laws::link_laws::laws::links_tell;
+use base_laws::type_laws::laws::uses_told;
 use il_base::NoMemory;
-use link_laws::laws::links_tell;
-use member_search::linked::{Linked, Scope, assembly_at};
-use member_search::names::{Names, names_of};
-use member_search::owners::method_owners;
+use il_base::world_model::{AsmRec, World};
 use std::alloc::Global;
-use type_laws::laws::uses_told;
-use world_model::{AsmRec, World};
 
 /// Of an assembly: the type of each method, and the rows of tables by the types or members that they belong to.
 #[derive(Drop)]

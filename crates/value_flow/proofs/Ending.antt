@@ -3,17 +3,17 @@ use Rattle.std.proofs.Common.{◌≡◌, ℕ, ◌*◌, List, length, sym, ◌∙
 use Rattle.std.specs.Prelude.{Option, Some, Result, MatchResult, ◌↔◌}
 use Rattle.il_base.specs.declared.ids.MethodId.{MethodId}
 use Rattle.il_base.specs.declared.ids.TypeId.{TypeId}
-use Rattle.world_model.specs.declared.record.AsmRec.{AsmRec}
-use Rattle.slot_flow.specs.declared.walks.Reached.{Reached}
-use Rattle.slot_flow.specs.Found.{is_found}
-use Rattle.flow_rules.specs.declared.source.Source.{Source}
-use Rattle.flow_rules.specs.Methods.{Setting, setting_of}
-use Rattle.flow_rules.specs.Steps.{offsets}
-use Rattle.flow_rules.specs.Moves.{sources_of}
-use Rattle.body_graph.specs.declared.graph.Graph.{Graph}
-use Rattle.body_graph.specs.Places.{place_at}
-use Rattle.body_graph.specs.Graphs.{IsGraph}
-use Rattle.body_graph.proofs.PlaceLemmas.{place_is}
+use Rattle.il_base.specs.declared.world_model.record.AsmRec.{AsmRec}
+use Rattle.value_flow.specs.declared.slot_flow.walks.Reached.{Reached}
+use Rattle.value_flow.specs.slot_flow.Found.{is_found}
+use Rattle.value_flow.specs.declared.flow_rules.source.Source.{Source}
+use Rattle.value_flow.specs.flow_rules.Methods.{Setting, setting_of}
+use Rattle.value_flow.specs.flow_rules.Steps.{offsets}
+use Rattle.value_flow.specs.flow_rules.Moves.{sources_of}
+use Rattle.value_flow.specs.declared.body_graph.graph.Graph.{Graph}
+use Rattle.value_flow.specs.body_graph.Places.{place_at}
+use Rattle.value_flow.specs.body_graph.Graphs.{IsGraph}
+use Rattle.value_flow.proofs.lemmas.body_graph.PlaceLemmas.{place_is}
 use Rattle.value_flow.specs.declared.flow.Flow.{Flow}
 use Rattle.value_flow.specs.declared.flow.FlowError.{FlowError}
 use Rattle.value_flow.specs.Flows.{slots_of, capped, work_of, owner_of, CarriesAt, Carries, is_carried, IsReachedOf, IsFlow, IsFault, IsItsGraph, IsFlowOf}

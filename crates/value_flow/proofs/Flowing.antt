@@ -6,24 +6,24 @@ use Rattle.std.specs.Option.{option_map}
 use Rattle.std.proofs.lemmas.Option.{slice_get-map}
 use Rattle.std.proofs.lemmas.List.{length-map, length-replicate}
 use Rattle.il_base.specs.declared.ids.TypeId.{TypeId}
-use Rattle.world_model.specs.declared.record.AsmRec.{AsmRec}
-use Rattle.stack_depths.specs.Depths.{depth_at}
-use Rattle.slot_flow.specs.declared.moves.Flowing.{Flowing}
-use Rattle.slot_flow.specs.declared.moves.Turning.{Turning}
-use Rattle.slot_flow.specs.declared.moves.Turning.TheVariants as turning
-use Rattle.slot_flow.specs.declared.moves.Move.{Move}
-use Rattle.slot_flow.specs.declared.moves.Move.TheVariants as move
-use Rattle.slot_flow.specs.declared.walks.Reached.{Reached}
-use Rattle.slot_flow.specs.Carrying.{Carried}
-use Rattle.slot_flow.specs.Facts.{flow_in, turned, IsWithin}
-use Rattle.slot_flow.specs.Found.{is_found, IsReached}
-use Rattle.slot_flow.proofs.Lists.{contained}
-use Rattle.flow_rules.specs.declared.source.Source.{Source}
-use Rattle.flow_rules.specs.declared.source.Source.TheVariants as source
-use Rattle.flow_rules.specs.Methods.{Setting}
-use Rattle.flow_rules.specs.Sources.{turn}
-use Rattle.flow_rules.specs.Counts.{one_if}
-use Rattle.flow_rules.specs.Moves.{this_source, parameters_from, parameters, fixed_in, moves_of, begins_of, sources_of, flow_of}
+use Rattle.il_base.specs.declared.world_model.record.AsmRec.{AsmRec}
+use Rattle.value_flow.specs.stack_depths.Depths.{depth_at}
+use Rattle.value_flow.specs.declared.slot_flow.moves.Flowing.{Flowing}
+use Rattle.value_flow.specs.declared.slot_flow.moves.Turning.{Turning}
+use Rattle.value_flow.specs.declared.slot_flow.moves.Turning.TheVariants as turning
+use Rattle.value_flow.specs.declared.slot_flow.moves.Move.{Move}
+use Rattle.value_flow.specs.declared.slot_flow.moves.Move.TheVariants as move
+use Rattle.value_flow.specs.declared.slot_flow.walks.Reached.{Reached}
+use Rattle.value_flow.specs.slot_flow.Carrying.{Carried}
+use Rattle.value_flow.specs.slot_flow.Facts.{flow_in, turned, IsWithin}
+use Rattle.value_flow.specs.slot_flow.Found.{is_found, IsReached}
+use Rattle.value_flow.proofs.lemmas.slot_flow.Lists.{contained}
+use Rattle.value_flow.specs.declared.flow_rules.source.Source.{Source}
+use Rattle.value_flow.specs.declared.flow_rules.source.Source.TheVariants as source
+use Rattle.value_flow.specs.flow_rules.Methods.{Setting}
+use Rattle.value_flow.specs.flow_rules.Sources.{turn}
+use Rattle.value_flow.specs.flow_rules.Counts.{one_if}
+use Rattle.value_flow.specs.flow_rules.Moves.{this_source, parameters_from, parameters, fixed_in, moves_of, begins_of, sources_of, flow_of}
 use Rattle.value_flow.specs.Numbers.{number_in, numbered_move}
 use Rattle.value_flow.specs.Flows.{deepest_from, IsNumbered, CarriesAt, IsReachedOf}
 use Rattle.value_flow.proofs.Related.{SameMove, loads, stores, twice, back, makes, turns, nothing, Beside, Related, CarriedToo, carried_too}

@@ -4,3 +4,4 @@ pub mod Numbering
 pub mod Flowing
 pub mod Ending
 pub mod Looping
+pub mod lemmas

@@ -7,12 +7,12 @@ use Rattle.std.proofs.lemmas.List.Elements.{Contains-append_left, Contains-push,
 use Rattle.il_base.specs.declared.ids.TypeId.{TypeId}
 use Rattle.il_base.specs.declared.ids.MethodId.{MethodId}
 use Rattle.il_base.specs.declared.ids.FieldId.{FieldId}
-use Rattle.world_model.specs.Core.{same_name}
-use Rattle.link_rules.specs.Cycles.{add_new, add_all}
-use Rattle.slot_flow.proofs.Lists.{tail_contains}
-use Rattle.flow_rules.specs.declared.source.Source.{Source}
-use Rattle.flow_rules.specs.declared.source.Source.TheVariants as source
-use Rattle.flow_rules.specs.Sources.{same_source}
+use Rattle.il_base.specs.world_model.Core.{same_name}
+use Rattle.rules.specs.link_rules.Cycles.{add_new, add_all}
+use Rattle.value_flow.proofs.lemmas.slot_flow.Lists.{tail_contains}
+use Rattle.value_flow.specs.declared.flow_rules.source.Source.{Source}
+use Rattle.value_flow.specs.declared.flow_rules.source.Source.TheVariants as source
+use Rattle.value_flow.specs.flow_rules.Sources.{same_source}
 
 -- ---- equality of sources
 

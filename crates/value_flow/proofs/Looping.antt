@@ -6,13 +6,13 @@ use Rattle.std.specs.Prelude.{Option}
 use Rattle.std.specs.List.{flat_map}
 use Rattle.il_base.specs.declared.body.Instr.{Instr}
 use Rattle.il_base.specs.declared.ids.TypeId.{TypeId}
-use Rattle.world_model.specs.declared.record.AsmRec.{AsmRec}
-use Rattle.link_rules.specs.Cycles.{add_new, add_all}
-use Rattle.flow_rules.specs.declared.source.Source.{Source}
-use Rattle.flow_rules.specs.declared.source.Source.TheVariants as source
-use Rattle.flow_rules.specs.Methods.{Setting}
-use Rattle.flow_rules.specs.Sources.{same_source}
-use Rattle.flow_rules.specs.Moves.{parameters_from, parameters, sources_by, sources_of}
+use Rattle.il_base.specs.declared.world_model.record.AsmRec.{AsmRec}
+use Rattle.rules.specs.link_rules.Cycles.{add_new, add_all}
+use Rattle.value_flow.specs.declared.flow_rules.source.Source.{Source}
+use Rattle.value_flow.specs.declared.flow_rules.source.Source.TheVariants as source
+use Rattle.value_flow.specs.flow_rules.Methods.{Setting}
+use Rattle.value_flow.specs.flow_rules.Sources.{same_source}
+use Rattle.value_flow.specs.flow_rules.Moves.{parameters_from, parameters, sources_by, sources_of}
 use Rattle.value_flow.specs.Numbers.{number_in}
 use Rattle.value_flow.proofs.Listing.{all_append}
 

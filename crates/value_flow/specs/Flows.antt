@@ -3,25 +3,25 @@ use Rattle.std.specs.Prelude.{◌≡◌, ℕ, ◌+◌, ◌*◌, ◌<◌, ◌≤�
 use Rattle.std.specs.Option.{option_and_then, option_map}
 use Rattle.il_base.specs.declared.ids.MethodId.{MethodId}
 use Rattle.il_base.specs.declared.ids.TypeId.{TypeId}
-use Rattle.world_model.specs.declared.record.AsmRec.{AsmRec}
-use Rattle.world_model.specs.Worlds.{type_id}
-use Rattle.link_rules.specs.declared.row_at.RowAt.{RowAt}
-use Rattle.type_rules.specs.Slots.{method_home, type_of_method}
-use Rattle.slot_flow.specs.declared.moves.Flowing.{Flowing}
-use Rattle.slot_flow.specs.declared.moves.Turning.TheVariants as turning
-use Rattle.slot_flow.specs.declared.walks.Reached.{Reached}
-use Rattle.slot_flow.specs.Carrying.{Carried}
-use Rattle.slot_flow.specs.Found.{is_found}
-use Rattle.flow_rules.specs.declared.source.Source.{Source}
-use Rattle.flow_rules.specs.declared.source.Source.TheVariants as source
-use Rattle.flow_rules.specs.Methods.{Setting, setting_of}
-use Rattle.flow_rules.specs.Steps.{offsets, place_in}
-use Rattle.flow_rules.specs.Exits.{exits_of}
-use Rattle.flow_rules.specs.Sources.{turn}
-use Rattle.flow_rules.specs.Moves.{fixed_in, moves_of, taken_of, begins_of, sources_of, flow_of}
-use Rattle.body_graph.specs.declared.graph.Graph.{Graph}
-use Rattle.body_graph.specs.Places.{place_at}
-use Rattle.body_graph.specs.Graphs.{IsGraph}
+use Rattle.il_base.specs.declared.world_model.record.AsmRec.{AsmRec}
+use Rattle.il_base.specs.world_model.Worlds.{type_id}
+use Rattle.rules.specs.declared.link_rules.row_at.RowAt.{RowAt}
+use Rattle.rules.specs.type_rules.Slots.{method_home, type_of_method}
+use Rattle.value_flow.specs.declared.slot_flow.moves.Flowing.{Flowing}
+use Rattle.value_flow.specs.declared.slot_flow.moves.Turning.TheVariants as turning
+use Rattle.value_flow.specs.declared.slot_flow.walks.Reached.{Reached}
+use Rattle.value_flow.specs.slot_flow.Carrying.{Carried}
+use Rattle.value_flow.specs.slot_flow.Found.{is_found}
+use Rattle.value_flow.specs.declared.flow_rules.source.Source.{Source}
+use Rattle.value_flow.specs.declared.flow_rules.source.Source.TheVariants as source
+use Rattle.value_flow.specs.flow_rules.Methods.{Setting, setting_of}
+use Rattle.value_flow.specs.flow_rules.Steps.{offsets, place_in}
+use Rattle.value_flow.specs.flow_rules.Exits.{exits_of}
+use Rattle.value_flow.specs.flow_rules.Sources.{turn}
+use Rattle.value_flow.specs.flow_rules.Moves.{fixed_in, moves_of, taken_of, begins_of, sources_of, flow_of}
+use Rattle.value_flow.specs.declared.body_graph.graph.Graph.{Graph}
+use Rattle.value_flow.specs.body_graph.Places.{place_at}
+use Rattle.value_flow.specs.body_graph.Graphs.{IsGraph}
 use Rattle.value_flow.specs.declared.flow.Flow.{Flow}
 use Rattle.value_flow.specs.declared.parts.Parts.{Parts}
 use Rattle.value_flow.specs.declared.flow.FlowError.{FlowError}

@@ -1,7 +1,7 @@
+use crate::flow_rules::Source;
 use crate::numbers::number_in;
-use flow_rules::Source;
+use crate::slot_flow::{Move, Turning};
 use il_base::NoMemory;
-use slot_flow::{Move, Turning};
 
 /// What an instruction does with sources, with the source that it makes.
 #[derive(Drop)]

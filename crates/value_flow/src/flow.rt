@@ -1,25 +1,25 @@
 //! The flow.
 
 ghost use Rattle.std.specs.Prelude.{◌≡◌, ◌*◌, true, List, Option, ◌↔◌, IfOk, MatchResult};
-ghost use Rattle.link_rules.specs.Linked.{IsWorld};
+ghost use Rattle.rules.specs.link_rules.Linked.{IsWorld};
 ghost use Rattle.il_base.specs.declared.ids.TypeId.{TypeId};
-ghost use Rattle.world_model.specs.declared.record.AsmRec.{AsmRec};
-ghost use Rattle.flow_rules.specs.Methods.{Setting};
-ghost use Rattle.flow_rules.specs.Moves.{sources_of};
-ghost use Rattle.body_graph.specs.declared.graph.Graph.{Graph};
-ghost use Rattle.body_graph.specs.Methods.{setting_in, IsHere};
-ghost use Rattle.body_graph.specs.Graphs.{IsGraph, depth_of};
+ghost use Rattle.il_base.specs.declared.world_model.record.AsmRec.{AsmRec};
+ghost use Rattle.value_flow.specs.flow_rules.Methods.{Setting};
+ghost use Rattle.value_flow.specs.flow_rules.Moves.{sources_of};
+ghost use Rattle.value_flow.specs.declared.body_graph.graph.Graph.{Graph};
+ghost use Rattle.value_flow.specs.body_graph.Methods.{setting_in, IsHere};
+ghost use Rattle.value_flow.specs.body_graph.Graphs.{IsGraph, depth_of};
 ghost use Rattle.value_flow.specs.Flows.{capped, work_of, is_carried, Carries, AreParts, IsNumbered, IsReachedOf, IsFlow, IsFault, IsItsGraph, IsFlowOf};
 
+use crate::body_graph::Graph;
+use crate::body_graph::methods::{Method, method_of};
+use crate::flow_rules::Source;
 use crate::members::owner_of;
 use crate::numbers::number_in;
 use crate::parts::{Parts, parts_of, slots_of};
+use crate::slot_flow::{Flowing, Reached};
 use crate::sources::sources_of;
-use body_graph::Graph;
-use body_graph::methods::{Method, method_of};
-use flow_rules::Source;
 use il_base::{MethodId, NoMemory, Seq, TypeId};
-use slot_flow::{Flowing, Reached};
 use std::alloc::Global;
 use type_system::Types;
 

@@ -2,15 +2,19 @@
 //! out comes `Flow`, as `flow_rules` and `slot_flow` define it.
 #![tactic(auto)]
 
+pub mod body_graph;
 mod doing;
 mod flow;
+pub mod flow_rules;
 mod handles;
 mod members;
 mod moves;
 mod numbers;
 mod parts;
 mod same;
+pub mod slot_flow;
 mod sources;
+pub mod stack_depths;
 mod texts;
 
 pub use flow::{Flow, FlowError};

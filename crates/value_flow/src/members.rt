@@ -3,18 +3,18 @@
 ghost use Rattle.std.specs.Prelude.{◌≡◌, IfOk};
 ghost use Rattle.std.specs.List.{position_from};
 ghost use Rattle.std.specs.Option.{option_copied};
-ghost use Rattle.world_model.specs.Worlds.{type_id};
-ghost use Rattle.link_rules.specs.Members.{owns_method};
-ghost use Rattle.type_rules.specs.Slots.{type_of_method};
-ghost use Rattle.type_rules.specs.Rows.{type_row_at};
-ghost use Rattle.flow_rules.specs.Sources.{is_called, is_system_type, is_core_type, is_of_type, is_type_member};
+ghost use Rattle.il_base.specs.world_model.Worlds.{type_id};
+ghost use Rattle.rules.specs.link_rules.Members.{owns_method};
+ghost use Rattle.rules.specs.type_rules.Slots.{type_of_method};
+ghost use Rattle.rules.specs.type_rules.Rows.{type_row_at};
+ghost use Rattle.value_flow.specs.flow_rules.Sources.{is_called, is_system_type, is_core_type, is_of_type, is_type_member};
 ghost use Rattle.value_flow.specs.Flows.{owner_of};
 
+use il_base::world_model::{AsmRec, TypeDefRow, type_id};
 use il_base::{MethodId, NoMemory, TypeId};
-use link_rules::RowAt;
-use member_search::linked::assembly_at;
+use rules::link_rules::RowAt;
+use type_tables::member_search::linked::assembly_at;
 use type_tables::methods::{method_home, method_row_at};
-use world_model::{AsmRec, TypeDefRow, type_id};
 
 fn is_called(recs: &[AsmRec], name: &[u8], at: RowAt) -> bool
     ensures { result ≡ is_called recs.now name.now at }

@@ -2,12 +2,12 @@
 
 ghost use Rattle.std.specs.Prelude.{◌≡◌, [], ◌∷◌, IfOk, OnOk};
 ghost use Rattle.std.specs.List.{list_any};
-ghost use Rattle.link_rules.specs.Cycles.{add_new, add_all};
-ghost use Rattle.flow_rules.specs.Sources.{same_source};
+ghost use Rattle.rules.specs.link_rules.Cycles.{add_new, add_all};
+ghost use Rattle.value_flow.specs.flow_rules.Sources.{same_source};
 ghost use Rattle.value_flow.specs.Numbers.{number_in};
 
+use crate::flow_rules::Source;
 use crate::same::same_source;
-use flow_rules::Source;
 use il_base::{NoMemory, Seq};
 
 fn is_among(sources: &[Source], s: &Source) -> bool

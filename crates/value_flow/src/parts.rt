@@ -1,21 +1,21 @@
 //! The flow of a method with its sources as numbers.
 
 ghost use Rattle.std.specs.Prelude.{◌≡◌, ◌++◌, map, replicate, IfOk, OnOk};
-ghost use Rattle.link_rules.specs.Cycles.{listed};
-ghost use Rattle.flow_rules.specs.declared.source.Source.TheVariants as source;
-ghost use Rattle.flow_rules.specs.Sources.{turn};
-ghost use Rattle.flow_rules.specs.Moves.{moves_of, taken_by, taken_of, parameters, begins_of, sources_of};
-ghost use Rattle.body_graph.specs.Methods.{setting_in, IsHere};
+ghost use Rattle.rules.specs.link_rules.Cycles.{listed};
+ghost use Rattle.value_flow.specs.declared.flow_rules.source.Source.TheVariants as source;
+ghost use Rattle.value_flow.specs.flow_rules.Sources.{turn};
+ghost use Rattle.value_flow.specs.flow_rules.Moves.{moves_of, taken_by, taken_of, parameters, begins_of, sources_of};
+ghost use Rattle.value_flow.specs.body_graph.Methods.{setting_in, IsHere};
 ghost use Rattle.value_flow.specs.Numbers.{number_in, numbered_move};
 ghost use Rattle.value_flow.specs.Flows.{deepest, slots_of, AreParts};
 
+use crate::body_graph::methods::Method;
+use crate::flow_rules::Source;
 use crate::moves::{arg_slot, args_in, doing_of, local_slot};
 use crate::numbers::number_in;
+use crate::slot_flow::{Move, Turning};
 use crate::sources::turn;
-use body_graph::methods::Method;
-use flow_rules::Source;
 use il_base::{Form, NoMemory, Operand, TypeId};
-use slot_flow::{Move, Turning};
 use std::alloc::Global;
 use type_system::Types;
 

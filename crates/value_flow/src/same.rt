@@ -1,9 +1,9 @@
 //! Equality of sources.
 
 ghost use Rattle.std.specs.Prelude.{◌≡◌};
-ghost use Rattle.flow_rules.specs.Sources.{same_source};
+ghost use Rattle.value_flow.specs.flow_rules.Sources.{same_source};
 
-use flow_rules::Source;
+use crate::flow_rules::Source;
 
 /// Whether two sources are the same.
 pub(crate) fn same_source(a: &Source, b: &Source) -> bool

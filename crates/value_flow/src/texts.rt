@@ -2,13 +2,13 @@
 
 ghost use Rattle.std.specs.Prelude.{◌≡◌, IfOk};
 ghost use Rattle.std.specs.Option.{option_copied};
-ghost use Rattle.flow_rules.specs.Sources.{text_at, type_of_text};
+ghost use Rattle.value_flow.specs.flow_rules.Sources.{text_at, type_of_text};
 
 use attr_blobs::{NameRead, parse_name};
+use il_base::world_model::{AsmRec, UserText};
 use il_base::{AsmId, NoMemory, TypeId, Units};
 use std::alloc::Global;
 use type_system::Types;
-use world_model::{AsmRec, UserText};
 
 /// The text that `ldstr` names.
 pub(crate) fn text_at(rec: &AsmRec, token: u32) -> Option<&UserText>

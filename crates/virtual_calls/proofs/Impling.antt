@@ -2,16 +2,16 @@
 use Rattle.std.proofs.Common.{◌≡◌, ℕ, suc, List, [], ◌∷◌, Bool, Option, Some, None, refl, sym, ap, ◌∙◌}
 use Rattle.std.specs.Prelude.{slice_get, ◌==◌, if◌then◌else◌}
 use Rattle.std.specs.Option.{option_and_then}
-use Rattle.world_model.specs.declared.expr.TypeExpr.{TypeExpr}
-use Rattle.world_model.specs.declared.expr.MethodUse.{MethodUse}
-use Rattle.world_model.specs.declared.types.TypeDefRow.{TypeDefRow}
-use Rattle.world_model.specs.declared.members.MethodImplRow.{MethodImplRow}
-use Rattle.world_model.specs.declared.record.AsmRec.{AsmRec}
-use Rattle.world_model.specs.Tokens.{token_of}
-use Rattle.link_rules.specs.declared.row_at.RowAt.{RowAt}
-use Rattle.link_rules.specs.Types.{or_else}
-use Rattle.link_rules.specs.Members.{generic_method}
-use Rattle.type_rules.specs.Dispatch.{good_use, first_impl, impl_body, impl_of_row, impl_in_row}
+use Rattle.il_base.specs.declared.world_model.expr.TypeExpr.{TypeExpr}
+use Rattle.il_base.specs.declared.world_model.expr.MethodUse.{MethodUse}
+use Rattle.il_base.specs.declared.world_model.types.TypeDefRow.{TypeDefRow}
+use Rattle.il_base.specs.declared.world_model.members.MethodImplRow.{MethodImplRow}
+use Rattle.il_base.specs.declared.world_model.record.AsmRec.{AsmRec}
+use Rattle.il_base.specs.world_model.Tokens.{token_of}
+use Rattle.rules.specs.declared.link_rules.row_at.RowAt.{RowAt}
+use Rattle.rules.specs.link_rules.Types.{or_else}
+use Rattle.rules.specs.link_rules.Members.{generic_method}
+use Rattle.rules.specs.type_rules.Dispatch.{good_use, first_impl, impl_body, impl_of_row, impl_in_row}
 use Rattle.type_tables.specs.declared.groups.Groups.{Groups}
 use Rattle.type_tables.specs.Groups.{first_of, rows_with, AreGroups}
 use Rattle.type_tables.specs.Tables.{impl_classes}

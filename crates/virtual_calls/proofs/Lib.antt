@@ -4,3 +4,4 @@ pub mod Matching
 pub mod Running
 pub mod Walking
 pub mod Slotting
+pub mod lemmas

@@ -1,17 +1,17 @@
 -- A virtual method by name and signature is what the search of members looks for.
 use Rattle.std.proofs.Common.{◌≡◌, ℕ, List, Option, Some, None, refl, ap}
 use Rattle.std.specs.Option.{option_map}
-use Rattle.world_model.specs.declared.expr.TypeExpr.{TypeExpr}
-use Rattle.world_model.specs.declared.record.AsmRec.{AsmRec}
-use Rattle.link_rules.specs.declared.row_at.RowAt.{RowAt}
-use Rattle.link_rules.specs.Types.{or_else}
-use Rattle.link_rules.specs.Members.{args_of}
-use Rattle.link_rules.specs.declared.member_type.MethodType.{MethodType}
-use Rattle.member_search.specs.declared.members.Wanted.TheVariants.{Method}
-use Rattle.member_search.specs.declared.members.Among.TheVariants.{Virtual, PublicVirtual}
-use Rattle.member_search.specs.Wanted.{look_for, member_in}
-use Rattle.type_rules.specs.Slots.{is_virtual, match_in, nearest}
-use Rattle.type_rules.specs.Dispatch.{is_public_virtual, impl_in, declares_in, interface_method_in}
+use Rattle.il_base.specs.declared.world_model.expr.TypeExpr.{TypeExpr}
+use Rattle.il_base.specs.declared.world_model.record.AsmRec.{AsmRec}
+use Rattle.rules.specs.declared.link_rules.row_at.RowAt.{RowAt}
+use Rattle.rules.specs.link_rules.Types.{or_else}
+use Rattle.rules.specs.link_rules.Members.{args_of}
+use Rattle.rules.specs.declared.link_rules.member_type.MethodType.{MethodType}
+use Rattle.type_tables.specs.declared.member_search.members.Wanted.TheVariants.{Method}
+use Rattle.type_tables.specs.declared.member_search.members.Among.TheVariants.{Virtual, PublicVirtual}
+use Rattle.type_tables.specs.member_search.Wanted.{look_for, member_in}
+use Rattle.rules.specs.type_rules.Slots.{is_virtual, match_in, nearest}
+use Rattle.rules.specs.type_rules.Dispatch.{is_public_virtual, impl_in, declares_in, interface_method_in}
 use Rattle.virtual_calls.specs.Interfaces.{interface_look, public_method}
 
 virtual : (recs : List AsmRec) (name : List ℕ) (wanted : MethodType) (e : TypeExpr) → look_for recs name (Method Virtual wanted) e ≡ match_in recs is_virtual name wanted e

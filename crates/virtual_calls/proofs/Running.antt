@@ -1,7 +1,7 @@
 -- The first row of a run that passes a test, row by row.
 use Rattle.std.proofs.Common.{◌≡◌, ℕ, suc, ◌+◌, ◌-◌, ◌<◌, Bool, false, Option, refl, sym, ap, ◌∙◌, arith}
 use Rattle.std.specs.List.{range_with_len}
-use Rattle.type_rules.specs.Dispatch.{place_that}
+use Rattle.rules.specs.type_rules.Dispatch.{place_that}
 
 skip : (test : ℕ → Bool) (k n : ℕ) → test k ≡ false → place_that test (range_with_len k (suc n)) ≡ place_that test (range_with_len (k + 1) n)
 skip test k n e = rw e refl

@@ -5,13 +5,13 @@ use Rattle.std.specs.List.{range_with_len}
 use Rattle.std.specs.Option.{option_map, option_and_then}
 use Rattle.std.proofs.lemmas.Option.{slice_get-map}
 use Rattle.std.proofs.lemmas.List.FromFn.{map-range_with_len_more}
-use Rattle.world_model.specs.declared.members.MethodDefRow.{MethodDefRow}
-use Rattle.world_model.specs.declared.expr.TypeExpr.{TypeExpr}
-use Rattle.world_model.specs.declared.record.AsmRec.{AsmRec}
-use Rattle.link_rules.specs.declared.row_at.RowAt.{RowAt}
-use Rattle.link_rules.specs.Types.{at_row}
-use Rattle.link_rules.specs.Members.{base_at, bases_from, type_count, methods_in}
-use Rattle.type_rules.specs.Slots.{is_virtual, is_new_slot, method_row_at, nearest, bases_above, inherited, slot_within, slot_of}
+use Rattle.il_base.specs.declared.world_model.members.MethodDefRow.{MethodDefRow}
+use Rattle.il_base.specs.declared.world_model.expr.TypeExpr.{TypeExpr}
+use Rattle.il_base.specs.declared.world_model.record.AsmRec.{AsmRec}
+use Rattle.rules.specs.declared.link_rules.row_at.RowAt.{RowAt}
+use Rattle.rules.specs.link_rules.Types.{at_row}
+use Rattle.rules.specs.link_rules.Members.{base_at, bases_from, type_count, methods_in}
+use Rattle.rules.specs.type_rules.Slots.{is_virtual, is_new_slot, method_row_at, nearest, bases_above, inherited, slot_within, slot_of}
 use Rattle.virtual_calls.specs.Slots.{slots_in, slots_from, slot_in_rows}
 
 -- ---- the bases of a definition

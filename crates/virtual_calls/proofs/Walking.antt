@@ -1,10 +1,10 @@
 -- A walk from a type through its bases, one type at a time.
 use Rattle.std.proofs.Common.{◌≡◌, ℕ, suc, ◌+◌, ◌-◌, ◌<◌, ◌≤◌, List, Bool, true, false, Option, Some, None, refl, sym, ap, ◌∙◌, arith}
 use Rattle.std.specs.List.{list_any}
-use Rattle.world_model.specs.declared.expr.TypeExpr.{TypeExpr}
-use Rattle.world_model.specs.declared.record.AsmRec.{AsmRec}
-use Rattle.link_rules.specs.Members.{bases_from, base_of, type_count, with_bases}
-use Rattle.type_rules.specs.Slots.{nearest}
+use Rattle.il_base.specs.declared.world_model.expr.TypeExpr.{TypeExpr}
+use Rattle.il_base.specs.declared.world_model.record.AsmRec.{AsmRec}
+use Rattle.rules.specs.link_rules.Members.{bases_from, base_of, type_count, with_bases}
+use Rattle.rules.specs.type_rules.Slots.{nearest}
 
 module _ {A : Type 0} (recs : List AsmRec) (look : TypeExpr → Option A) where
   -- what a type and its bases give, at most n

@@ -2,13 +2,13 @@
 use Rattle.std.specs.Prelude.{ℕ, List, Bool, Option, None, slice_get}
 use Rattle.std.specs.List.{list_any}
 use Rattle.std.specs.Option.{option_and_then, option_map_or}
-use Rattle.world_model.specs.declared.expr.TypeExpr.{TypeExpr}
-use Rattle.world_model.specs.declared.expr.MethodUse.{MethodUse}
-use Rattle.world_model.specs.declared.members.MethodImplRow.{MethodImplRow}
-use Rattle.world_model.specs.declared.record.AsmRec.{AsmRec}
-use Rattle.link_rules.specs.declared.row_at.RowAt.{RowAt}
-use Rattle.link_rules.specs.Cycles.{listed, same_row, home_of}
-use Rattle.type_rules.specs.Dispatch.{declares_slot, declares_in, impl_body, impl_in_row}
+use Rattle.il_base.specs.declared.world_model.expr.TypeExpr.{TypeExpr}
+use Rattle.il_base.specs.declared.world_model.expr.MethodUse.{MethodUse}
+use Rattle.il_base.specs.declared.world_model.members.MethodImplRow.{MethodImplRow}
+use Rattle.il_base.specs.declared.world_model.record.AsmRec.{AsmRec}
+use Rattle.rules.specs.declared.link_rules.row_at.RowAt.{RowAt}
+use Rattle.rules.specs.link_rules.Cycles.{listed, same_row, home_of}
+use Rattle.rules.specs.type_rules.Dispatch.{declares_slot, declares_in, impl_body, impl_in_row}
 use Rattle.type_tables.specs.Uses.{use_in}
 use Rattle.virtual_calls.specs.declared.impls.Declares.{Declares}
 use Rattle.virtual_calls.specs.declared.impls.Declares.TheVariants.{Slot, In}

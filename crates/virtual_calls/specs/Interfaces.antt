@@ -1,17 +1,17 @@
 -- What a type has for a slot of an interface instance, as the code looks for it.
 use Rattle.std.specs.Prelude.{ℕ, List, Option, Some, None}
-use Rattle.world_model.specs.declared.expr.TypeExpr.{TypeExpr}
-use Rattle.world_model.specs.declared.record.AsmRec.{AsmRec}
-use Rattle.link_rules.specs.declared.row_at.RowAt.{RowAt}
-use Rattle.link_rules.specs.Types.{or_else}
-use Rattle.link_rules.specs.Members.{args_of}
-use Rattle.link_rules.specs.declared.member_type.MethodType.{MethodType}
-use Rattle.member_search.specs.declared.members.Wanted.{Wanted}
-use Rattle.member_search.specs.declared.members.Wanted.TheVariants.{Method}
-use Rattle.member_search.specs.declared.members.Among.TheVariants.{PublicVirtual}
-use Rattle.member_search.specs.Wanted.{look_for}
-use Rattle.type_rules.specs.Dispatch as dispatch
-use Rattle.type_rules.specs.Dispatch.{impl_in, declares_in}
+use Rattle.il_base.specs.declared.world_model.expr.TypeExpr.{TypeExpr}
+use Rattle.il_base.specs.declared.world_model.record.AsmRec.{AsmRec}
+use Rattle.rules.specs.declared.link_rules.row_at.RowAt.{RowAt}
+use Rattle.rules.specs.link_rules.Types.{or_else}
+use Rattle.rules.specs.link_rules.Members.{args_of}
+use Rattle.rules.specs.declared.link_rules.member_type.MethodType.{MethodType}
+use Rattle.type_tables.specs.declared.member_search.members.Wanted.{Wanted}
+use Rattle.type_tables.specs.declared.member_search.members.Wanted.TheVariants.{Method}
+use Rattle.type_tables.specs.declared.member_search.members.Among.TheVariants.{PublicVirtual}
+use Rattle.type_tables.specs.member_search.Wanted.{look_for}
+use Rattle.rules.specs.type_rules.Dispatch as dispatch
+use Rattle.rules.specs.type_rules.Dispatch.{impl_in, declares_in}
 use Rattle.virtual_calls.specs.declared.interface_slots.Choice.{Choice}
 
 abbrev pub told : Choice → dispatch.Choice

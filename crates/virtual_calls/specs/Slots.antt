@@ -3,12 +3,12 @@ use Rattle.std.specs.Prelude.{◌≡◌, ℕ, ◌+◌, List, [], ◌∷◌, map,
 use Rattle.std.specs.List.{range_with_len}
 use Rattle.std.specs.Option.{option_and_then}
 use Rattle.il_base.specs.declared.ids.MethodId.{MethodId}
-use Rattle.world_model.specs.declared.record.AsmRec.{AsmRec}
-use Rattle.link_rules.specs.declared.row_at.RowAt.{RowAt}
-use Rattle.link_rules.specs.Types.{at_row}
-use Rattle.link_rules.specs.Members.{methods_in}
-use Rattle.type_rules.specs.Slots.{method_home, slot_of}
-use Rattle.type_rules.specs.Dispatch.{slot_in_run}
+use Rattle.il_base.specs.declared.world_model.record.AsmRec.{AsmRec}
+use Rattle.rules.specs.declared.link_rules.row_at.RowAt.{RowAt}
+use Rattle.rules.specs.link_rules.Types.{at_row}
+use Rattle.rules.specs.link_rules.Members.{methods_in}
+use Rattle.rules.specs.type_rules.Slots.{method_home, slot_of}
+use Rattle.rules.specs.type_rules.Dispatch.{slot_in_run}
 use Rattle.virtual_calls.specs.declared.slots.Slots.{Slots}
 
 -- the slots of the first methods of an assembly

@@ -2,9 +2,9 @@
 
 ghost use Rattle.std.specs.Prelude.{◌≡◌, ℕ, IfOk};
 ghost use Rattle.std.specs.List.{range_with_len};
-ghost use Rattle.link_rules.specs.Types.{at_row};
-ghost use Rattle.type_rules.specs.Slots.{has_slot};
-ghost use Rattle.type_rules.specs.Dispatch.{place_that, find_row_in_run, slot_in, class_method_in, class_dispatch};
+ghost use Rattle.rules.specs.link_rules.Types.{at_row};
+ghost use Rattle.rules.specs.type_rules.Slots.{has_slot};
+ghost use Rattle.rules.specs.type_rules.Dispatch.{place_that, find_row_in_run, slot_in, class_method_in, class_dispatch};
 ghost use Rattle.type_tables.specs.Tables.{IsTables};
 ghost use Rattle.virtual_calls.specs.Slots.{AreSlots, slot_in_at};
 
@@ -12,13 +12,13 @@ use crate::impls::{Declares, has_slot, impl_in};
 use crate::nearest::{base_of, type_count};
 use crate::slots::Slots;
 use il_base::NoMemory;
-use link_rules::RowAt;
-use member_search::bases::definition;
-use member_search::counted::sum;
-use member_search::linked::assembly_at;
+use il_base::world_model::{AsmRec, TypeDefRow, TypeExpr};
+use rules::link_rules::RowAt;
 use std::alloc::Global;
+use type_tables::member_search::bases::definition;
+use type_tables::member_search::counted::sum;
+use type_tables::member_search::linked::assembly_at;
 use type_tables::tables::Tables;
-use world_model::{AsmRec, TypeDefRow, TypeExpr};
 
 /// The first of so many methods of an assembly from a row on, from 0, that has a slot.
 fn first_with_slot(
@@ -84,7 +84,7 @@ fn slot_in_at(
 }
 
 /// The first method of a type that has a slot.
-#[tactic(auto, unfolding(type_rules::specs::Dispatch::slot_in))]
+#[tactic(auto, unfolding(rules::specs::type_rules::Dispatch::slot_in))]
 fn slot_in(
     tables: &Tables<'_>,
     slots: &Slots,
@@ -121,7 +121,7 @@ fn class_method_in(
 }
 
 /// What a type has for a class slot: that of the nearest among it and its bases.
-#[tactic(auto, unfolding(type_rules::specs::Dispatch::class_dispatch))]
+#[tactic(auto, unfolding(rules::specs::type_rules::Dispatch::class_dispatch))]
 pub fn class_dispatch(
     alloc: Global,
     tables: &Tables<'_>,

@@ -1,20 +1,20 @@
 //! Which method a virtual call runs.
 
 ghost use Rattle.std.specs.Prelude.{◌≡◌, IfOk};
-ghost use Rattle.type_rules.specs.Dispatch.{in_interface, dispatch_slot, dispatch};
+ghost use Rattle.rules.specs.type_rules.Dispatch.{in_interface, dispatch_slot, dispatch};
 ghost use Rattle.type_tables.specs.Tables.{IsTables};
 ghost use Rattle.virtual_calls.specs.Slots.{AreSlots, slot_of_id};
 
 use crate::class_slots::class_dispatch;
 use crate::interface_slots::interface_dispatch;
 use crate::slots::{Slots, slot_of_method};
+use il_base::world_model::TypeExpr;
 use il_base::{MethodId, NoMemory};
-use link_rules::RowAt;
-use member_search::bases::is_interface_at;
+use rules::link_rules::RowAt;
 use std::alloc::Global;
+use type_tables::member_search::bases::is_interface_at;
 use type_tables::methods::{method_home, method_id, type_of_method};
 use type_tables::tables::Tables;
-use world_model::TypeExpr;
 
 /// Whether a method is one of an interface.
 pub fn in_interface(tables: &Tables<'_>, slot: RowAt) -> Result<bool, NoMemory>
@@ -66,7 +66,7 @@ fn slot_of_id(
 /// The method that a virtual method, by its slot, is answered by in a type; None for a method that isn't virtual or isn't
 /// there. For an interface slot `owner` is the interface instance, for a class slot it isn't looked at. A method without a
 /// body is an answer too.
-#[tactic(auto, unfolding(type_rules::specs::Dispatch::dispatch))]
+#[tactic(auto, unfolding(rules::specs::type_rules::Dispatch::dispatch))]
 pub fn dispatch(
     alloc: Global,
     tables: &Tables<'_>,

@@ -1,10 +1,10 @@
 //! The flags of a method that its slot goes by (II.23.1.10).
 
 ghost use Rattle.std.specs.Prelude.{◌≡◌};
-ghost use Rattle.type_rules.specs.Slots.{is_static, is_virtual, is_new_slot};
+ghost use Rattle.rules.specs.type_rules.Slots.{is_static, is_virtual, is_new_slot};
 
+use il_base::world_model::MethodDefRow;
 use il_base::{has_flag, method_flags};
-use world_model::MethodDefRow;
 
 /// Static, of a method's flags (II.23.1.10).
 pub fn is_static(m: &MethodDefRow) -> bool

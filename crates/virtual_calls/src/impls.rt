@@ -1,10 +1,10 @@
 //! MethodImpl rows (II.22.27).
 
 ghost use Rattle.std.specs.Prelude.{◌≡◌, IfOk};
-ghost use Rattle.link_rules.specs.Members.{with_bases};
-ghost use Rattle.link_rules.specs.Cycles.{same_row};
-ghost use Rattle.type_rules.specs.Slots.{has_slot, method_row_at};
-ghost use Rattle.type_rules.specs.Dispatch.{have_method, is_instance_virtual, is_body, body_at, impl_body, impl_in, declares_slot, declares_in};
+ghost use Rattle.rules.specs.link_rules.Members.{with_bases};
+ghost use Rattle.rules.specs.link_rules.Cycles.{same_row};
+ghost use Rattle.rules.specs.type_rules.Slots.{has_slot, method_row_at};
+ghost use Rattle.rules.specs.type_rules.Dispatch.{have_method, is_instance_virtual, is_body, body_at, impl_body, impl_in, declares_slot, declares_in};
 ghost use Rattle.type_tables.specs.Groups.{first_of};
 ghost use Rattle.type_tables.specs.Tables.{IsTables};
 ghost use Rattle.virtual_calls.specs.Slots.{AreSlots};
@@ -13,14 +13,14 @@ ghost use Rattle.virtual_calls.specs.Impls.{declares_by, stands_at, impl_by, imp
 use crate::flags::{is_static, is_virtual};
 use crate::nearest::{base_of, method_at, type_count};
 use crate::slots::Slots;
+use il_base::world_model::{AsmRec, MethodImplRow, MethodUse, TypeExpr, token_of};
 use il_base::{NoMemory, table};
-use link_rules::RowAt;
-use member_search::bases::definition;
-use member_search::own_types::open_parent;
+use rules::link_rules::RowAt;
 use std::alloc::Global;
+use type_tables::member_search::bases::definition;
+use type_tables::member_search::own_types::open_parent;
 use type_tables::methods::{method_home, type_of_method, use_at};
 use type_tables::tables::Tables;
-use world_model::{AsmRec, MethodImplRow, MethodUse, TypeExpr, token_of};
 
 /// Which declarations of MethodImpl rows count.
 #[derive(Clone, Copy)]
@@ -292,7 +292,7 @@ fn impl_in_at(
 }
 
 /// The body of the first MethodImpl row of a type whose declaration counts.
-#[tactic(auto, unfolding(type_rules::specs::Dispatch::impl_in))]
+#[tactic(auto, unfolding(rules::specs::type_rules::Dispatch::impl_in))]
 pub fn impl_in(
     alloc: Global,
     tables: &Tables<'_>,

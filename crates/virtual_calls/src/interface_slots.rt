@@ -3,11 +3,11 @@
 ghost use Rattle.std.specs.Prelude.{◌≡◌, [], IfOk, find, map};
 ghost use Rattle.std.specs.List.{flat_map};
 ghost use Rattle.std.specs.Option.{option_map};
-ghost use Rattle.world_model.specs.Exprs.{subst};
-ghost use Rattle.link_rules.specs.Signatures.{subst_method};
-ghost use Rattle.link_rules.specs.Members.{with_bases};
-ghost use Rattle.type_rules.specs.Slots.{nearest};
-ghost use Rattle.type_rules.specs.Dispatch.{implied, is_closed_to, chosen, choice_in, good_signature, from_choice, interface_method, interface_dispatch};
+ghost use Rattle.il_base.specs.world_model.Exprs.{subst};
+ghost use Rattle.rules.specs.link_rules.Signatures.{subst_method};
+ghost use Rattle.rules.specs.link_rules.Members.{with_bases};
+ghost use Rattle.rules.specs.type_rules.Slots.{nearest};
+ghost use Rattle.rules.specs.type_rules.Dispatch.{implied, is_closed_to, chosen, choice_in, good_signature, from_choice, interface_method, interface_dispatch};
 ghost use Rattle.type_tables.specs.Tables.{IsTables};
 ghost use Rattle.virtual_calls.specs.Slots.{AreSlots};
 ghost use Rattle.virtual_calls.specs.Interfaces.{told, interface_look, public_method};
@@ -16,17 +16,17 @@ use crate::class_slots::class_dispatch;
 use crate::impls::{Declares, impl_in};
 use crate::nearest::{base_of, match_in, method_at, type_count};
 use crate::slots::{Slots, slot_of_method};
+use il_base::world_model::{Known, MethodDefRow, TypeExpr};
 use il_base::{NoMemory, Seq};
-use link_rules::{MethodType, RowAt};
-use member_search::bases::args_of;
-use member_search::members::{Among, Wanted};
-use member_search::own_types::open_parent;
+use rules::link_rules::{MethodType, RowAt};
 use std::alloc::Global;
-use subtypes::interfaces::interfaces_of;
-use subtypes::rounds::implied;
+use type_tables::member_search::bases::args_of;
+use type_tables::member_search::members::{Among, Wanted};
+use type_tables::member_search::own_types::open_parent;
 use type_tables::methods::method_type_at;
+use type_tables::subtypes::interfaces::interfaces_of;
+use type_tables::subtypes::rounds::implied;
 use type_tables::tables::Tables;
-use world_model::{Known, MethodDefRow, TypeExpr};
 
 /// A type, and the interface instance that it chooses, the type's own parameters left open.
 #[derive(Drop)]
@@ -79,7 +79,7 @@ fn first_implied(
 }
 
 /// The instance that the first row of a type for an interface instance implies, the type's own parameters left open.
-#[tactic(auto, unfolding(type_rules::specs::Dispatch::chosen))]
+#[tactic(auto, unfolding(rules::specs::type_rules::Dispatch::chosen))]
 fn chosen(
     alloc: Global,
     tables: &Tables<'_>,
@@ -202,7 +202,7 @@ fn subst_types(
 }
 
 /// A method's signature with arguments of its type put in.
-#[tactic(auto, unfolding(link_rules::specs::Signatures::subst_method))]
+#[tactic(auto, unfolding(rules::specs::link_rules::Signatures::subst_method))]
 fn subst_method(
     alloc: Global,
     targs: &[TypeExpr],
@@ -270,7 +270,7 @@ pub fn from_choice(
 }
 
 /// The method that the search for an interface slot finds first.
-#[tactic(auto, unfolding(type_rules::specs::Dispatch::interface_method))]
+#[tactic(auto, unfolding(rules::specs::type_rules::Dispatch::interface_method))]
 fn interface_method(
     alloc: Global,
     tables: &Tables<'_>,
@@ -295,7 +295,7 @@ fn interface_method(
 }
 
 /// What a type has for a slot of an interface instance: the method that the search finds first is dispatched as a class slot.
-#[tactic(auto, unfolding(type_rules::specs::Dispatch::interface_dispatch))]
+#[tactic(auto, unfolding(rules::specs::type_rules::Dispatch::interface_dispatch))]
 pub fn interface_dispatch(
     alloc: Global,
     tables: &Tables<'_>,

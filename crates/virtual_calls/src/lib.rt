@@ -7,5 +7,6 @@ pub mod dispatch;
 pub mod flags;
 pub mod impls;
 pub mod interface_slots;
+pub mod named_members;
 pub mod nearest;
 pub mod slots;

@@ -1,22 +1,22 @@
 ghost use Rattle.std.specs.Prelude.{◌≡◌, IfOk};
 ghost use Rattle.std.specs.Option.{option_copied};
-ghost use Rattle.link_rules.specs.Members.{type_count, base_at, base_of, with_bases};
-ghost use Rattle.member_search.specs.Wanted.{look_for};
-ghost use Rattle.type_rules.specs.Slots.{method_row_at, nearest};
+ghost use Rattle.rules.specs.link_rules.Members.{type_count, base_at, base_of, with_bases};
+ghost use Rattle.type_tables.specs.member_search.Wanted.{look_for};
+ghost use Rattle.rules.specs.type_rules.Slots.{method_row_at, nearest};
 ghost use Rattle.type_tables.specs.Tables.{IsTables};
 
 use il_base::NoMemory;
-use link_rules::RowAt;
-use member_search::bases;
-use member_search::counted::{Counted, rows_before};
-use member_search::members::{Wanted, look_for};
+use il_base::world_model::{MethodDefRow, TypeExpr};
+use rules::link_rules::RowAt;
 use std::alloc::Global;
+use type_tables::member_search::bases;
+use type_tables::member_search::counted::{Counted, rows_before};
+use type_tables::member_search::members::{Wanted, look_for};
 use type_tables::methods::method_row_at;
 use type_tables::tables::Tables;
-use world_model::{MethodDefRow, TypeExpr};
 
 /// How many types the assemblies have: no chain of bases is longer.
-#[tactic(auto, unfolding(link_rules::specs::Members::type_count))]
+#[tactic(auto, unfolding(rules::specs::link_rules::Members::type_count))]
 pub fn type_count(tables: &Tables<'_>) -> Result<u32, NoMemory>
     ensures { IfOk result (λ count. count ≡ type_count tables.now.world.now.recs) }
 {

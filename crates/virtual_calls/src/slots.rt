@@ -1,21 +1,21 @@
 //! The slots of virtual methods (II.10.3, II.12.2).
 
 ghost use Rattle.std.specs.Prelude.{◌≡◌, IfOk};
-ghost use Rattle.member_search.specs.Wanted.{look_for};
-ghost use Rattle.type_rules.specs.Slots.{nearest, bases_above, inherited_by, inherited, slot_of};
+ghost use Rattle.type_tables.specs.member_search.Wanted.{look_for};
+ghost use Rattle.rules.specs.type_rules.Slots.{nearest, bases_above, inherited_by, inherited, slot_of};
 ghost use Rattle.type_tables.specs.Tables.{IsTables};
 ghost use Rattle.virtual_calls.specs.Slots.{slot_at, AreSlots, slots_in, slots_from};
 
 use crate::flags::{is_new_slot, is_virtual};
 use crate::nearest::{base_at, method_at, nearest_match, type_count};
+use il_base::world_model::{Known, MethodDefRow};
 use il_base::{NoMemory, Seq};
-use link_rules::{MethodType, RowAt};
-use member_search::counted::row_of;
-use member_search::members::{Among, Wanted};
+use rules::link_rules::{MethodType, RowAt};
 use std::alloc::Global;
+use type_tables::member_search::counted::row_of;
+use type_tables::member_search::members::{Among, Wanted};
 use type_tables::methods::{method_type_at, type_of_method};
 use type_tables::tables::Tables;
-use world_model::{Known, MethodDefRow};
 
 /// The slot of each method of each assembly; None for a method that isn't virtual.
 #[derive(Drop)]
@@ -66,7 +66,7 @@ fn inherited_by(
 }
 
 /// The method whose slot a virtual method that isn't newslot takes; None where it finds none.
-#[tactic(auto, unfolding(type_rules::specs::Slots::inherited))]
+#[tactic(auto, unfolding(rules::specs::type_rules::Slots::inherited))]
 pub fn inherited(
     alloc: Global,
     tables: &Tables<'_>,

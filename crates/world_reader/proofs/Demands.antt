@@ -1,11 +1,11 @@
 -- A file that has a record is refused for want of memory alone.
 use Rattle.std.proofs.Common.{◌≡◌, ℕ, List, [], Option, None, refl, sym, ◌∙◌}
-use Rattle.cli_format.specs.declared.error.TablesError.{TablesError}
-use Rattle.cli_format.specs.declared.error.TablesError.TheVariants.{Bad, Rows, NoMemory}
-use Rattle.cli_format.specs.Demand.{first_fault}
-use Rattle.cli_format.specs.Metadata.{Refused}
-use Rattle.world_model.specs.declared.record.AsmRec.{AsmRec}
-use Rattle.record_format.specs.Record.{record_demands, record_at, HasRecord}
+use Rattle.il_base.specs.declared.cli_format.error.TablesError.{TablesError}
+use Rattle.il_base.specs.declared.cli_format.error.TablesError.TheVariants.{Bad, Rows, NoMemory}
+use Rattle.il_base.specs.cli_format.Demand.{first_fault}
+use Rattle.il_base.specs.cli_format.Metadata.{Refused}
+use Rattle.il_base.specs.declared.world_model.record.AsmRec.{AsmRec}
+use Rattle.rules.specs.record_format.Record.{record_demands, record_at, HasRecord}
 
 only_memory : (e : TablesError) (fault : Option TablesError) → fault ≡ None → Refused e fault → Refused e (first_fault [])
 unfolding Refused first_fault

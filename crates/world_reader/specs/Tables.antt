@@ -9,15 +9,15 @@ use Rattle.world_reader.specs.declared.tables.MethodTables.{MethodTables}
 use Rattle.world_reader.specs.declared.tables.PropertyTables.{PropertyTables}
 use Rattle.world_reader.specs.declared.tables.ExtraTables.{ExtraTables}
 use Rattle.world_reader.specs.declared.tables.AllTables.{AllTables}
-use Rattle.cli_format.specs.declared.stream.StreamName.TheVariants.{UserStrings}
-use Rattle.cli_format.specs.Image.{metadata_of, resources_of}
-use Rattle.cli_format.specs.Streams.{heap}
-use Rattle.record_format.specs.Cells.{all_rows}
-use Rattle.record_format.specs.Types.{module_row, module_ref_row, assembly_row, assembly_processor_row, assembly_os_row, assembly_ref_row, assembly_ref_processor_row, assembly_ref_os_row, exported_type_row, type_ref_row, type_def_row, interface_impl_row, type_spec_row, nested_class_row, generic_param_row, generic_param_constraint_row, class_layout_row}
-use Rattle.record_format.specs.Members.{field_row, param_row, method_impl_row, method_spec_row, stand_alone_sig_row, event_map_row, event_row, property_map_row, property_row, method_semantics_row, member_ref_row}
-use Rattle.record_format.specs.Others.{file_row, manifest_resource_row, field_rva_row, field_layout_row, field_marshal_row, constant_row, custom_attribute_row, decl_security_row, impl_map_row}
-use Rattle.record_format.specs.Texts.{all_texts, descriptor_in}
-use Rattle.record_format.specs.Record.{methods_of}
+use Rattle.il_base.specs.declared.cli_format.stream.StreamName.TheVariants.{UserStrings}
+use Rattle.il_base.specs.cli_format.Image.{metadata_of, resources_of}
+use Rattle.il_base.specs.cli_format.Streams.{heap}
+use Rattle.rules.specs.record_format.Cells.{all_rows}
+use Rattle.rules.specs.record_format.Types.{module_row, module_ref_row, assembly_row, assembly_processor_row, assembly_os_row, assembly_ref_row, assembly_ref_processor_row, assembly_ref_os_row, exported_type_row, type_ref_row, type_def_row, interface_impl_row, type_spec_row, nested_class_row, generic_param_row, generic_param_constraint_row, class_layout_row}
+use Rattle.rules.specs.record_format.Members.{field_row, param_row, method_impl_row, method_spec_row, stand_alone_sig_row, event_map_row, event_row, property_map_row, property_row, method_semantics_row, member_ref_row}
+use Rattle.rules.specs.record_format.Others.{file_row, manifest_resource_row, field_rva_row, field_layout_row, field_marshal_row, constant_row, custom_attribute_row, decl_security_row, impl_map_row}
+use Rattle.rules.specs.record_format.Texts.{all_texts, descriptor_in}
+use Rattle.rules.specs.record_format.Record.{methods_of}
 
 unfoldable pub assembly_tables : List ℕ → AssemblyTables
 assembly_tables bs =

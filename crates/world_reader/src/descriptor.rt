@@ -2,11 +2,11 @@
 
 ghost use Rattle.std.specs.Prelude.{◌≡◌, IfOk, find};
 ghost use Rattle.std.specs.Option.{option_map, option_copied};
-ghost use Rattle.record_format.specs.Texts as texts;
+ghost use Rattle.rules.specs.record_format.Texts as texts;
 
+use il_base::world_model::ManifestResourceRow;
 use il_base::{NoMemory, Seq, Text, u32_at};
 use std::alloc::Global;
-use world_model::ManifestResourceRow;
 
 /// Whether a resource is the descriptor, and lies in the file.
 fn is_descriptor(row: &ManifestResourceRow) -> bool
@@ -16,7 +16,7 @@ fn is_descriptor(row: &ManifestResourceRow) -> bool
 }
 
 /// The bytes of the resource at an offset, behind their number in four bytes.
-#[tactic(auto, unfolding(record_format::specs::Texts::resource_at, il_base::specs::Bytes::bytes_at))]
+#[tactic(auto, unfolding(rules::specs::record_format::Texts::resource_at, il_base::specs::Bytes::bytes_at))]
 fn resource_at(resources: &[u8], at: u32) -> Option<&[u8]>
     ensures { option_map (λ b. b.now) result ≡ texts.resource_at resources.now at }
 {

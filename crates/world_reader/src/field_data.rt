@@ -3,20 +3,20 @@
 ghost use Rattle.std.specs.Prelude.{◌≡◌, IfOk};
 ghost use Rattle.std.specs.Option.{option_map, option_and_then};
 ghost use Rattle.il_base.specs.declared.table.TheConstants.{FIELD_RVA};
-ghost use Rattle.cli_format.specs.Image.{metadata_of, image_at};
-ghost use Rattle.record_format.specs.Cells.{all_rows};
-ghost use Rattle.record_format.specs.Parts as parts;
-ghost use Rattle.record_format.specs.Others as others;
-ghost use Rattle.cell_reader.specs.Cells.{HasRow};
+ghost use Rattle.il_base.specs.cli_format.Image.{metadata_of, image_at};
+ghost use Rattle.rules.specs.record_format.Cells.{all_rows};
+ghost use Rattle.rules.specs.record_format.Parts as parts;
+ghost use Rattle.rules.specs.record_format.Others as others;
+ghost use Rattle.world_reader.specs.cell_reader.Cells.{HasRow};
 
+use crate::cell_reader::Assembly;
 use crate::layouts::Layouts;
-use cell_reader::Assembly;
+use il_base::world_model::{BadKind, FieldRow, FieldRvaRow, Known, index_in};
 use il_base::{NoMemory, Seq, Sig, Text, element, outside, table};
 use std::alloc::Global;
-use world_model::{BadKind, FieldRow, FieldRvaRow, Known, index_in};
 
 /// The size in bytes of a primitive, by its element type (II.23.1.16).
-#[tactic(auto, unfolding(record_format::specs::Parts::primitive_size))]
+#[tactic(auto, unfolding(rules::specs::record_format::Parts::primitive_size))]
 fn primitive_size(kind: u8) -> Option<u32>
     ensures { result ≡ parts.primitive_size kind }
 {
@@ -92,7 +92,7 @@ fn bytes_at<'a>(file: &Assembly<'a>, rva: u32, size: Option<u32>) -> Option<&'a 
 }
 
 /// A copy of as many bytes from an address.
-#[tactic(auto, unfolding(record_format::specs::Parts::bytes_by))]
+#[tactic(auto, unfolding(rules::specs::record_format::Parts::bytes_by))]
 fn bytes_by(
     alloc: Global,
     file: &Assembly,
@@ -111,7 +111,7 @@ fn bytes_by(
 }
 
 /// FieldRVA (II.22.18), by the rows of ClassLayout and of Field.
-#[tactic(auto, unfolding(record_format::specs::Others::field_rva_row, cli_format::specs::Columns::columns_of, cli_format::specs::Columns::schema))]
+#[tactic(auto, unfolding(rules::specs::record_format::Others::field_rva_row, il_base::specs::cli_format::Columns::columns_of, il_base::specs::cli_format::Columns::schema))]
 fn field_rva_row(
     alloc: Global,
     file: &Assembly,
@@ -129,7 +129,7 @@ fn field_rva_row(
 }
 
 /// The rows of FieldRVA.
-#[tactic(auto, using(row_reader::proofs::Rows::rowing))]
+#[tactic(auto, using(crate::proofs::lemmas::row_reader::Rows::rowing))]
 pub fn field_rva_rows(
     alloc: Global,
     file: &Assembly,

@@ -1,11 +1,11 @@
 ghost use Rattle.std.specs.Prelude.{◌≡◌, IfOk};
-ghost use Rattle.record_format.specs.Parts.{layout_size};
+ghost use Rattle.rules.specs.record_format.Parts.{layout_size};
 
+use il_base::world_model::ClassLayoutRow;
 use il_base::{NoMemory, Seq};
 use std::alloc::Global;
 use std::collections::HashMap;
 use std::marker::Model;
-use world_model::ClassLayoutRow;
 
 /// The rows of ClassLayout (II.22.8), and the size of each type by its token. Contracts see the rows.
 #[derive(Drop)]
@@ -18,8 +18,8 @@ pub struct Layouts {
 impl Model for Layouts {
     ghost use Rattle.std.specs.Prelude.{◌≡◌, ℕ, List, nat_eq};
     ghost use Rattle.std.specs.HashMap.{get};
-    ghost use Rattle.world_model.specs.declared.types.ClassLayoutRow.{ClassLayoutRow};
-    ghost use Rattle.record_format.specs.Parts.{layout_size};
+    ghost use Rattle.il_base.specs.declared.world_model.types.ClassLayoutRow.{ClassLayoutRow};
+    ghost use Rattle.rules.specs.record_format.Parts.{layout_size};
 
     ghost Value = { List ClassLayoutRow };
 

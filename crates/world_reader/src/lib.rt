@@ -2,11 +2,14 @@
 //! the file doesn't meet. Which record that is, `record_format` defines.
 #![tactic(auto)]
 
+pub mod cell_reader;
 mod descriptor;
 mod field_data;
 mod layouts;
 mod record;
+pub mod row_reader;
 mod tables;
+pub mod user_strings;
 
-pub use cli_format::TablesError as RecordError;
+pub use il_base::cli_format::TablesError as RecordError;
 pub use record::{read_record, row_place};

@@ -1,18 +1,18 @@
 ghost use Rattle.std.specs.Prelude.{◌≡◌, ◌<◌, ◌^◌, [], length, IfOk};
-ghost use Rattle.cli_format.specs.Metadata.{Read};
-ghost use Rattle.record_format.specs.Record.{record_demands, record_at, HasRecord, place_of_row};
-ghost use Rattle.world_model.specs.declared.record.AsmRec.{AsmRec};
+ghost use Rattle.il_base.specs.cli_format.Metadata.{Read};
+ghost use Rattle.rules.specs.record_format.Record.{record_demands, record_at, HasRecord, place_of_row};
+ghost use Rattle.il_base.specs.declared.world_model.record.AsmRec.{AsmRec};
 ghost use Rattle.world_reader.specs.Tables.{all_tables};
 
+use crate::cell_reader::Assembly;
 use crate::tables::{AllTables, all_tables};
-use cell_reader::Assembly;
-use cli_format::TablesError;
 use il_base::NoMemory;
+use il_base::cli_format::TablesError;
+use il_base::world_model::AsmRec;
 use std::alloc::Global;
-use world_model::AsmRec;
 
 /// The record of these tables.
-#[tactic(auto, unfolding(record_format::specs::Record::record_at, crate::specs::Tables::assembly_tables, crate::specs::Tables::file_tables, crate::specs::Tables::type_tables, crate::specs::Tables::field_tables, crate::specs::Tables::method_tables, crate::specs::Tables::property_tables, crate::specs::Tables::extra_tables, crate::specs::Tables::all_tables))]
+#[tactic(auto, unfolding(rules::specs::record_format::Record::record_at, crate::specs::Tables::assembly_tables, crate::specs::Tables::file_tables, crate::specs::Tables::type_tables, crate::specs::Tables::field_tables, crate::specs::Tables::method_tables, crate::specs::Tables::property_tables, crate::specs::Tables::extra_tables, crate::specs::Tables::all_tables))]
 fn assembled(file: &Assembly, tables: AllTables) -> AsmRec
     requires { tables ≡ all_tables file.now }
     ensures { result ≡ record_at file.now }
@@ -75,7 +75,7 @@ fn assembled(file: &Assembly, tables: AllTables) -> AsmRec
 
 /// The record of a file (II.22 to II.25), or the refusal of the first demand that the file doesn't meet. A signature, a body
 /// or the bytes of a field without a reading stand as Bad in their places, and refuse nothing.
-#[tactic(auto, using(cli_format::proofs::Faults::refusals))]
+#[tactic(auto, using(il_base::proofs::lemmas::cli_format::Faults::refusals))]
 pub fn read_record(alloc: Global, bytes: &[u8]) -> Result<AsmRec, TablesError>
     requires { length bytes.now < 2 ^ 32 }
     // The record, or which refusal it is.
@@ -92,7 +92,7 @@ pub fn read_record(alloc: Global, bytes: &[u8]) -> Result<AsmRec, TablesError>
 
 /// The place in the file of the row that a token names (II.22). None exactly where the file has no record, or its record has
 /// no such row.
-#[tactic(auto, unfolding(record_format::specs::Record::place_of_row, cli_format::specs::Metadata::Refused))]
+#[tactic(auto, unfolding(rules::specs::record_format::Record::place_of_row, il_base::specs::cli_format::Metadata::Refused))]
 pub fn row_place(alloc: Global, bytes: &[u8], token: u32) -> Result<Option<u32>, NoMemory>
     requires { length bytes.now < 2 ^ 32 }
     ensures { IfOk result (λ at. at ≡ place_of_row bytes.now token) }

@@ -3,15 +3,13 @@
 ghost use Rattle.std.specs.Prelude.{◌≡◌, IfOk};
 ghost use Rattle.world_reader.specs.Tables as tables;
 
+use crate::cell_reader::Assembly;
 use crate::descriptor::descriptor_of;
 use crate::field_data::field_rva_rows;
 use crate::layouts::Layouts;
-use cell_reader::Assembly;
-use il_base::{NoMemory, Seq, Text};
-use row_reader::{all_rows, signature_rows};
-use std::alloc::Global;
-use user_strings::texts_of;
-use world_model::{
+use crate::row_reader::{all_rows, signature_rows};
+use crate::user_strings::texts_of;
+use il_base::world_model::{
     AssemblyOsRow, AssemblyProcessorRow, AssemblyRefOsRow, AssemblyRefProcessorRow, AssemblyRefRow,
     AssemblyRow, ClassLayoutRow, ConstantRow, CustomAttributeRow, DeclSecurityRow, EventMapRow,
     EventRow, ExportedTypeRow, FieldLayoutRow, FieldMarshalRow, FieldRow, FieldRvaRow, FileRow,
@@ -20,6 +18,8 @@ use world_model::{
     ModuleRow, NestedClassRow, ParamRow, PropertyMapRow, PropertyRow, StandAloneSigRow, TypeDefRow,
     TypeRefRow, TypeSpecRow, UserText,
 };
+use il_base::{NoMemory, Seq, Text};
+use std::alloc::Global;
 
 /// The tables of assemblies and modules.
 #[derive(Drop)]

@@ -1,16 +1,16 @@
 //! Records made by hand, row by row.
 
 ghost use Rattle.std.specs.Prelude.{IfOk};
-ghost use Rattle.link_rules.specs.Linked.{IsWorld};
+ghost use Rattle.rules.specs.link_rules.Linked.{IsWorld};
 
-use il_base::{Boxed, MethodSig, NoMemory, Seq, Sig, Text, TypeId};
-use resolver::link;
-use std::alloc::Global;
-use world_model::{
+use il_base::world_model::{
     AsmRec, AssemblyRefRow, AssemblyRow, FieldRow, GenericParamRow, InterfaceImplRow, Known,
     MemberRefRow, MemberSig, MethodDefRow, MethodImplRow, TypeDefRow, TypeExpr, TypeRefRow,
     TypeSpecRow, World,
 };
+use il_base::{Boxed, MethodSig, NoMemory, Seq, Sig, Text, TypeId};
+use resolver::link;
+use std::alloc::Global;
 
 /// public virtual newslot
 pub const VIRTUAL: u16 = 0x146;

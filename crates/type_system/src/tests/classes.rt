@@ -1,13 +1,13 @@
 //! Which method a virtual call runs, by the slots of classes.
 
-ghost use Rattle.link_rules.specs.Linked.{IsWorld};
+ghost use Rattle.rules.specs.link_rules.Linked.{IsWorld};
 
 use super::build::*;
 use crate::Types;
+use il_base::world_model::{AsmRec, World};
 use il_base::{MethodId, NoMemory};
 use std::alloc::Global;
 use std::test::Fail;
-use world_model::{AsmRec, World};
 
 /// What the type of an id answers a method of a class with.
 fn runs(alloc: Global, types: &Types<'_>, ty: u32, method: u32) -> Result<Option<u32>, NoMemory> {

@@ -2,10 +2,10 @@
 
 use super::build::*;
 use super::links::fault;
+use il_base::world_model::AsmRec;
 use il_base::{NoMemory, Seq};
 use std::alloc::Global;
 use std::test::Fail;
-use world_model::AsmRec;
 
 /// Why one assembly doesn't link, by what fills its record.
 fn fault_of<F: FnOnce(&mut AsmRec, Global) -> Result<(), NoMemory>>(

@@ -1,13 +1,13 @@
 //! Which method a virtual call runs, by the slots of generic interfaces.
 
-ghost use Rattle.link_rules.specs.Linked.{IsWorld};
+ghost use Rattle.rules.specs.link_rules.Linked.{IsWorld};
 
 use super::build::*;
 use crate::Types;
+use il_base::world_model::{AsmRec, Known, TypeExpr, TypeSpecRow, World};
 use il_base::{MethodId, NoMemory, Seq, Sig, TypeId};
 use std::alloc::Global;
 use std::test::Fail;
-use world_model::{AsmRec, Known, TypeExpr, TypeSpecRow, World};
 
 /// What a type answers the first method of the first interface, which is type 1, at this argument with.
 fn runs(alloc: Global, world: &World, ty: TypeExpr, arg: TypeExpr) -> Result<Option<u32>, NoMemory>

@@ -1,14 +1,14 @@
 //! Which method a virtual call runs, by the slots of interfaces.
 
 ghost use Rattle.std.specs.Prelude.{IfOk};
-ghost use Rattle.link_rules.specs.Linked.{IsWorld};
+ghost use Rattle.rules.specs.link_rules.Linked.{IsWorld};
 
 use super::build::*;
 use crate::Types;
+use il_base::world_model::{AsmRec, TypeExpr, World};
 use il_base::{MethodId, NoMemory, Seq};
 use std::alloc::Global;
 use std::test::Fail;
-use world_model::{AsmRec, TypeExpr, World};
 
 /// What a type answers a method of an interface instance with.
 fn answer(

@@ -2,12 +2,14 @@
 
 use super::build::*;
 use super::generics::fill_parameter_base;
+use il_base::world_model::{
+    AsmRec, BadKind, ExportedTypeRow, Known, NestedClassRow, TypeSpecRow, World,
+};
 use il_base::{AsmId, Boxed, NoMemory, Seq, Sig};
-use link_rules::LinkError;
 use resolver::link;
+use rules::link_rules::LinkError;
 use std::alloc::Global;
 use std::test::Fail;
-use world_model::{AsmRec, BadKind, ExportedTypeRow, Known, NestedClassRow, TypeSpecRow, World};
 
 /// An assembly of a name, without types of its own.
 fn named(alloc: Global, name: &[u8]) -> Result<AsmRec, NoMemory> {

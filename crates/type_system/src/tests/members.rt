@@ -1,13 +1,13 @@
 //! Members by name.
 
-ghost use Rattle.link_rules.specs.Linked.{IsWorld};
+ghost use Rattle.rules.specs.link_rules.Linked.{IsWorld};
 
 use super::build::*;
 use crate::Types;
+use il_base::world_model::{AsmRec, FieldRow, Known, World};
 use il_base::{FieldId, Item, MethodId, NoMemory, Seq, Sig, TypeId};
 use std::alloc::Global;
 use std::test::Fail;
-use world_model::{AsmRec, FieldRow, Known, World};
 
 /// `public static int`
 fn static_field(rec: &mut AsmRec, alloc: Global, name: &[u8]) -> Result<(), NoMemory> {

@@ -1,14 +1,14 @@
 //! Types by name, texts, arguments put in.
 
-ghost use Rattle.link_rules.specs.Linked.{IsWorld};
+ghost use Rattle.rules.specs.link_rules.Linked.{IsWorld};
 
 use super::build::*;
 use crate::Types;
 use attr_blobs::TypeName;
+use il_base::world_model::{AsmRec, TypeExpr, World};
 use il_base::{AsmId, NoMemory, Seq, TypeId};
 use std::alloc::Global;
 use std::test::Fail;
-use world_model::{AsmRec, TypeExpr, World};
 
 /// `class Plain {}` and `class Box<T> {}`. Types: 1 Plain, 2 Box.
 fn fill_boxes(rec: &mut AsmRec, alloc: Global) -> Result<(), NoMemory> {

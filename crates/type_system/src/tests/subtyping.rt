@@ -1,13 +1,13 @@
 //! Which types a type can stand for.
 
-ghost use Rattle.link_rules.specs.Linked.{IsWorld};
+ghost use Rattle.rules.specs.link_rules.Linked.{IsWorld};
 
 use super::build::*;
 use crate::Types;
+use il_base::world_model::{AsmRec, Known, TypeExpr, TypeSpecRow, World};
 use il_base::{NoMemory, Sig};
 use std::alloc::Global;
 use std::test::Fail;
-use world_model::{AsmRec, Known, TypeExpr, TypeSpecRow, World};
 
 /// `object`
 fn object() -> TypeExpr {

@@ -1,5 +1,5 @@
 use Rattle.std.proofs.Common.{sym, arith}
-use Rattle.blob_grammar.specs.Laws.{AreBytes}
+use Rattle.il_base.specs.blob_grammar.Laws.{AreBytes}
 use Rattle.attr_blobs.proofs.Whole.{follows}
 use Rattle.attr_blobs.proofs.read.read_attribute.Goals as goal
 

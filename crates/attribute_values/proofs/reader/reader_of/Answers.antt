@@ -1,8 +1,8 @@
 use Rattle.std.proofs.Common.{◌≡◌, ℕ, List, refl, sym, ap, ◌∙◌}
 use Rattle.std.specs.Prelude.{Some, slice_get}
 use Rattle.attr_blobs.specs.declared.value.EnumSize.{EnumSize}
-use Rattle.mark_rules.specs.Attributes.{enums_from}
-use Rattle.mark_tables.specs.Assemblies.{all_of}
+use Rattle.rules.specs.mark_rules.Attributes.{enums_from}
+use Rattle.mark_parts.specs.mark_tables.Assemblies.{all_of}
 use Rattle.attribute_values.proofs.reader.reader_of.Goals as goal
 
 pub returns : goal.returns

@@ -1,8 +1,8 @@
 use Rattle.std.proofs.Common.{◌≡◌, ℕ, ◌+◌, List, length, sym, ap, subst, ◌∙◌}
 use Rattle.std.proofs.lemmas.List.{length_push}
 use Rattle.attr_blobs.specs.declared.value.EnumSize.{EnumSize}
-use Rattle.mark_rules.specs.Attributes.{enums_from}
-use Rattle.mark_tables.specs.Assemblies.{all_of}
+use Rattle.rules.specs.mark_rules.Attributes.{enums_from}
+use Rattle.mark_parts.specs.mark_tables.Assemblies.{all_of}
 use Rattle.attribute_values.specs.Tables.{AreEnums}
 use Rattle.attribute_values.proofs.Pushing.{pushed, none_are}
 use Rattle.attribute_values.proofs.tables.enums_of_each.Goals as goal

@@ -1,5 +1,5 @@
 use Rattle.std.proofs.Common.{◌≡◌, length}
-use Rattle.mark_tables.specs.Assemblies.{all_of}
+use Rattle.mark_parts.specs.mark_tables.Assemblies.{all_of}
 use Rattle.attribute_values.specs.Tables.{AreEnums}
 use Rattle.attribute_values.proofs.tables.enums_of_each.Given as goal
 

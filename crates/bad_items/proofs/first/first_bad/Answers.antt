@@ -1,7 +1,7 @@
 use Rattle.std.proofs.Common.{Option, sym, subst}
-use Rattle.mark_rules.specs.Facts.Fact.{marked}
-use Rattle.mark_rules.specs.Marking.{Marks}
-use Rattle.mark_rules.specs.BadItems.{Flaw, IsFirstFlaw}
+use Rattle.rules.specs.mark_rules.Facts.Fact.{marked}
+use Rattle.rules.specs.mark_rules.Marking.{Marks}
+use Rattle.rules.specs.mark_rules.BadItems.{Flaw, IsFirstFlaw}
 use Rattle.mark_numbers.specs.Numbers.{is_there}
 use Rattle.bad_items.specs.Programs.{world_in, has}
 use Rattle.bad_items.proofs.first.first_bad.Goals as goal

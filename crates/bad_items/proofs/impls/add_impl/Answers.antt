@@ -1,6 +1,6 @@
 use Rattle.std.proofs.Common.{◌++◌, List, ap, ◌∙◌}
-use Rattle.mark_rules.specs.BadItems.{Flaw}
-use Rattle.mark_tables.specs.Assemblies.{rec_of}
+use Rattle.rules.specs.mark_rules.BadItems.{Flaw}
+use Rattle.mark_parts.specs.mark_tables.Assemblies.{rec_of}
 use Rattle.bad_items.specs.Programs.{recs_in, has}
 use Rattle.bad_items.proofs.Kept.{kept_are}
 use Rattle.bad_items.proofs.impls.add_impl.Goals as goal

@@ -1,9 +1,9 @@
 use Rattle.std.proofs.Common.{◌+◌, ◌++◌, drop, List, sym, ap, ◌∙◌}
-use Rattle.world_model.specs.declared.record.AsmRec.{AsmRec}
-use Rattle.type_rules.specs.Rows.{each_from}
-use Rattle.mark_rules.specs.BadItems.{Flaw}
-use Rattle.enum_names.proofs.Finding.{each_next, each_end, here_at}
-use Rattle.flaw_laws.specs.Listed.{impl_flaws_in}
+use Rattle.il_base.specs.declared.world_model.record.AsmRec.{AsmRec}
+use Rattle.rules.specs.type_rules.Rows.{each_from}
+use Rattle.rules.specs.mark_rules.BadItems.{Flaw}
+use Rattle.attribute_values.proofs.lemmas.enum_names.Finding.{each_next, each_end, here_at}
+use Rattle.base_laws.specs.flaw_laws.Listed.{impl_flaws_in}
 use Rattle.bad_items.specs.Programs.{recs_in, has}
 use Rattle.bad_items.proofs.Placing.{at_place}
 use Rattle.bad_items.proofs.impls.add_impls.Goals as goal

@@ -1,6 +1,6 @@
 use Rattle.std.proofs.Common.{◌≡◌, ◌++◌, drop}
-use Rattle.type_rules.specs.Rows.{each_from}
-use Rattle.flaw_laws.specs.Listed.{impl_flaws_in}
+use Rattle.rules.specs.type_rules.Rows.{each_from}
+use Rattle.base_laws.specs.flaw_laws.Listed.{impl_flaws_in}
 use Rattle.bad_items.specs.Programs.{recs_in, has}
 use Rattle.bad_items.proofs.impls.add_impls.Given as goal
 

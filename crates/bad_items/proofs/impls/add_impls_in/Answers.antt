@@ -1,10 +1,10 @@
 use Rattle.std.proofs.Common.{ℕ, ◌+◌, ◌++◌, drop, List, get_or, sym, ap, ◌∙◌}
-use Rattle.world_model.specs.declared.members.MethodImplRow.{MethodImplRow}
-use Rattle.type_rules.specs.Rows.{each_from}
-use Rattle.mark_rules.specs.BadItems.{Flaw}
-use Rattle.mark_tables.specs.Assemblies.{rec_of}
-use Rattle.enum_names.proofs.Finding.{each_end}
-use Rattle.flaw_laws.specs.Listed.{impl_flaws_by}
+use Rattle.il_base.specs.declared.world_model.members.MethodImplRow.{MethodImplRow}
+use Rattle.rules.specs.type_rules.Rows.{each_from}
+use Rattle.rules.specs.mark_rules.BadItems.{Flaw}
+use Rattle.mark_parts.specs.mark_tables.Assemblies.{rec_of}
+use Rattle.attribute_values.proofs.lemmas.enum_names.Finding.{each_end}
+use Rattle.base_laws.specs.flaw_laws.Listed.{impl_flaws_by}
 use Rattle.bad_items.specs.Programs.{recs_in, has}
 use Rattle.bad_items.proofs.Placing.{next_row}
 use Rattle.bad_items.proofs.impls.add_impls_in.Goals as goal

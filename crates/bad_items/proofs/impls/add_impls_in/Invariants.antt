@@ -1,7 +1,7 @@
 use Rattle.std.proofs.Common.{◌≡◌, ◌++◌, drop}
-use Rattle.type_rules.specs.Rows.{each_from}
-use Rattle.mark_tables.specs.Assemblies.{rec_of}
-use Rattle.flaw_laws.specs.Listed.{impl_flaws_by}
+use Rattle.rules.specs.type_rules.Rows.{each_from}
+use Rattle.mark_parts.specs.mark_tables.Assemblies.{rec_of}
+use Rattle.base_laws.specs.flaw_laws.Listed.{impl_flaws_by}
 use Rattle.bad_items.specs.Programs.{recs_in, has}
 use Rattle.bad_items.proofs.impls.add_impls_in.Given as goal
 

@@ -1,5 +1,5 @@
 use Rattle.std.proofs.Common.{sym, ◌∙◌}
-use Rattle.mark_tables.specs.Assemblies.{recs_of, place_of, rec_of}
+use Rattle.mark_parts.specs.mark_tables.Assemblies.{recs_of, place_of, rec_of}
 use Rattle.bad_items.proofs.Generic.{of_spec, of_others}
 use Rattle.bad_items.proofs.impls.generic_link.Goals as goal
 

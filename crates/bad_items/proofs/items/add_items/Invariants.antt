@@ -1,7 +1,7 @@
 use Rattle.std.proofs.Common.{◌≡◌, ◌++◌, drop}
 use Rattle.std.specs.List.{flat_map}
-use Rattle.world_model.specs.declared.world.Home.{Home}
-use Rattle.flaw_laws.specs.Listed.{item_flaws}
+use Rattle.il_base.specs.declared.world_model.world.Home.{Home}
+use Rattle.base_laws.specs.flaw_laws.Listed.{item_flaws}
 use Rattle.bad_items.specs.Programs.{recs_in, has}
 use Rattle.bad_items.proofs.items.add_items.Given as goal
 

@@ -1,7 +1,7 @@
 use Rattle.std.proofs.Common.{◌≡◌, None, drop, map}
 use Rattle.std.specs.Option.{option_map}
-use Rattle.mark_flaws.specs.Told.{flaw_told}
-use Rattle.flaw_laws.specs.Listed.{first_from}
+use Rattle.bad_items.specs.mark_flaws.Told.{flaw_told}
+use Rattle.base_laws.specs.flaw_laws.Listed.{first_from}
 use Rattle.bad_items.proofs.least.least_of.Given as goal
 
 abbrev pub invariant-loop-flaw : goal.invariant-loop-flaw

@@ -1,6 +1,6 @@
 use Rattle.std.proofs.Common.{[], refl}
-use Rattle.cil_values.specs.declared.core_call.CoreCall.TheVariants as core
-use Rattle.step_rules.specs.Core.{simple}
+use Rattle.il_base.specs.declared.cil_values.core_call.CoreCall.TheVariants as core
+use Rattle.rules.specs.step_rules.Core.{simple}
 use Rattle.cil_core.proofs.Turned.{turned, turned_ok}
 use Rattle.cil_core.proofs.members.simple.Goals as goal
 

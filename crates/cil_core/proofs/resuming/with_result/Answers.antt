@@ -1,6 +1,6 @@
 use Rattle.std.proofs.Common.{ap, ◌∙◌}
-use Rattle.cil_values.specs.declared.core_call.CoreCall.{CoreCall}
-use Rattle.step_rules.specs.Core.{with_result}
+use Rattle.il_base.specs.declared.cil_values.core_call.CoreCall.{CoreCall}
+use Rattle.rules.specs.step_rules.Core.{with_result}
 use Rattle.cil_core.proofs.resuming.with_result.Goals as goal
 
 pub returns-in-AreEqual : goal.returns-in-AreEqual

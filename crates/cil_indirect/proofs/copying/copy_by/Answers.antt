@@ -1,6 +1,6 @@
-use Rattle.cil_words.specs.Steps.{here_by}
-use Rattle.cil_pointers.proofs.Popping.{popped_two}
-use Rattle.cil_stores.specs.Accesses.{access_in}
+use Rattle.machine_words.specs.cil_words.Steps.{here_by}
+use Rattle.machine_numbers.proofs.lemmas.cil_pointers.Popping.{popped_two}
+use Rattle.machine_words.specs.cil_stores.Accesses.{access_in}
 use Rattle.cil_indirect.specs.Accessing.{copy_over}
 use Rattle.cil_indirect.proofs.copying.copy_by.Goals as goal
 

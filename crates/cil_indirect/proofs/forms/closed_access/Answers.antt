@@ -1,5 +1,5 @@
-use Rattle.cil_words.specs.Steps.{here_by}
-use Rattle.step_rules.specs.Indirect.{typed_access}
+use Rattle.machine_words.specs.cil_words.Steps.{here_by}
+use Rattle.rules.specs.step_rules.Indirect.{typed_access}
 use Rattle.cil_indirect.proofs.Closing.{closed_by}
 use Rattle.cil_indirect.proofs.forms.closed_access.Goals as goal
 

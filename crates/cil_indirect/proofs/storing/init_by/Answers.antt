@@ -1,11 +1,11 @@
 use Rattle.std.proofs.Common.{◌∷◌, sym, ap, ◌∙◌}
 use Rattle.std.specs.Prelude.{Option}
-use Rattle.cil_values.specs.declared.value.Value.{Value}
-use Rattle.step_rules.specs.Words.{had, popped}
-use Rattle.step_rules.specs.Stores.{Access, access_of}
-use Rattle.cil_words.specs.Steps.{here_by}
-use Rattle.cil_pointers.specs.Reaching.{with_stack}
-use Rattle.cil_pointers.proofs.Popping.{popped_one}
+use Rattle.il_base.specs.declared.cil_values.value.Value.{Value}
+use Rattle.rules.specs.step_rules.Words.{had, popped}
+use Rattle.rules.specs.step_rules.Stores.{Access, access_of}
+use Rattle.machine_words.specs.cil_words.Steps.{here_by}
+use Rattle.machine_numbers.specs.cil_pointers.Reaching.{with_stack}
+use Rattle.machine_numbers.proofs.lemmas.cil_pointers.Popping.{popped_one}
 use Rattle.cil_indirect.specs.Accessing.{store_over}
 use Rattle.cil_indirect.proofs.storing.init_by.Goals as goal
 

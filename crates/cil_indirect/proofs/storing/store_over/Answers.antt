@@ -1,13 +1,13 @@
 use Rattle.std.proofs.Common.{List, ◌∷◌, ap, ◌∙◌}
 use Rattle.std.specs.Prelude.{Option}
-use Rattle.cil_values.specs.declared.value.Value.{Value}
-use Rattle.cil_values.specs.declared.path.Path.{Path}
-use Rattle.step_rules.specs.Next.{Next}
-use Rattle.cil_words.specs.Steps.{here_by}
-use Rattle.cil_pointers.specs.Reaching.{with_stack}
-use Rattle.cil_stores.specs.Accesses.{access_in}
-use Rattle.step_rules.specs.Indirect.{puts}
-use Rattle.cil_pointers.proofs.Reaching.{at_place, raised, gone, refused}
+use Rattle.il_base.specs.declared.cil_values.value.Value.{Value}
+use Rattle.il_base.specs.declared.cil_values.path.Path.{Path}
+use Rattle.rules.specs.step_rules.Next.{Next}
+use Rattle.machine_words.specs.cil_words.Steps.{here_by}
+use Rattle.machine_numbers.specs.cil_pointers.Reaching.{with_stack}
+use Rattle.machine_words.specs.cil_stores.Accesses.{access_in}
+use Rattle.rules.specs.step_rules.Indirect.{puts}
+use Rattle.machine_numbers.proofs.lemmas.cil_pointers.Reaching.{at_place, raised, gone, refused}
 use Rattle.cil_indirect.proofs.storing.store_over.Goals as goal
 
 pub returns-in_ok-out-in-At : goal.returns-in_ok-out-in-At

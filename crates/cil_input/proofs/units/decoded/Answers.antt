@@ -1,6 +1,6 @@
 use Rattle.std.proofs.Common.{◌+◌, reverse, ap, ◌∙◌, arith}
 use Rattle.std.proofs.lemmas.List.{reverse-reverse, take_rest}
-use Rattle.step_rules.specs.Input.{decoded_after}
+use Rattle.rules.specs.step_rules.Input.{decoded_after}
 use Rattle.cil_input.proofs.Decoding.{units_next, units_end}
 use Rattle.cil_input.proofs.units.decoded.Goals as goal
 

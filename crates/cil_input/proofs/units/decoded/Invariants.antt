@@ -1,5 +1,5 @@
 use Rattle.std.proofs.Common.{◌≡◌, ◌++◌, drop}
-use Rattle.step_rules.specs.Input.{decoded_after}
+use Rattle.rules.specs.step_rules.Input.{decoded_after}
 use Rattle.cil_input.proofs.units.decoded.Given as goal
 
 abbrev pub invariant-loop-at : goal.invariant-loop-at

@@ -1,6 +1,6 @@
 use Rattle.std.proofs.Common.{◌≡◌, Some, refl, sym, ◌∙◌}
-use Rattle.step_rules.specs.Frames.{zero_locals}
-use Rattle.cil_closing.specs.Callees.{callee_by}
+use Rattle.rules.specs.step_rules.Frames.{zero_locals}
+use Rattle.machine_words.specs.cil_closing.Callees.{callee_by}
 use Rattle.cil_machine.proofs.beginning.with_code.Goals as goal
 
 pub returns : goal.returns

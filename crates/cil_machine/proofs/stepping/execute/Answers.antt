@@ -1,6 +1,6 @@
 use Rattle.il_base.specs.declared.body.Form.TheVariants as form
-use Rattle.step_rules.specs.Step.{effect}
-use Rattle.cil_words.specs.Steps.{here_by}
+use Rattle.rules.specs.step_rules.Step.{effect}
+use Rattle.machine_words.specs.cil_words.Steps.{here_by}
 use Rattle.cil_machine.proofs.ByForm.{by_form}
 use Rattle.cil_machine.proofs.stepping.execute.Goals as goal
 

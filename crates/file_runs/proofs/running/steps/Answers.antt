@@ -1,7 +1,7 @@
 use Rattle.std.proofs.Common.{◌≡◌, Ok, ◌+◌, ◌-◌, subst, arith}
-use Rattle.step_rules.specs.Step.{step}
-use Rattle.step_rules.specs.Run.{Outcome, run}
-use Rattle.cil_words.specs.declared.step_out.StepOut.{StepOut}
+use Rattle.rules.specs.step_rules.Step.{step}
+use Rattle.rules.specs.step_rules.Run.{Outcome, run}
+use Rattle.machine_words.specs.declared.cil_words.step_out.StepOut.{StepOut}
 use Rattle.file_runs.specs.Steps.{TurnsTo}
 use Rattle.file_runs.proofs.Turns.{Left, nothing_yet, grew_by_nothing, run_next, run_none, turn_goes_on, turn_ends, turn_fails, all_went}
 use Rattle.file_runs.proofs.running.steps.Goals as goal

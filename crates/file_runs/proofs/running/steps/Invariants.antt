@@ -1,5 +1,5 @@
 use Rattle.std.proofs.Common.{◌-◌}
-use Rattle.step_rules.specs.Run.{run}
+use Rattle.rules.specs.step_rules.Run.{run}
 use Rattle.file_runs.proofs.Turns.{Left}
 use Rattle.file_runs.proofs.running.steps.Given as goal
 

@@ -1,7 +1,7 @@
 use Rattle.std.proofs.Common.{ℕ, ap, subst, ◌∙◌}
 use Rattle.std.specs.Io.KnownBytes.{Appends}
-use Rattle.step_rules.specs.Run.{run_from}
-use Rattle.view_rules.specs.Answers.{queries_of}
+use Rattle.rules.specs.step_rules.Run.{run_from}
+use Rattle.rules.specs.view_rules.Answers.{queries_of}
 use Rattle.run_rules.specs.Runs.{entry_of}
 use Rattle.file_runs.proofs.Turns.{whole_is_prefix}
 use Rattle.file_runs.proofs.worlds.run_world.Goals as goal

@@ -1,5 +1,5 @@
 use Rattle.std.proofs.Common.{sym, subst}
-use Rattle.world_model.specs.declared.world.World.{World}
+use Rattle.il_base.specs.declared.world_model.world.World.{World}
 use Rattle.value_flow.specs.Flows.{IsItsGraph}
 use Rattle.flow_tests.proofs.tests.wrong_in.Goals as goal
 

@@ -1,7 +1,7 @@
 use Rattle.std.proofs.Common.{◌≡◌, ℕ, ◌+◌, ◌≤◌, List, length, drop, Ok, sym, subst, arith, ap, ◌∙◌}
 use Rattle.std.proofs.lemmas.List.{take_rest, length-drop}
 use Rattle.il_base.specs.declared.body.Instr.{Instr}
-use Rattle.body_grammar.specs.Instructions.{instr_at, code_after, code_at}
+use Rattle.il_base.specs.body_grammar.Instructions.{instr_at, code_after, code_at}
 use Rattle.il_code.specs.Gives.{Fails}
 use Rattle.il_code.proofs.CodeLoop.{goes_on, ends, is_done}
 use Rattle.il_code.proofs.instructions.code.Goals as goal

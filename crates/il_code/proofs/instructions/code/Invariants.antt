@@ -1,5 +1,5 @@
 use Rattle.std.proofs.Common.{◌≡◌, ℕ, ◌+◌, ◌-◌, ◌≤◌, length, drop}
-use Rattle.body_grammar.specs.Instructions as grammar
+use Rattle.il_base.specs.body_grammar.Instructions as grammar
 use Rattle.il_code.proofs.instructions.code.Given as goal
 
 -- the instructions so far and those in what is left are all of them

@@ -1,7 +1,7 @@
 use Rattle.std.proofs.Common.{◌≡◌, ℕ, suc, ◌+◌, ◌-◌, ◌*◌, ◌<◌, List, [], ◌∷◌, ◌++◌, drop, sym, ap, ◌∙◌, append_assoc, arith}
 use Rattle.std.proofs.lemmas.List.{drop-drop, take_rest}
 use Rattle.byteorder.specs.Endian.{little_number}
-use Rattle.body_grammar.specs.Instructions as grammar
+use Rattle.il_base.specs.body_grammar.Instructions as grammar
 use Rattle.il_code.proofs.instructions.targets.Goals as goal
 
 -- one more target

@@ -1,5 +1,5 @@
 use Rattle.std.proofs.Common.{◌≡◌, ◌-◌, ◌*◌, ◌++◌, drop}
-use Rattle.body_grammar.specs.Instructions as grammar
+use Rattle.il_base.specs.body_grammar.Instructions as grammar
 use Rattle.il_code.proofs.instructions.targets.Given as goal
 
 abbrev pub invariant-loop-i : goal.invariant-loop-i

@@ -1,11 +1,11 @@
 use Rattle.std.proofs.Common.{ℕ, ◌≤◌, List, length, take, Result, Ok, Err, IfOk, ap, subst, ◌∙◌, arith}
 use Rattle.il_base.specs.declared.body.Body.{Body}
-use Rattle.body_grammar.specs.declared.body.Fault.{Fault}
-use Rattle.body_grammar.specs.Bodies.{body_at}
-use Rattle.body_grammar.proofs.WrittenBodies.{spelled_again}
-use Rattle.body_grammar.specs.BodySpelling.{IsSpelledBy}
-use Rattle.body_grammar.proofs.ReadNumbers.{IsBytes}
-use Rattle.body_grammar.proofs.ReadBodies.{read_spelled}
+use Rattle.il_base.specs.declared.body_grammar.body.Fault.{Fault}
+use Rattle.il_base.specs.body_grammar.Bodies.{body_at}
+use Rattle.il_base.proofs.lemmas.body_grammar.WrittenBodies.{spelled_again}
+use Rattle.il_base.specs.body_grammar.BodySpelling.{IsSpelledBy}
+use Rattle.il_base.proofs.lemmas.body_grammar.ReadNumbers.{IsBytes}
+use Rattle.il_base.proofs.lemmas.body_grammar.ReadBodies.{read_spelled}
 use Rattle.il_code.specs.declared.error.BodyError.{BodyError}
 use Rattle.il_code.specs.declared.error.ReadBody.{ReadBody}
 use Rattle.il_code.specs.Gives.{Gives, whole}

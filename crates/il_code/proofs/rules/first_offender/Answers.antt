@@ -1,5 +1,5 @@
 use Rattle.std.proofs.Common.{sym, ◌∙◌, false, get_or, arith}
-use Rattle.body_grammar.specs.HandlerRules.{offender}
+use Rattle.il_base.specs.body_grammar.HandlerRules.{offender}
 use Rattle.il_code.proofs.RuleLoops.{offends_alone, offends_pair, keeps_both, offends_none}
 use Rattle.il_code.proofs.rules.first_offender.Goals as goal
 use Rattle.il_code.proofs.rules.first_offender.Goals.{then-i-misfit-via-then-i-misfit, then-i-misfit-via-else-i-misfit+then-not-is_clause}

@@ -1,5 +1,5 @@
 use Rattle.std.proofs.Common.{◌≡◌, ◌≤◌, drop, get_or, false}
-use Rattle.body_grammar.specs.HandlerRules as nesting
+use Rattle.il_base.specs.body_grammar.HandlerRules as nesting
 use Rattle.il_code.proofs.rules.first_offender.Given as goal
 
 abbrev pub invariant-loop-i : goal.invariant-loop-i

@@ -1,5 +1,5 @@
 use Rattle.std.proofs.Common.{sym, ◌∙◌}
-use Rattle.body_grammar.specs.HandlerRules.{is_start}
+use Rattle.il_base.specs.body_grammar.HandlerRules.{is_start}
 use Rattle.il_code.proofs.RuleLoops.{none_offends, by_flags}
 use Rattle.il_code.proofs.rules.offender.Goals as goal
 

@@ -1,5 +1,5 @@
 use Rattle.std.proofs.Common.{◌≡◌, ℕ, ◌<◌, ◌||◌, length, drop, get_or, false}
-use Rattle.body_grammar.specs.HandlerRules as nesting
+use Rattle.il_base.specs.body_grammar.HandlerRules as nesting
 use Rattle.il_code.proofs.rules.starts.Given as goal
 
 abbrev pub invariant-loop-instr : goal.invariant-loop-instr

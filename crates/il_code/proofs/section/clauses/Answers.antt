@@ -1,7 +1,7 @@
 use Rattle.std.proofs.Common.{ℕ, ◌+◌, ◌-◌, List, [], length, sym, ap, ap₂, ◌∙◌, arith}
 use Rattle.std.proofs.lemmas.List.{length-append}
 use Rattle.il_base.specs.declared.body.Handler.{Handler}
-use Rattle.body_grammar.specs.Bodies as grammar
+use Rattle.il_base.specs.body_grammar.Bodies as grammar
 use Rattle.il_code.proofs.ClauseLoop.{ends, goes_on, is_done, next_place}
 use Rattle.il_code.proofs.section.clauses.Goals as goal
 

@@ -1,5 +1,5 @@
 use Rattle.std.proofs.Common.{◌≡◌, ◌+◌, ◌-◌, ◌*◌, ◌≤◌, [], length}
-use Rattle.body_grammar.specs.Bodies as grammar
+use Rattle.il_base.specs.body_grammar.Bodies as grammar
 use Rattle.il_code.proofs.section.clauses.Given as goal
 
 -- the clauses so far and those from a place on are all of them

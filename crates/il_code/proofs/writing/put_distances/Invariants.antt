@@ -1,5 +1,5 @@
 use Rattle.std.proofs.Common.{◌≡◌, ◌++◌, drop}
-use Rattle.body_grammar.specs.BodySpelling as grammar
+use Rattle.il_base.specs.body_grammar.BodySpelling as grammar
 use Rattle.il_code.proofs.writing.put_distances.Given as goal
 
 abbrev pub invariant-loop-target : goal.invariant-loop-target

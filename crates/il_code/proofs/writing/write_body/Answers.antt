@@ -1,6 +1,6 @@
 use Rattle.std.proofs.Common.{subst, sym, All, List}
 use Rattle.il_base.specs.declared.body.Instr.{Instr}
-use Rattle.body_grammar.specs.BodySpelling.{targets_fit}
+use Rattle.il_base.specs.body_grammar.BodySpelling.{targets_fit}
 use Rattle.il_code.proofs.Written.{targets_fit_all}
 use Rattle.il_code.proofs.writing.write_body.Goals as goal
 

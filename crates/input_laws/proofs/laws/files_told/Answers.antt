@@ -1,6 +1,6 @@
 use Rattle.std.proofs.Common.{subst}
 use Rattle.inputs.specs.Files.{records}
-use Rattle.flaw_laws.specs.There.{RowsThere}
+use Rattle.base_laws.specs.flaw_laws.There.{RowsThere}
 use Rattle.input_laws.proofs.Taken.{are_records, linked, world_recs}
 use Rattle.input_laws.proofs.laws.files_told.Goals as goal
 

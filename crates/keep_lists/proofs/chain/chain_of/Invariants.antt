@@ -1,7 +1,7 @@
 use Rattle.std.proofs.Common.{◌≡◌, ◌++◌, ◌-◌, length}
-use Rattle.type_rules.specs.Texts.{row_name}
+use Rattle.rules.specs.type_rules.Texts.{row_name}
 use Rattle.type_names.specs.Chains.{inner_names}
-use Rattle.mark_tables.specs.Assemblies.{rec_of}
+use Rattle.mark_parts.specs.mark_tables.Assemblies.{rec_of}
 use Rattle.keep_lists.proofs.chain.chain_of.Given as goal
 
 abbrev pub invariant-loop-step : goal.invariant-loop-step

@@ -1,5 +1,5 @@
 use Rattle.std.proofs.Common.{ℕ, ◌++◌, List, refl, sym, ap, ◌∙◌}
-use Rattle.mark_tables.specs.Assemblies.{all_of, recs_of, place_of, rec_of}
+use Rattle.mark_parts.specs.mark_tables.Assemblies.{all_of, recs_of, place_of, rec_of}
 use Rattle.merge_plan.specs.Kept.{kept_by}
 use Rattle.keep_lists.proofs.Inputs.{lines_here, no_lines}
 use Rattle.keep_lists.proofs.lists.put_input.Goals as goal

@@ -1,11 +1,11 @@
 use Rattle.std.proofs.Common.{ℕ, ◌+◌, ◌<◌, ◌≤◌, ◌++◌, drop, length, List, sym, ap, ◌∙◌, arith}
 use Rattle.std.specs.Prelude.{slice_get}
 use Rattle.std.specs.List.{flat_map}
-use Rattle.link_rules.specs.Cycles.{listed}
-use Rattle.type_rules.specs.Rows.{each_from}
-use Rattle.mark_calls.proofs.Finding.{each_end}
-use Rattle.mark_rules.specs.KeepList.{input_lines}
-use Rattle.mark_tables.specs.Assemblies.{all_of}
+use Rattle.rules.specs.link_rules.Cycles.{listed}
+use Rattle.rules.specs.type_rules.Rows.{each_from}
+use Rattle.mark_items.proofs.lemmas.mark_calls.Finding.{each_end}
+use Rattle.rules.specs.mark_rules.KeepList.{input_lines}
+use Rattle.mark_parts.specs.mark_tables.Assemblies.{all_of}
 use Rattle.merge_plan.specs.Kept.{kept_by}
 use Rattle.keep_lists.proofs.Inputs.{place_next}
 use Rattle.keep_lists.proofs.lists.put_inputs.Goals as goal

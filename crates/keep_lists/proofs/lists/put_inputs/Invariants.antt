@@ -1,7 +1,7 @@
 use Rattle.std.proofs.Common.{◌≡◌, ◌++◌, drop}
-use Rattle.type_rules.specs.Rows.{each_from}
-use Rattle.mark_rules.specs.KeepList.{input_lines}
-use Rattle.mark_tables.specs.Assemblies.{all_of}
+use Rattle.rules.specs.type_rules.Rows.{each_from}
+use Rattle.rules.specs.mark_rules.KeepList.{input_lines}
+use Rattle.mark_parts.specs.mark_tables.Assemblies.{all_of}
 use Rattle.merge_plan.specs.Kept.{kept_by}
 use Rattle.keep_lists.proofs.lists.put_inputs.Given as goal
 

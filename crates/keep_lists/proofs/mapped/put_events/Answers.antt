@@ -1,6 +1,6 @@
 use Rattle.std.proofs.Common.{ℕ, ◌+◌, ◌++◌, drop, List, sym, ap, ◌∙◌}
-use Rattle.type_rules.specs.Rows.{each_from}
-use Rattle.mark_calls.proofs.Finding.{each_next, each_end}
+use Rattle.rules.specs.type_rules.Rows.{each_from}
+use Rattle.mark_items.proofs.lemmas.mark_calls.Finding.{each_next, each_end}
 use Rattle.keep_lists.specs.Lists.{recs_in, place_in, rec_in, kept_in, event_line}
 use Rattle.keep_lists.proofs.mapped.put_events.Goals as goal
 

@@ -1,8 +1,8 @@
 use Rattle.std.proofs.Common.{List, sym, ap, ◌∙◌}
-use Rattle.world_model.specs.declared.record.AsmRec.{AsmRec}
-use Rattle.link_rules.specs.Types.{at_row}
-use Rattle.type_rules.specs.Slots.{type_of_method}
-use Rattle.mark_rules.specs.KeepList.{row_in}
+use Rattle.il_base.specs.declared.world_model.record.AsmRec.{AsmRec}
+use Rattle.rules.specs.link_rules.Types.{at_row}
+use Rattle.rules.specs.type_rules.Slots.{type_of_method}
+use Rattle.rules.specs.mark_rules.KeepList.{row_in}
 use Rattle.keep_lists.specs.Lists.{place_in}
 use Rattle.keep_lists.proofs.members.method_owner.Goals as goal
 

@@ -1,5 +1,5 @@
 use Rattle.std.proofs.Common.{◌≡◌, ◌++◌, drop}
-use Rattle.type_rules.specs.Rows.{each_from}
+use Rattle.rules.specs.type_rules.Rows.{each_from}
 use Rattle.keep_lists.specs.Lists.{recs_in, place_in, rec_in, kept_in, method_line}
 use Rattle.keep_lists.proofs.members.put_methods.Given as goal
 

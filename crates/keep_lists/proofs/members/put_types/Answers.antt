@@ -1,7 +1,7 @@
 use Rattle.std.proofs.Common.{ℕ, ◌+◌, ◌++◌, drop, List, sym, ap, ◌∙◌}
-use Rattle.world_model.specs.declared.types.TypeDefRow.{TypeDefRow}
-use Rattle.type_rules.specs.Rows.{each_from}
-use Rattle.mark_calls.proofs.Finding.{each_next, each_end}
+use Rattle.il_base.specs.declared.world_model.types.TypeDefRow.{TypeDefRow}
+use Rattle.rules.specs.type_rules.Rows.{each_from}
+use Rattle.mark_items.proofs.lemmas.mark_calls.Finding.{each_next, each_end}
 use Rattle.keep_lists.specs.Lists.{recs_in, place_in, rec_in, kept_in, type_line}
 use Rattle.keep_lists.proofs.members.put_types.Goals as goal
 

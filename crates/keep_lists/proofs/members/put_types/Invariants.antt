@@ -1,6 +1,6 @@
 use Rattle.std.proofs.Common.{◌≡◌, ℕ, ◌++◌, drop}
-use Rattle.world_model.specs.declared.types.TypeDefRow.{TypeDefRow}
-use Rattle.type_rules.specs.Rows.{each_from}
+use Rattle.il_base.specs.declared.world_model.types.TypeDefRow.{TypeDefRow}
+use Rattle.rules.specs.type_rules.Rows.{each_from}
 use Rattle.keep_lists.specs.Lists.{recs_in, place_in, rec_in, kept_in, type_line}
 use Rattle.keep_lists.proofs.members.put_types.Given as goal
 

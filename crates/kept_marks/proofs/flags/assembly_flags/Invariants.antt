@@ -1,7 +1,7 @@
 use Rattle.std.proofs.Common.{◌≡◌, ℕ, ◌-◌, ◌++◌, map}
 use Rattle.std.specs.List.{range_with_len}
 use Rattle.il_base.specs.declared.ids.Item.TheVariants as item
-use Rattle.mark_rules.specs.Facts.Fact.{marked}
+use Rattle.rules.specs.mark_rules.Facts.Fact.{marked}
 use Rattle.marking.specs.Holding.{holds}
 use Rattle.kept_marks.proofs.flags.assembly_flags.Given as goal
 

@@ -1,8 +1,8 @@
 use Rattle.std.proofs.Common.{ℕ, Bool, List, [], ◌∷◌, ◌++◌, ◌+◌, ◌-◌, map, sym, ap, ◌∙◌}
 use Rattle.std.specs.List.{range_with_len}
 use Rattle.il_base.specs.declared.ids.Item.{Item}
-use Rattle.mark_rules.specs.Facts.Fact.{marked}
-use Rattle.mark_facts.specs.Kinds.{item_numbered}
+use Rattle.rules.specs.mark_rules.Facts.Fact.{marked}
+use Rattle.mark_parts.specs.mark_facts.Kinds.{item_numbered}
 use Rattle.marking.specs.Holding.{holds}
 use Rattle.kept_marks.proofs.Flagged.{range_next, range_end}
 use Rattle.kept_marks.proofs.flags.item_flags.Goals as goal

@@ -1,7 +1,7 @@
 use Rattle.std.proofs.Common.{◌≡◌, ℕ, ◌-◌, ◌++◌, map}
 use Rattle.std.specs.List.{range_with_len}
-use Rattle.mark_rules.specs.Facts.Fact.{marked}
-use Rattle.mark_facts.specs.Kinds.{item_numbered}
+use Rattle.rules.specs.mark_rules.Facts.Fact.{marked}
+use Rattle.mark_parts.specs.mark_facts.Kinds.{item_numbered}
 use Rattle.marking.specs.Holding.{holds}
 use Rattle.kept_marks.proofs.flags.item_flags.Given as goal
 

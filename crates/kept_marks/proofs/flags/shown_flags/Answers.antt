@@ -1,6 +1,6 @@
 use Rattle.std.proofs.Common.{ℕ, Bool, List, [], ◌∷◌, ◌++◌, ◌+◌, ◌-◌, map, sym, ap, ◌∙◌}
 use Rattle.std.specs.List.{range_with_len}
-use Rattle.mark_rules.specs.Facts.Fact.{shown}
+use Rattle.rules.specs.mark_rules.Facts.Fact.{shown}
 use Rattle.marking.specs.Holding.{holds}
 use Rattle.kept_marks.proofs.Flagged.{range_next, range_end}
 use Rattle.kept_marks.proofs.flags.shown_flags.Goals as goal

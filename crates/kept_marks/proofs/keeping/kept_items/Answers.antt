@@ -1,5 +1,5 @@
 use Rattle.std.proofs.Common.{List, subst}
-use Rattle.world_model.specs.declared.record.AsmRec.{AsmRec}
+use Rattle.il_base.specs.declared.world_model.record.AsmRec.{AsmRec}
 use Rattle.merge_plan.specs.declared.kept.KeptItems.{KeptItems}
 use Rattle.kept_marks.specs.Keeping.{KeepsMarked}
 use Rattle.kept_marks.proofs.Told.{kept_told}

@@ -1,5 +1,5 @@
 use Rattle.std.proofs.Common.{◌≡◌, drop}
-use Rattle.link_rules.specs.Faults.{first_of, repeated_in, duplicate_member}
+use Rattle.rules.specs.link_rules.Faults.{first_of, repeated_in, duplicate_member}
 use Rattle.link_faults.proofs.duplicates.first_duplicate.Given as goal
 
 abbrev pub invariant-loop-file : goal.invariant-loop-file

@@ -1,6 +1,6 @@
 use Rattle.std.proofs.Common.{ℕ, List, Option, ap, ◌∙◌}
 use Rattle.std.specs.Prelude.{bytes_eq}
-use Rattle.link_rules.specs.Faults.{first_repeat, repeated_row}
+use Rattle.rules.specs.link_rules.Faults.{first_repeat, repeated_row}
 use Rattle.link_faults.proofs.Keyed.{field_repeated}
 use Rattle.link_faults.proofs.duplicates.repeated_field.Goals as goal
 

@@ -1,5 +1,5 @@
 use Rattle.std.proofs.Common.{◌≡◌, nat_eq, drop}
-use Rattle.link_rules.specs.Cycles.{add_all}
+use Rattle.rules.specs.link_rules.Cycles.{add_all}
 use Rattle.link_faults.specs.Graphs.{AreMarked}
 use Rattle.link_faults.proofs.graph.add_all.Given as goal
 

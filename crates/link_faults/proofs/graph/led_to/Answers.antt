@@ -1,6 +1,6 @@
 use Rattle.std.proofs.Common.{◌≡◌, ℕ, ◌-◌, nat_eq, sym, subst, ◌∙◌}
 use Rattle.std.specs.List.{flat_map}
-use Rattle.link_rules.specs.Cycles.{add_all, led_to}
+use Rattle.rules.specs.link_rules.Cycles.{add_all, led_to}
 use Rattle.link_faults.specs.Graphs.{next_in}
 use Rattle.link_faults.proofs.Leading.{Looked, round_is, looked_more, step_more, step_last, step_end}
 use Rattle.link_faults.proofs.Marks.{itself}

@@ -1,5 +1,5 @@
 use Rattle.std.proofs.Common.{◌≡◌, ◌-◌, nat_eq}
-use Rattle.link_rules.specs.Cycles.{led_to}
+use Rattle.rules.specs.link_rules.Cycles.{led_to}
 use Rattle.link_faults.specs.Graphs.{next_in, AreMarked}
 use Rattle.link_faults.proofs.Leading.{Looked}
 use Rattle.link_faults.proofs.Marks.{itself}

@@ -1,5 +1,5 @@
 use Rattle.std.proofs.Common.{◌≡◌, ◌++◌, drop}
-use Rattle.link_rules.specs.Faults.{numbered}
+use Rattle.rules.specs.link_rules.Faults.{numbered}
 use Rattle.link_faults.specs.Values.{held_by}
 use Rattle.link_faults.proofs.held.add_assembly.Given as goal
 

@@ -1,7 +1,7 @@
 use Rattle.std.proofs.Common.{◌≡◌, ◌++◌, drop}
-use Rattle.world_model.specs.declared.record.AsmRec.{AsmRec}
-use Rattle.link_rules.specs.Faults.{numbered}
-use Rattle.link_rules.specs.Linked.{links_from}
+use Rattle.il_base.specs.declared.world_model.record.AsmRec.{AsmRec}
+use Rattle.rules.specs.link_rules.Faults.{numbered}
+use Rattle.rules.specs.link_rules.Linked.{links_from}
 use Rattle.link_faults.specs.Values.{held_by, all_held}
 use Rattle.link_faults.proofs.held.all_held.Given as goal
 

@@ -1,5 +1,5 @@
 use Rattle.std.proofs.Common.{◌≡◌, take}
-use Rattle.link_rules.specs.Faults.{numbered}
+use Rattle.rules.specs.link_rules.Faults.{numbered}
 use Rattle.link_faults.specs.Supertypes.{interfaces_of}
 use Rattle.link_faults.proofs.interface_rows.interfaces_of.Given as goal
 

@@ -1,5 +1,5 @@
 use Rattle.std.proofs.Common.{◌≡◌, ◌++◌, drop}
-use Rattle.link_rules.specs.Faults.{numbered}
+use Rattle.rules.specs.link_rules.Faults.{numbered}
 use Rattle.link_faults.specs.Supertypes.{nothing_of}
 use Rattle.link_faults.proofs.interface_rows.nothing_of.Given as goal
 

@@ -1,4 +1,4 @@
-use Rattle.world_model.specs.Worlds.{names_by}
+use Rattle.il_base.specs.world_model.Worlds.{names_by}
 use Rattle.link_faults.proofs.Parts.{parts_found}
 use Rattle.link_faults.proofs.member_keys.code_of_signature.Goals as goal
 

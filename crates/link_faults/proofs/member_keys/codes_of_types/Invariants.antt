@@ -1,7 +1,7 @@
 use Rattle.std.proofs.Common.{◌≡◌, ◌++◌, drop, map}
 use Rattle.std.specs.Option.{option_map}
 use Rattle.std.specs.List.{flat_map}
-use Rattle.world_model.specs.Worlds.{all_known, sig_expr, names_by}
+use Rattle.il_base.specs.world_model.Worlds.{all_known, sig_expr, names_by}
 use Rattle.link_faults.specs.Codes.{type_code}
 use Rattle.link_faults.specs.Keys.{good, codes_of_types}
 use Rattle.link_faults.proofs.member_keys.codes_of_types.Given as goal

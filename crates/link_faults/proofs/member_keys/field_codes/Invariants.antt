@@ -1,5 +1,5 @@
 use Rattle.std.proofs.Common.{◌≡◌, ◌++◌, drop}
-use Rattle.link_rules.specs.Faults.{numbered}
+use Rattle.rules.specs.link_rules.Faults.{numbered}
 use Rattle.link_faults.specs.declared.owners.Member.TheVariants as member
 use Rattle.link_faults.specs.Keys.{owner_in, code_of_field}
 use Rattle.link_faults.proofs.member_keys.field_codes.Given as goal

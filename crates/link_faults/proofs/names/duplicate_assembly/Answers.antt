@@ -2,10 +2,10 @@ use Rattle.std.proofs.Common.{◌≡◌, Some, Option, sym, ap, ◌∙◌, arith
 use Rattle.std.specs.HashSet.{contains_by}
 use Rattle.std.specs.List.{list_any}
 use Rattle.std.proofs.lemmas.Result.{IfOk-weaker}
-use Rattle.world_model.specs.Core.{same_name}
-use Rattle.link_rules.specs.declared.link_error.LinkError.{LinkError}
-use Rattle.link_rules.specs.declared.link_error.LinkError.TheVariants as fault
-use Rattle.link_rules.specs.Faults.{duplicate_assembly}
+use Rattle.il_base.specs.world_model.Core.{same_name}
+use Rattle.rules.specs.declared.link_rules.link_error.LinkError.{LinkError}
+use Rattle.rules.specs.declared.link_rules.link_error.LinkError.TheVariants as fault
+use Rattle.rules.specs.link_rules.Faults.{duplicate_assembly}
 use Rattle.link_faults.proofs.Taken.{taken_first, taken_here, taken_later}
 use Rattle.link_faults.proofs.names.duplicate_assembly.Goals as goal
 

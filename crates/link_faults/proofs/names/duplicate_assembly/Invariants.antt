@@ -1,7 +1,7 @@
 use Rattle.std.proofs.Common.{◌≡◌, drop}
 use Rattle.std.specs.HashSet.{contains_by}
-use Rattle.world_model.specs.Core.{same_name}
-use Rattle.link_rules.specs.Faults.{duplicate_assembly}
+use Rattle.il_base.specs.world_model.Core.{same_name}
+use Rattle.rules.specs.link_rules.Faults.{duplicate_assembly}
 use Rattle.link_faults.specs.Names.{taken_by}
 use Rattle.link_faults.proofs.names.duplicate_assembly.Given as goal
 

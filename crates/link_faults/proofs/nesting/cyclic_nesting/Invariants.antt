@@ -1,6 +1,6 @@
 use Rattle.std.proofs.Common.{◌≡◌, drop}
-use Rattle.world_model.specs.declared.record.AsmRec.{AsmRec}
-use Rattle.link_rules.specs.Faults.{first_of, cyclic_nesting_row, cyclic_nesting}
+use Rattle.il_base.specs.declared.world_model.record.AsmRec.{AsmRec}
+use Rattle.rules.specs.link_rules.Faults.{first_of, cyclic_nesting_row, cyclic_nesting}
 use Rattle.link_faults.proofs.nesting.cyclic_nesting.Given as goal
 
 abbrev pub invariant-loop-file : goal.invariant-loop-file

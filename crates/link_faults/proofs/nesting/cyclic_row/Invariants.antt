@@ -1,5 +1,5 @@
 use Rattle.std.proofs.Common.{◌≡◌, drop}
-use Rattle.link_rules.specs.Faults.{first_of, cyclic_nesting_row}
+use Rattle.rules.specs.link_rules.Faults.{first_of, cyclic_nesting_row}
 use Rattle.link_faults.proofs.nesting.cyclic_row.Given as goal
 
 abbrev pub invariant-loop-at : goal.invariant-loop-at

@@ -1,6 +1,6 @@
 use Rattle.std.proofs.Common.{ℕ, ap, ◌∙◌, arith}
-use Rattle.link_rules.specs.Types.{encloser}
-use Rattle.link_rules.specs.Cycles.{listed}
+use Rattle.rules.specs.link_rules.Types.{encloser}
+use Rattle.rules.specs.link_rules.Cycles.{listed}
 use Rattle.link_faults.proofs.nesting.encloser.Goals as goal
 
 pub returns-then-node-lt-LAST_ROW : goal.returns-then-node-lt-LAST_ROW

@@ -1,6 +1,6 @@
 use Rattle.std.proofs.Common.{ℕ, nat_eq, sym, ap, ◌∙◌}
 use Rattle.std.proofs.lemmas.Result.{IfOk-weaker}
-use Rattle.link_rules.specs.Cycles.{is_on_cycle}
+use Rattle.rules.specs.link_rules.Cycles.{is_on_cycle}
 use Rattle.link_faults.specs.Graphs.{next_in}
 use Rattle.link_faults.proofs.Around.{cyclic_same}
 use Rattle.link_faults.proofs.nesting.is_cyclic_around.Goals as goal

@@ -1,7 +1,7 @@
 use Rattle.std.proofs.Common.{◌≡◌, drop}
 use Rattle.std.specs.Prelude.{bytes_eq}
 use Rattle.std.specs.HashSet.{contains_by}
-use Rattle.link_rules.specs.Faults.{first_repeat}
+use Rattle.rules.specs.link_rules.Faults.{first_repeat}
 use Rattle.link_faults.specs.Repeats.{repeat_by}
 use Rattle.link_faults.proofs.repeats.first_repeat.Given as goal
 

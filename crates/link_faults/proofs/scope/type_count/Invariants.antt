@@ -1,5 +1,5 @@
 use Rattle.std.proofs.Common.{◌≡◌, take, sum_by}
-use Rattle.world_model.specs.Worlds.{types_in}
+use Rattle.il_base.specs.world_model.Worlds.{types_in}
 use Rattle.link_faults.proofs.scope.type_count.Given as goal
 
 abbrev pub invariant-loop-rec : goal.invariant-loop-rec

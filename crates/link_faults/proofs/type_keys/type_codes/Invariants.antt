@@ -1,7 +1,7 @@
 use Rattle.std.proofs.Common.{◌≡◌, ◌++◌, Some, drop}
-use Rattle.link_rules.specs.Types.{encloser}
-use Rattle.link_rules.specs.Cycles.{listed}
-use Rattle.link_rules.specs.Faults.{numbered}
+use Rattle.rules.specs.link_rules.Types.{encloser}
+use Rattle.rules.specs.link_rules.Cycles.{listed}
+use Rattle.rules.specs.link_rules.Faults.{numbered}
 use Rattle.link_faults.specs.Keys.{code_of_type}
 use Rattle.link_faults.proofs.type_keys.type_codes.Given as goal
 

@@ -1,5 +1,5 @@
 use Rattle.std.proofs.Common.{◌≡◌, ◌++◌, drop}
-use Rattle.link_rules.specs.Faults.{numbered}
+use Rattle.rules.specs.link_rules.Faults.{numbered}
 use Rattle.link_faults.specs.Values.{is_value}
 use Rattle.link_faults.proofs.value_types.add_values.Given as goal
 

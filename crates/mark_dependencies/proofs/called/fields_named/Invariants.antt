@@ -1,6 +1,6 @@
 use Rattle.std.proofs.Common.{◌≡◌, ◌++◌, drop}
 use Rattle.std.specs.List.{filter}
-use Rattle.mark_rules.specs.Attributes.{is_field_named}
+use Rattle.rules.specs.mark_rules.Attributes.{is_field_named}
 use Rattle.mark_dependencies.proofs.called.fields_named.Given as goal
 
 abbrev pub invariant-loop-at : goal.invariant-loop-at

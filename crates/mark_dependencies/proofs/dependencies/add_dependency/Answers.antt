@@ -1,5 +1,5 @@
 use Rattle.std.proofs.Common.{sym, ap, ◌∙◌}
-use Rattle.link_rules.specs.Cycles.{listed}
+use Rattle.rules.specs.link_rules.Cycles.{listed}
 use Rattle.mark_dependencies.specs.Lookups.{recs_in}
 use Rattle.mark_dependencies.proofs.Needing.{one_sought, none_sought}
 use Rattle.mark_dependencies.proofs.dependencies.add_dependency.Goals as goal

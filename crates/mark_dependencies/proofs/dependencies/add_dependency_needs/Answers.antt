@@ -1,6 +1,6 @@
 use Rattle.std.proofs.Common.{List, sym, ap, ◌∙◌}
-use Rattle.world_model.specs.declared.record.AsmRec.{AsmRec}
-use Rattle.mark_rules.specs.Places.{row_of}
+use Rattle.il_base.specs.declared.world_model.record.AsmRec.{AsmRec}
+use Rattle.rules.specs.mark_rules.Places.{row_of}
 use Rattle.mark_dependencies.specs.Lookups.{recs_in}
 use Rattle.mark_dependencies.proofs.Needing.{one_needed, none_needed}
 use Rattle.mark_dependencies.proofs.dependencies.add_dependency_needs.Goals as goal

@@ -1,5 +1,5 @@
 use Rattle.std.proofs.Common.{◌≡◌, ◌++◌, map, drop}
-use Rattle.mark_rules.specs.Facts.Fact.{marked}
+use Rattle.rules.specs.mark_rules.Facts.Fact.{marked}
 use Rattle.mark_dependencies.proofs.kinds.mark_items.Given as goal
 
 abbrev pub invariant-loop-item : goal.invariant-loop-item

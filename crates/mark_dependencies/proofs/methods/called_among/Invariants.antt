@@ -1,6 +1,6 @@
 use Rattle.std.proofs.Common.{◌≡◌, ◌++◌, drop}
 use Rattle.std.specs.List.{filter}
-use Rattle.mark_rules.specs.Dependencies.{is_method_called}
+use Rattle.rules.specs.mark_rules.Dependencies.{is_method_called}
 use Rattle.mark_dependencies.specs.Lookups.{recs_in}
 use Rattle.mark_dependencies.proofs.methods.called_among.Given as goal
 

@@ -1,5 +1,5 @@
 use Rattle.std.proofs.Common.{sym, ap, ◌∙◌}
-use Rattle.link_rules.specs.Cycles.{listed}
+use Rattle.rules.specs.link_rules.Cycles.{listed}
 use Rattle.mark_dependencies.specs.Lookups.{recs_in}
 use Rattle.mark_dependencies.proofs.Wanted.{named_by_one, named_by_none}
 use Rattle.mark_dependencies.proofs.methods.has_doc_name.Goals as goal

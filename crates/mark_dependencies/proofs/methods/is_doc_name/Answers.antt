@@ -1,6 +1,6 @@
 use Rattle.std.proofs.Common.{sym, ap, ◌∙◌}
-use Rattle.world_model.specs.Core.{same_name}
-use Rattle.mark_rules.specs.Dependencies.{doc_name}
+use Rattle.il_base.specs.world_model.Core.{same_name}
+use Rattle.rules.specs.mark_rules.Dependencies.{doc_name}
 use Rattle.mark_dependencies.proofs.Wanted.{one_wanted, none_wanted}
 use Rattle.mark_dependencies.proofs.methods.is_doc_name.Goals as goal
 

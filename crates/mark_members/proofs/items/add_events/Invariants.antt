@@ -1,6 +1,6 @@
 use Rattle.std.proofs.Common.{◌≡◌, ◌++◌, drop}
 use Rattle.std.specs.List.{flat_map}
-use Rattle.mark_tables.specs.Assemblies.{all_of}
+use Rattle.mark_parts.specs.mark_tables.Assemblies.{all_of}
 use Rattle.mark_members.specs.Items.{event_items}
 use Rattle.mark_members.proofs.items.add_events.Given as goal
 

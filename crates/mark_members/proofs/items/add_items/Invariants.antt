@@ -1,5 +1,5 @@
 use Rattle.std.proofs.Common.{◌≡◌, ◌++◌, map, drop}
-use Rattle.mark_facts.specs.Kinds.{item_at}
+use Rattle.mark_parts.specs.mark_facts.Kinds.{item_at}
 use Rattle.mark_members.proofs.items.add_items.Given as goal
 
 abbrev pub invariant-loop-at : goal.invariant-loop-at

@@ -1,6 +1,6 @@
 use Rattle.std.proofs.Common.{◌≡◌, suc, ◌-◌, List, ◌++◌, ap, ◌∙◌, arith}
-use Rattle.link_rules.specs.declared.row_at.RowAt.{RowAt}
-use Rattle.mark_tables.specs.Assemblies.{all_of}
+use Rattle.rules.specs.declared.link_rules.row_at.RowAt.{RowAt}
+use Rattle.mark_parts.specs.mark_tables.Assemblies.{all_of}
 use Rattle.mark_members.specs.Levels.{pushed}
 use Rattle.mark_members.proofs.Waiting.{one_level, one_level_total}
 use Rattle.mark_members.proofs.levels.add_level.Goals as goal

@@ -1,4 +1,4 @@
-use Rattle.mark_tables.specs.Assemblies.{all_of}
+use Rattle.mark_parts.specs.mark_tables.Assemblies.{all_of}
 use Rattle.mark_members.proofs.Waiting.{level_next, level_end, level_smaller}
 use Rattle.mark_members.proofs.levels.add_levels.Goals as goal
 

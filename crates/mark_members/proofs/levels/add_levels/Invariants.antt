@@ -1,5 +1,5 @@
 use Rattle.std.proofs.Common.{◌≡◌, ◌++◌}
-use Rattle.mark_tables.specs.Assemblies.{all_of}
+use Rattle.mark_parts.specs.mark_tables.Assemblies.{all_of}
 use Rattle.mark_members.specs.Levels.{left_items, total}
 use Rattle.mark_members.proofs.levels.add_levels.Given as goal
 

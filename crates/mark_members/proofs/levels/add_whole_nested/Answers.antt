@@ -1,7 +1,7 @@
 use Rattle.std.proofs.Common.{ℕ, ◌+◌, List, [], ◌∷◌, ◌++◌, sym, ap, ◌∙◌}
 use Rattle.std.proofs.lemmas.List.{append-nil}
 use Rattle.il_base.specs.declared.ids.Item.{Item}
-use Rattle.mark_tables.specs.Assemblies.{all_of, rec_of}
+use Rattle.mark_parts.specs.mark_tables.Assemblies.{all_of, rec_of}
 use Rattle.mark_members.specs.declared.levels.Level.{Level}
 use Rattle.mark_members.specs.Levels.{level}
 use Rattle.mark_members.proofs.Waiting.{from_one, none_whole}

@@ -1,7 +1,7 @@
 use Rattle.std.proofs.Common.{◌≡◌, ◌++◌, drop}
 use Rattle.std.specs.List.{flat_map}
-use Rattle.mark_rules.specs.Members.{whole_nested}
-use Rattle.mark_tables.specs.Assemblies.{all_of}
+use Rattle.rules.specs.mark_rules.Members.{whole_nested}
+use Rattle.mark_parts.specs.mark_tables.Assemblies.{all_of}
 use Rattle.mark_members.proofs.nested.add_all_nested.Given as goal
 
 abbrev pub invariant-loop-at : goal.invariant-loop-at

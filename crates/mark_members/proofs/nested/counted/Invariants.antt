@@ -1,6 +1,6 @@
 use Rattle.std.proofs.Common.{◌≡◌, ◌++◌, drop}
 use Rattle.std.specs.List.{filter}
-use Rattle.mark_rules.specs.Members.{nested_counts}
+use Rattle.rules.specs.mark_rules.Members.{nested_counts}
 use Rattle.mark_members.proofs.nested.counted.Given as goal
 
 abbrev pub invariant-loop-at : goal.invariant-loop-at

@@ -1,6 +1,6 @@
 use Rattle.std.proofs.Common.{◌++◌, List, ap, ◌∙◌}
-use Rattle.mark_rules.specs.Naming.{Part}
-use Rattle.mark_tables.specs.Assemblies.{recs_of, place_of, rec_of}
+use Rattle.rules.specs.mark_rules.Naming.{Part}
+use Rattle.mark_parts.specs.mark_tables.Assemblies.{recs_of, place_of, rec_of}
 use Rattle.mark_parts.specs.declared.forms.Names.{Names}
 use Rattle.mark_parts.specs.Forms.{parts_by}
 use Rattle.mark_parts.proofs.FormCases.{by_forms}

@@ -1,7 +1,7 @@
 use Rattle.std.proofs.Common.{◌≡◌, ◌++◌, drop}
 use Rattle.std.specs.List.{flat_map}
-use Rattle.mark_rules.specs.Bodies.{instruction_parts}
-use Rattle.mark_tables.specs.Assemblies.{recs_of, place_of, rec_of}
+use Rattle.rules.specs.mark_rules.Bodies.{instruction_parts}
+use Rattle.mark_parts.specs.mark_tables.Assemblies.{recs_of, place_of, rec_of}
 use Rattle.mark_parts.proofs.bodies.add_instructions.Given as goal
 
 abbrev pub invariant-loop-instr : goal.invariant-loop-instr

@@ -1,6 +1,6 @@
 use Rattle.std.proofs.Common.{ap, ◌∙◌}
 use Rattle.std.specs.List.{list_any}
-use Rattle.mark_tables.specs.Assemblies.{rec_of}
+use Rattle.mark_parts.specs.mark_tables.Assemblies.{rec_of}
 use Rattle.mark_parts.specs.Items.{is_text_at}
 use Rattle.mark_parts.proofs.Texting.{texts_grouped}
 use Rattle.mark_parts.proofs.bodies.has_text.Goals as goal

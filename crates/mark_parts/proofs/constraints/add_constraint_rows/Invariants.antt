@@ -2,7 +2,7 @@ use Rattle.std.proofs.Common.{◌≡◌, ℕ, [], ◌++◌, drop}
 use Rattle.std.specs.Prelude.{slice_get}
 use Rattle.std.specs.List.{flat_map}
 use Rattle.std.specs.Option.{option_map_or}
-use Rattle.mark_tables.specs.Assemblies.{recs_of, place_of, rec_of}
+use Rattle.mark_parts.specs.mark_tables.Assemblies.{recs_of, place_of, rec_of}
 use Rattle.mark_parts.specs.Constraints.{constraint_part}
 use Rattle.mark_parts.proofs.constraints.add_constraint_rows.Given as goal
 

@@ -1,5 +1,5 @@
 use Rattle.std.proofs.Common.{◌≡◌, ◌++◌, drop}
-use Rattle.mark_rules.specs.Naming.{type_parts}
+use Rattle.rules.specs.mark_rules.Naming.{type_parts}
 use Rattle.mark_parts.proofs.sigs.add_types.Given as goal
 
 abbrev pub invariant-loop-ty : goal.invariant-loop-ty

@@ -1,6 +1,6 @@
 use Rattle.std.proofs.Common.{ap, ◌∙◌}
-use Rattle.world_model.specs.Worlds.{known_or}
-use Rattle.mark_tables.specs.Assemblies.{recs_of, place_of, rec_of}
+use Rattle.il_base.specs.world_model.Worlds.{known_or}
+use Rattle.mark_parts.specs.mark_tables.Assemblies.{recs_of, place_of, rec_of}
 use Rattle.mark_parts.proofs.Links.{method_by_links}
 use Rattle.mark_parts.proofs.tokens.method_link.Goals as goal
 

@@ -1,4 +1,4 @@
-use Rattle.mark_tables.specs.Assemblies.{recs_of, rec_of}
+use Rattle.mark_parts.specs.mark_tables.Assemblies.{recs_of, rec_of}
 use Rattle.mark_roots.specs.Lookups.{recs_in}
 use Rattle.mark_roots.proofs.Fitting.{fits_is, no_rec_fits, names_there}
 use Rattle.mark_roots.proofs.fields.fits_field.Goals as goal

@@ -1,4 +1,4 @@
-use Rattle.mark_tables.specs.Assemblies.{recs_of, rec_of}
+use Rattle.mark_parts.specs.mark_tables.Assemblies.{recs_of, rec_of}
 use Rattle.mark_roots.proofs.Fitting.{field_fits_one, field_fits_none}
 use Rattle.mark_roots.proofs.fields.fits_in.Goals as goal
 

@@ -1,6 +1,6 @@
 use Rattle.std.proofs.Common.{◌≡◌, ◌++◌, drop}
 use Rattle.std.specs.List.{filter}
-use Rattle.mark_rules.specs.Roots.{fits_field}
+use Rattle.rules.specs.mark_rules.Roots.{fits_field}
 use Rattle.mark_roots.specs.Lookups.{recs_in}
 use Rattle.mark_roots.proofs.fields.fitting.Given as goal
 

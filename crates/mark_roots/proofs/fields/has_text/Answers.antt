@@ -1,6 +1,6 @@
 use Rattle.std.proofs.Common.{sym, ap, ◌∙◌}
-use Rattle.link_rules.specs.Cycles.{listed}
-use Rattle.mark_tables.specs.Assemblies.{recs_of, place_of, rec_of}
+use Rattle.rules.specs.link_rules.Cycles.{listed}
+use Rattle.mark_parts.specs.mark_tables.Assemblies.{recs_of, place_of, rec_of}
 use Rattle.mark_roots.proofs.Fitting.{no_field_text}
 use Rattle.mark_roots.proofs.fields.has_text.Goals as goal
 

@@ -1,6 +1,6 @@
 use Rattle.std.proofs.Common.{ℕ, List, ◌++◌, codes, ap, ◌∙◌}
-use Rattle.mark_rules.specs.Roots.{sig_text}
-use Rattle.mark_tables.specs.Assemblies.{recs_of, place_of, rec_of}
+use Rattle.rules.specs.mark_rules.Roots.{sig_text}
+use Rattle.mark_parts.specs.mark_tables.Assemblies.{recs_of, place_of, rec_of}
 use Rattle.mark_roots.proofs.Fitting.{compared, field_is}
 use Rattle.mark_roots.proofs.fields.has_text_with.Goals as goal
 

@@ -1,6 +1,6 @@
 use Rattle.std.proofs.Common.{◌≡◌, ◌++◌, drop}
 use Rattle.std.specs.List.{flat_map}
-use Rattle.mark_rules.specs.Roots.{member_by}
+use Rattle.rules.specs.mark_rules.Roots.{member_by}
 use Rattle.mark_roots.specs.Lookups.{recs_in}
 use Rattle.mark_roots.proofs.members.add_members.Given as goal
 

@@ -1,6 +1,6 @@
 use Rattle.std.proofs.Common.{sym, ap, ◌∙◌}
-use Rattle.link_rules.specs.Cycles.{listed}
-use Rattle.type_rules.specs.Rows.{rec_at}
+use Rattle.rules.specs.link_rules.Cycles.{listed}
+use Rattle.rules.specs.type_rules.Rows.{rec_at}
 use Rattle.mark_roots.specs.Lookups.{recs_in}
 use Rattle.mark_roots.proofs.Fitting.{no_text}
 use Rattle.mark_roots.proofs.methods.has_text.Goals as goal

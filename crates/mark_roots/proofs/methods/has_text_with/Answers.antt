@@ -1,11 +1,11 @@
 use Rattle.std.proofs.Common.{ℕ, List, sym, ap, ◌∙◌}
-use Rattle.world_model.specs.declared.record.AsmRec.{AsmRec}
-use Rattle.mark_rules.specs.Roots as roots
-use Rattle.mark_rules.specs.Roots.{method_text, has_method_text}
-use Rattle.type_rules.specs.Rows.{rec_at}
-use Rattle.link_rules.specs.Cycles.{listed}
-use Rattle.mark_tables.specs.Assemblies.{recs_of, rec_of}
-use Rattle.sig_texts.specs.Spelled.{owners_told}
+use Rattle.il_base.specs.declared.world_model.record.AsmRec.{AsmRec}
+use Rattle.rules.specs.mark_rules.Roots as roots
+use Rattle.rules.specs.mark_rules.Roots.{method_text, has_method_text}
+use Rattle.rules.specs.type_rules.Rows.{rec_at}
+use Rattle.rules.specs.link_rules.Cycles.{listed}
+use Rattle.mark_parts.specs.mark_tables.Assemblies.{recs_of, rec_of}
+use Rattle.descriptor_texts.specs.sig_texts.Spelled.{owners_told}
 use Rattle.mark_roots.specs.Lookups.{recs_in}
 use Rattle.mark_roots.proofs.Fitting.{compared, any_none, listed_none, text_is, names_there}
 use Rattle.mark_roots.proofs.methods.has_text_with.Goals as goal

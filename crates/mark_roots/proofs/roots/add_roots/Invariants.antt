@@ -1,6 +1,6 @@
 use Rattle.std.proofs.Common.{◌≡◌, ◌++◌, drop}
 use Rattle.std.specs.List.{flat_map}
-use Rattle.mark_rules.specs.Roots.{root_facts}
+use Rattle.rules.specs.mark_rules.Roots.{root_facts}
 use Rattle.mark_roots.specs.Lookups.{recs_in}
 use Rattle.mark_roots.proofs.roots.add_roots.Given as goal
 

@@ -1,7 +1,7 @@
 use Rattle.std.proofs.Common.{List, subst}
-use Rattle.world_model.specs.declared.record.AsmRec.{AsmRec}
+use Rattle.il_base.specs.declared.world_model.record.AsmRec.{AsmRec}
 use Rattle.mark_numbers.specs.Starts.{AreStarts}
-use Rattle.mark_tables.specs.Assemblies.{all_of}
+use Rattle.mark_parts.specs.mark_tables.Assemblies.{all_of}
 use Rattle.marking.proofs.Numbered.{is_marked}
 use Rattle.marking.proofs.marked.mark.Goals as goal
 

@@ -1,6 +1,6 @@
 use Rattle.std.proofs.Common.{◌≡◌, ◌++◌, drop}
 use Rattle.std.specs.List.{flat_map}
-use Rattle.world_model.specs.declared.world.Home.{Home}
+use Rattle.il_base.specs.declared.world_model.world.Home.{Home}
 use Rattle.marking.specs.Starting.{core_fact}
 use Rattle.marking.proofs.starts.add_core.Given as goal
 

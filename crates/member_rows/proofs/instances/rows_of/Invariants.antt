@@ -1,5 +1,5 @@
 use Rattle.std.proofs.Common.{◌≡◌, ◌++◌, map, drop}
-use Rattle.key_codes.specs.Keys as coded
+use Rattle.token_keys.specs.key_codes.Keys as coded
 use Rattle.member_rows.specs.Rows.{method_spec_by}
 use Rattle.member_rows.proofs.instances.rows_of.Given as goal
 

@@ -1,6 +1,6 @@
 use Rattle.std.proofs.Common.{◌≡◌, ◌++◌, map, drop}
 use Rattle.std.specs.List.{flat_map}
-use Rattle.key_codes.specs.Keys as coded
+use Rattle.token_keys.specs.key_codes.Keys as coded
 use Rattle.member_rows.specs.Rows.{member_ref_by}
 use Rattle.member_rows.proofs.members.rows_of.Given as goal
 

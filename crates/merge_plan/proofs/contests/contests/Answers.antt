@@ -1,5 +1,5 @@
 use Rattle.std.proofs.Common.{subst, ◌∙◌, List}
-use Rattle.link_rules.specs.declared.row_at.RowAt.{RowAt}
+use Rattle.rules.specs.declared.link_rules.row_at.RowAt.{RowAt}
 use Rattle.merge_plan.specs.OldNames.{types_of}
 use Rattle.std.proofs.Common.{take}
 use Rattle.merge_plan.specs.Rivals.{AreNamed}

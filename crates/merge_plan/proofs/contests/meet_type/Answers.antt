@@ -1,6 +1,6 @@
 use Rattle.std.proofs.Common.{◌≡◌, List, ◌++◌, Some, None, true, sym, ap, ◌∙◌}
 use Rattle.std.proofs.lemmas.List.{append-nil}
-use Rattle.merge_rules.specs.Names.{is_top_level}
+use Rattle.rules.specs.merge_rules.Names.{is_top_level}
 use Rattle.merge_plan.specs.declared.contests.Contest.{Contest}
 use Rattle.merge_plan.proofs.Named.{contested_by}
 use Rattle.merge_plan.proofs.contests.meet_type.Goals as goal

@@ -1,5 +1,5 @@
 use Rattle.std.proofs.Common.{◌≡◌, map, take}
-use Rattle.merge_rules.specs.Names.{old_name}
+use Rattle.rules.specs.merge_rules.Names.{old_name}
 use Rattle.merge_plan.specs.declared.full_names.OldName.{OldName}
 use Rattle.merge_plan.specs.OldNames.{types_of}
 use Rattle.merge_plan.proofs.full_names.old_names.Given as goal

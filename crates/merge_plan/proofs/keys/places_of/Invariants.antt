@@ -2,8 +2,8 @@ use Rattle.std.proofs.Common.{◌≡◌, drop}
 use Rattle.std.specs.HashMap.{get}
 use Rattle.std.specs.List.{position_from}
 use Rattle.std.specs.Option.{option_or}
-use Rattle.link_rules.specs.declared.row_at.RowAt.{RowAt}
-use Rattle.link_rules.specs.Cycles.{same_row}
+use Rattle.rules.specs.declared.link_rules.row_at.RowAt.{RowAt}
+use Rattle.rules.specs.link_rules.Cycles.{same_row}
 use Rattle.merge_plan.specs.Keys.{same_spot, spot_of}
 use Rattle.merge_plan.proofs.keys.places_of.Given as goal
 

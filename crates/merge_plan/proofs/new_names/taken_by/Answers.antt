@@ -1,6 +1,6 @@
 use Rattle.std.proofs.Common.{[], List, take, subst, ◌∙◌}
 use Rattle.std.proofs.lemmas.List.{take_all}
-use Rattle.link_rules.specs.declared.row_at.RowAt.{RowAt}
+use Rattle.rules.specs.declared.link_rules.row_at.RowAt.{RowAt}
 use Rattle.merge_plan.specs.declared.full_names.OldName.{OldName}
 use Rattle.merge_plan.specs.OldNames.{types_of}
 use Rattle.merge_plan.specs.Taken.{AreTaken}

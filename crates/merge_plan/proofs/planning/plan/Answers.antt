@@ -1,6 +1,6 @@
 use Rattle.std.proofs.Common.{List, sym, ap, ◌∙◌}
-use Rattle.link_rules.specs.declared.row_at.RowAt.{RowAt}
-use Rattle.merge_rules.specs.Numbers.{kept_types}
+use Rattle.rules.specs.declared.link_rules.row_at.RowAt.{RowAt}
+use Rattle.rules.specs.merge_rules.Numbers.{kept_types}
 use Rattle.merge_plan.specs.Contests.{shown_by}
 use Rattle.merge_plan.specs.Plans.{planned_by}
 use Rattle.merge_plan.proofs.planning.plan.Goals as goal

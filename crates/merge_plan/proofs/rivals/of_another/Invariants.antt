@@ -1,5 +1,5 @@
 use Rattle.std.proofs.Common.{◌≡◌, ◌==◌, find, not, drop}
-use Rattle.link_rules.specs.declared.row_at.RowAt.{RowAt}
+use Rattle.rules.specs.declared.link_rules.row_at.RowAt.{RowAt}
 use Rattle.merge_plan.proofs.rivals.of_another.Given as goal
 
 abbrev pub invariant-loop-at : goal.invariant-loop-at

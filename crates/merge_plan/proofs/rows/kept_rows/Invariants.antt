@@ -1,6 +1,6 @@
 use Rattle.std.proofs.Common.{◌≡◌, ◌++◌, drop}
 use Rattle.std.specs.List.{filter}
-use Rattle.link_rules.specs.declared.row_at.RowAt.{RowAt}
+use Rattle.rules.specs.declared.link_rules.row_at.RowAt.{RowAt}
 use Rattle.merge_plan.specs.Kept.{item_at, kept_by}
 use Rattle.merge_plan.proofs.rows.kept_rows.Given as goal
 

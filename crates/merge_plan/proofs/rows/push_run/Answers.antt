@@ -1,7 +1,7 @@
 use Rattle.std.proofs.Common.{◌≡◌, ◌+◌, ◌-◌, List, [], ◌∷◌, ◌++◌, map, ap, ◌∙◌}
 use Rattle.std.specs.List.{range_with_len}
-use Rattle.link_rules.specs.declared.row_at.RowAt.{RowAt}
-use Rattle.link_rules.specs.Types.{at_row}
+use Rattle.rules.specs.declared.link_rules.row_at.RowAt.{RowAt}
+use Rattle.rules.specs.link_rules.Types.{at_row}
 use Rattle.merge_plan.proofs.Ranging.{range_next}
 use Rattle.merge_plan.proofs.rows.push_run.Goals as goal
 

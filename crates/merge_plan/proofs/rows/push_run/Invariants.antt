@@ -1,6 +1,6 @@
 use Rattle.std.proofs.Common.{◌≡◌, ◌+◌, ◌-◌, ◌++◌, map}
 use Rattle.std.specs.List.{range_with_len}
-use Rattle.link_rules.specs.Types.{at_row}
+use Rattle.rules.specs.link_rules.Types.{at_row}
 use Rattle.merge_plan.proofs.rows.push_run.Given as goal
 
 abbrev pub invariant-loop-k : goal.invariant-loop-k

@@ -1,6 +1,6 @@
 use Rattle.std.proofs.Common.{◌-◌, arith}
 use Rattle.merge_plan.specs.Kept.{count_in}
-use Rattle.member_search.proofs.RowLemmas.{rows_step, rows_left}
+use Rattle.type_tables.proofs.lemmas.member_search.RowLemmas.{rows_step, rows_left}
 use Rattle.merge_plan.proofs.rows.rows_before.Goals as goal
 
 pub loop-i-preserved : goal.loop-i-preserved

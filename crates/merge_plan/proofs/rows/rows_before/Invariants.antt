@@ -1,5 +1,5 @@
 use Rattle.std.proofs.Common.{◌≡◌, ◌+◌, ◌-◌, ◌≤◌, drop}
-use Rattle.world_model.specs.Worlds.{rows_before}
+use Rattle.il_base.specs.world_model.Worlds.{rows_before}
 use Rattle.merge_plan.specs.Kept.{count_in}
 use Rattle.merge_plan.proofs.rows.rows_before.Given as goal
 

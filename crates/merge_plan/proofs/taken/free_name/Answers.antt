@@ -1,5 +1,5 @@
 use Rattle.std.proofs.Common.{ℕ, List, Bool, ap, ◌∙◌}
-use Rattle.type_rules.specs.Texts.{full_name_of}
+use Rattle.rules.specs.type_rules.Texts.{full_name_of}
 use Rattle.merge_plan.specs.Taken.{has_in}
 use Rattle.merge_plan.proofs.Freeing.{free_found, free_more}
 use Rattle.merge_plan.proofs.taken.free_name.Goals as goal

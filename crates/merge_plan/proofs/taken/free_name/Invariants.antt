@@ -1,6 +1,6 @@
 use Rattle.std.proofs.Common.{◌≡◌, ◌-◌, ℕ, List}
-use Rattle.type_rules.specs.Texts.{full_name_of}
-use Rattle.merge_rules.specs.Names.{free_from}
+use Rattle.rules.specs.type_rules.Texts.{full_name_of}
+use Rattle.rules.specs.merge_rules.Names.{free_from}
 use Rattle.merge_plan.specs.Taken.{has_in}
 use Rattle.merge_plan.proofs.taken.free_name.Given as goal
 

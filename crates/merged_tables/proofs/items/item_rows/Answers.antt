@@ -1,9 +1,9 @@
 use Rattle.std.proofs.Common.{List, ap, ◌∙◌}
-use Rattle.world_model.specs.declared.record.AsmRec.{AsmRec}
-use Rattle.merge_rules.specs.Numbers.{kept_fields, kept_properties, kept_events}
-use Rattle.merge_rules.specs.Rows.{kept_params}
-use Rattle.merged_members.specs.Members.{fields_by, params_by, properties_by, events_by}
-use Rattle.merged_types.specs.Types.{type_defs_by}
+use Rattle.il_base.specs.declared.world_model.record.AsmRec.{AsmRec}
+use Rattle.rules.specs.merge_rules.Numbers.{kept_fields, kept_properties, kept_events}
+use Rattle.rules.specs.merge_rules.Rows.{kept_params}
+use Rattle.merged_tables.specs.merged_members.Members.{fields_by, params_by, properties_by, events_by}
+use Rattle.merged_tables.specs.merged_types.Types.{type_defs_by}
 use Rattle.merged_tables.specs.Parts.{output_in}
 use Rattle.merged_tables.proofs.items.item_rows.Goals as goal
 

@@ -1,6 +1,6 @@
 use Rattle.std.proofs.Common.{List, ap, ◌∙◌}
-use Rattle.world_model.specs.declared.record.AsmRec.{AsmRec}
-use Rattle.merged_impls.specs.Impls.{method_impls_by}
+use Rattle.il_base.specs.declared.world_model.record.AsmRec.{AsmRec}
+use Rattle.merged_tables.specs.merged_impls.Impls.{method_impls_by}
 use Rattle.merged_tables.specs.Parts.{output_in}
 use Rattle.merged_tables.proofs.maps.map_rows.Goals as goal
 

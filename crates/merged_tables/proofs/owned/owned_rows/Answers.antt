@@ -1,5 +1,5 @@
 use Rattle.std.proofs.Common.{ap, ◌∙◌}
-use Rattle.merged_sorted.specs.Owned.{interfaces_by, generic_params_by, constraints_by}
+use Rattle.merged_tables.specs.merged_sorted.Owned.{interfaces_by, generic_params_by, constraints_by}
 use Rattle.merged_tables.specs.Parts.{output_in}
 use Rattle.merged_tables.proofs.owned.owned_rows.Goals as goal
 

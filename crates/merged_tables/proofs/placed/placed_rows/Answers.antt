@@ -1,10 +1,10 @@
 use Rattle.std.proofs.Common.{◌≡◌, ◌%◌, List, [], length, ap, ◌∙◌}
-use Rattle.world_model.specs.declared.members.MethodDefRow.{MethodDefRow}
-use Rattle.link_rules.specs.declared.row_at.RowAt.{RowAt}
-use Rattle.file_layout.specs.Bodies.{code_behind}
-use Rattle.merge_rules.specs.Numbers.{kept_methods}
-use Rattle.merge_rules.specs.Restricted.{placed_methods, moved_methods, bodies_of, field_rvas}
-use Rattle.merged_members.specs.Members.{methods_by}
+use Rattle.il_base.specs.declared.world_model.members.MethodDefRow.{MethodDefRow}
+use Rattle.rules.specs.declared.link_rules.row_at.RowAt.{RowAt}
+use Rattle.rules.specs.file_layout.Bodies.{code_behind}
+use Rattle.rules.specs.merge_rules.Numbers.{kept_methods}
+use Rattle.rules.specs.merge_rules.Restricted.{placed_methods, moved_methods, bodies_of, field_rvas}
+use Rattle.merged_tables.specs.merged_members.Members.{methods_by}
 use Rattle.merged_tables.specs.Parts.{output_in}
 use Rattle.merged_tables.proofs.placed.placed_rows.Goals as goal
 

@@ -1,6 +1,6 @@
 -- None of the streams so far has the name.
 use Rattle.std.proofs.Common.{◌≡◌, drop}
-use Rattle.cli_format.specs.Streams.{stream_called}
+use Rattle.il_base.specs.cli_format.Streams.{stream_called}
 use Rattle.meta_tables.proofs.directory.find.Given as goal
 
 abbrev pub invariant-loop-stream : goal.invariant-loop-stream

@@ -1,8 +1,8 @@
 -- The streams so far are those before the counter, their bytes are taken, and the next header is where they end.
 use Rattle.std.proofs.Common.{◌≡◌, ◌≤◌, length, None}
-use Rattle.cli_format.specs.Demand.{first_fault, each_below}
-use Rattle.cli_format.specs.Streams.{streams_before, header_place}
-use Rattle.cli_format.specs.Metadata.{nth_stream_demands}
+use Rattle.il_base.specs.cli_format.Demand.{first_fault, each_below}
+use Rattle.il_base.specs.cli_format.Streams.{streams_before, header_place}
+use Rattle.il_base.specs.cli_format.Metadata.{nth_stream_demands}
 use Rattle.meta_tables.specs.Held.{AreTaken}
 use Rattle.meta_tables.proofs.directory.read_list.Given as goal
 

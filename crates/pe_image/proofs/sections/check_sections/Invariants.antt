@@ -1,7 +1,7 @@
 -- The sections passed so far are within the file.
 use Rattle.std.proofs.Common.{◌≡◌, None}
-use Rattle.cli_format.specs.Demand.{first_fault, each_below}
-use Rattle.cli_format.specs.Image.{section_demands}
+use Rattle.il_base.specs.cli_format.Demand.{first_fault, each_below}
+use Rattle.il_base.specs.cli_format.Image.{section_demands}
 use Rattle.pe_image.proofs.sections.check_sections.Given as goal
 
 abbrev pub invariant-loop-i : goal.invariant-loop-i

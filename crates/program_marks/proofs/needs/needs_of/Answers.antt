@@ -1,11 +1,11 @@
 use Rattle.std.proofs.Common.{subst}
 use Rattle.std.specs.Option.{option_map}
-use Rattle.world_model.specs.declared.world.World.{World}
-use Rattle.mark_rules.specs.Marking.{Marks}
-use Rattle.mark_rules.specs.BadItems.{IsFirstFlaw}
-use Rattle.mark_flaws.specs.Told.{flaw_told}
+use Rattle.il_base.specs.declared.world_model.world.World.{World}
+use Rattle.rules.specs.mark_rules.Marking.{Marks}
+use Rattle.rules.specs.mark_rules.BadItems.{IsFirstFlaw}
+use Rattle.bad_items.specs.mark_flaws.Told.{flaw_told}
 use Rattle.marking.specs.Holding.{IsMarked}
-use Rattle.flaw_laws.specs.There.{RowsThere}
+use Rattle.base_laws.specs.flaw_laws.There.{RowsThere}
 use Rattle.program_marks.proofs.needs.needs_of.Goals as goal
 
 pub returns-clause-marked : goal.returns-clause-marked

@@ -1,7 +1,7 @@
 use Rattle.std.proofs.Common.{◌≡◌, None, List, subst}
-use Rattle.world_model.specs.declared.record.AsmRec.{AsmRec}
-use Rattle.merge_rules.specs.Names.{collision}
-use Rattle.merge_rules.specs.Numbers.{kept_types}
+use Rattle.il_base.specs.declared.world_model.record.AsmRec.{AsmRec}
+use Rattle.rules.specs.merge_rules.Names.{collision}
+use Rattle.rules.specs.merge_rules.Numbers.{kept_types}
 use Rattle.merge_plan.specs.Kept.{kept_by}
 use Rattle.merge_plan.specs.Contests.{shown_by}
 use Rattle.program_trim.specs.Programs.{recs_of}

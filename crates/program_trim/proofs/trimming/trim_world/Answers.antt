@@ -1,9 +1,9 @@
 use Rattle.std.proofs.Common.{Option, sym, subst}
 use Rattle.std.specs.Option.{option_map}
-use Rattle.mark_rules.specs.Marking.{Marks}
-use Rattle.mark_rules.specs.BadItems.{IsFirstFlaw}
-use Rattle.mark_flaws.specs.declared.flaw.Flaw.{Flaw}
-use Rattle.mark_flaws.specs.Told.{flaw_told}
+use Rattle.rules.specs.mark_rules.Marking.{Marks}
+use Rattle.rules.specs.mark_rules.BadItems.{IsFirstFlaw}
+use Rattle.bad_items.specs.declared.mark_flaws.flaw.Flaw.{Flaw}
+use Rattle.bad_items.specs.mark_flaws.Told.{flaw_told}
 use Rattle.program_trim.specs.declared.answers.TrimFault.{TrimFault}
 use Rattle.program_trim.specs.Trim.{IsFlawedAt, RefusesWorld}
 use Rattle.program_trim.specs.Programs.{place_of}

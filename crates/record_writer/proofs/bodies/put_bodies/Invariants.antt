@@ -1,5 +1,5 @@
 use Rattle.std.proofs.Common.{◌≡◌, [], ◌++◌, map, drop}
-use Rattle.file_layout.specs.Bodies.{code_behind, rvas_behind}
+use Rattle.rules.specs.file_layout.Bodies.{code_behind, rvas_behind}
 use Rattle.record_writer.proofs.bodies.put_bodies.Given as goal
 
 abbrev pub invariant-loop-method : goal.invariant-loop-method

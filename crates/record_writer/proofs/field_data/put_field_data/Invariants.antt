@@ -1,5 +1,5 @@
 use Rattle.std.proofs.Common.{◌≡◌, ◌++◌, drop}
-use Rattle.record_layout.specs.FieldData.{with_all_data, data_rvas}
+use Rattle.rules.specs.record_layout.FieldData.{with_all_data, data_rvas}
 use Rattle.record_writer.proofs.field_data.put_field_data.Given as goal
 
 abbrev pub invariant-loop-row : goal.invariant-loop-row

@@ -1,5 +1,5 @@
 use Rattle.std.proofs.Common.{◌≡◌, nat_lt, find, drop}
-use Rattle.cli_format.specs.Metadata.{most_rows}
+use Rattle.il_base.specs.cli_format.Metadata.{most_rows}
 use Rattle.record_writer.proofs.rows.first_long.Given as goal
 
 abbrev pub invariant-loop-size : goal.invariant-loop-size

@@ -1,12 +1,12 @@
 use Rattle.std.proofs.Common.{◌≡◌, List, ℕ, length, map, refl, ap, ◌∙◌}
-use Rattle.world_model.specs.declared.record.UserText.{UserText}
-use Rattle.world_model.specs.declared.record.AsmRec.{AsmRec}
-use Rattle.file_layout.specs.Heaps.{users_heap}
-use Rattle.file_layout.specs.Laid.{streams_with}
-use Rattle.record_layout.specs.Laid.{streams_of}
-use Rattle.metadata_writer.specs.Lengths.{users_put}
-use Rattle.record_layout.specs.Limits.{users_length}
-use Rattle.metadata_writer.proofs.Puts.{users_put-length}
+use Rattle.il_base.specs.declared.world_model.record.UserText.{UserText}
+use Rattle.il_base.specs.declared.world_model.record.AsmRec.{AsmRec}
+use Rattle.rules.specs.file_layout.Heaps.{users_heap}
+use Rattle.rules.specs.file_layout.Laid.{streams_with}
+use Rattle.rules.specs.record_layout.Laid.{streams_of}
+use Rattle.record_writer.specs.metadata_writer.Lengths.{users_put}
+use Rattle.rules.specs.record_layout.Limits.{users_length}
+use Rattle.record_writer.proofs.lemmas.metadata_writer.Puts.{users_put-length}
 use Rattle.record_writer.proofs.writing.users_length.Goals as goal
 
 users_of : (rec : AsmRec) → length (users_heap (map (λ t. t.text) rec.user)) ≡ users_length rec

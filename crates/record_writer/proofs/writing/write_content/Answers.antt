@@ -1,9 +1,9 @@
 use Rattle.std.proofs.Common.{◌≡◌, ◌<◌, ◌^◌, List, ℕ, ◌++◌, length, ap, ◌∙◌, arith}
-use Rattle.file_layout.specs.Metadata.{metadata_bytes}
-use Rattle.record_layout.specs.Tables.{code_of}
-use Rattle.record_layout.specs.Laid.{streams_of, laid_length}
-use Rattle.metadata_writer.specs.Written.{IsPut}
-use Rattle.metadata_writer.proofs.Whole.{put_as}
+use Rattle.rules.specs.file_layout.Metadata.{metadata_bytes}
+use Rattle.rules.specs.record_layout.Tables.{code_of}
+use Rattle.rules.specs.record_layout.Laid.{streams_of, laid_length}
+use Rattle.record_writer.specs.metadata_writer.Written.{IsPut}
+use Rattle.record_writer.proofs.lemmas.metadata_writer.Whole.{put_as}
 use Rattle.record_writer.proofs.Whole.{length_is, laid_is}
 use Rattle.record_writer.proofs.Passed.{bytes_passed, none_passed}
 use Rattle.record_writer.proofs.writing.write_content.Goals as goal

@@ -1,10 +1,10 @@
 use Rattle.std.proofs.Common.{◌≡◌, List, Option, Some, sym, ap, ◌∙◌}
 use Rattle.il_base.specs.declared.ids.TypeId.{TypeId}
-use Rattle.world_model.specs.declared.record.AsmRec.{AsmRec}
-use Rattle.type_rules.specs.Slots.{method_home}
-use Rattle.mark_tables.specs.Assemblies.{all_of}
+use Rattle.il_base.specs.declared.world_model.record.AsmRec.{AsmRec}
+use Rattle.rules.specs.type_rules.Slots.{method_home}
+use Rattle.mark_parts.specs.mark_tables.Assemblies.{all_of}
 use Rattle.value_flow.specs.Flows.{owner_of}
-use Rattle.site_rules.specs.Bodies.{head_sites}
+use Rattle.requirements.specs.site_rules.Bodies.{head_sites}
 use Rattle.requirements.proofs.Lists.{one_listed}
 use Rattle.requirements.proofs.Same.{owned_by}
 use Rattle.requirements.proofs.methods.plain_sites.Goals as goal

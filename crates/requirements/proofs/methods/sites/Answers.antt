@@ -1,14 +1,14 @@
 use Rattle.std.proofs.Common.{◌≡◌, ℕ, List, Some, sym, ap, ◌∙◌}
 use Rattle.std.specs.Prelude.{IfSome, slice_get}
 use Rattle.std.specs.Option.{option_map}
-use Rattle.world_model.specs.declared.record.AsmRec.{AsmRec}
-use Rattle.world_model.specs.declared.world.World.{World}
-use Rattle.type_rules.specs.Slots.{method_home}
-use Rattle.mark_tables.specs.Assemblies.{all_of}
-use Rattle.flow_rules.specs.Methods.{setting_of}
-use Rattle.flow_rules.specs.Moves.{sources_of}
-use Rattle.body_graph.specs.Methods.{setting_in, IsHere}
-use Rattle.site_rules.specs.Bodies.{sites_of_body}
+use Rattle.il_base.specs.declared.world_model.record.AsmRec.{AsmRec}
+use Rattle.il_base.specs.declared.world_model.world.World.{World}
+use Rattle.rules.specs.type_rules.Slots.{method_home}
+use Rattle.mark_parts.specs.mark_tables.Assemblies.{all_of}
+use Rattle.value_flow.specs.flow_rules.Methods.{setting_of}
+use Rattle.value_flow.specs.flow_rules.Moves.{sources_of}
+use Rattle.value_flow.specs.body_graph.Methods.{setting_in, IsHere}
+use Rattle.requirements.specs.site_rules.Bodies.{sites_of_body}
 use Rattle.requirements.proofs.Homes.{same_assembly}
 use Rattle.requirements.proofs.Same.{owned_by, is_flowed, same_flow}
 use Rattle.requirements.proofs.methods.sites.Goals as goal

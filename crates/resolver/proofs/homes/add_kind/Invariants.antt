@@ -1,5 +1,5 @@
 use Rattle.std.proofs.Common.{◌≡◌, ◌++◌, drop}
-use Rattle.link_rules.specs.Linked.{homes_from}
+use Rattle.rules.specs.link_rules.Linked.{homes_from}
 use Rattle.resolver.specs.Kinds.{count_in, item_of, table_of}
 use Rattle.resolver.proofs.homes.add_kind.Given as goal
 

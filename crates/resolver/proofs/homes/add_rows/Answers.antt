@@ -1,6 +1,6 @@
 use Rattle.std.proofs.Common.{◌≡◌, ◌+◌, refl, arith}
-use Rattle.world_model.specs.declared.world.Home.{Home}
-use Rattle.link_rules.specs.Linked.{home}
+use Rattle.il_base.specs.declared.world_model.world.Home.{Home}
+use Rattle.rules.specs.link_rules.Linked.{home}
 use Rattle.resolver.specs.Kinds.{item_of, table_of}
 use Rattle.resolver.proofs.Rows.{one_more}
 use Rattle.resolver.proofs.homes.add_rows.Goals as goal

@@ -1,6 +1,6 @@
 use Rattle.std.proofs.Common.{◌≡◌, ◌++◌, map}
 use Rattle.std.specs.List.{range_with_len}
-use Rattle.link_rules.specs.Linked.{home}
+use Rattle.rules.specs.link_rules.Linked.{home}
 use Rattle.resolver.specs.Kinds.{item_of, table_of}
 use Rattle.resolver.proofs.homes.add_rows.Given as goal
 

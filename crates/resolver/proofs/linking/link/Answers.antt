@@ -1,7 +1,7 @@
 use Rattle.std.proofs.Common.{List, Err, Option, sym, ap, subst, ◌∙◌}
-use Rattle.world_model.specs.declared.record.AsmRec.{AsmRec}
-use Rattle.link_rules.specs.declared.link_error.LinkError.{LinkError}
-use Rattle.link_rules.specs.Linked.{world_in}
+use Rattle.il_base.specs.declared.world_model.record.AsmRec.{AsmRec}
+use Rattle.rules.specs.declared.link_rules.link_error.LinkError.{LinkError}
+use Rattle.rules.specs.link_rules.Linked.{world_in}
 use Rattle.link_faults.specs.Answer.{Answers}
 use Rattle.resolver.proofs.Inputs.{faults, within, refused}
 use Rattle.resolver.proofs.linking.link.Goals as goal

@@ -1,11 +1,11 @@
 use Rattle.std.proofs.Common.{◌≡◌, ◌++◌, List, map, sym, ap, subst, ◌∙◌}
-use Rattle.world_model.specs.declared.record.AsmRec.{AsmRec}
-use Rattle.mark_tables.specs.Assemblies.{all_of}
-use Rattle.merge_rules.specs.Order.{Met, met_by_types}
-use Rattle.merge_rules.specs.Attributes as rules
+use Rattle.il_base.specs.declared.world_model.record.AsmRec.{AsmRec}
+use Rattle.mark_parts.specs.mark_tables.Assemblies.{all_of}
+use Rattle.rules.specs.merge_rules.Order.{Met, met_by_types}
+use Rattle.rules.specs.merge_rules.Attributes as rules
 use Rattle.merge_plan.specs.Kept.{kept_by}
-use Rattle.merged_attributes.specs.declared.attributes.Attribute.{Attribute}
-use Rattle.merged_attributes.specs.Attributes.{told, attributes_by, met_by}
+use Rattle.member_rows.specs.declared.merged_attributes.attributes.Attribute.{Attribute}
+use Rattle.member_rows.specs.merged_attributes.Attributes.{told, attributes_by, met_by}
 use Rattle.output_references.specs.References.{AreReferencesOf}
 use Rattle.merged_tables.specs.Parts.{output_by}
 use Rattle.restrict.proofs.referring.referring_with.Goals as goal

@@ -1,6 +1,6 @@
 use Rattle.std.proofs.Common.{List, sym, ap, ◌∙◌}
 use Rattle.std.specs.Prelude.{slice_get}
-use Rattle.world_model.specs.declared.record.AsmRec.{AsmRec}
+use Rattle.il_base.specs.declared.world_model.record.AsmRec.{AsmRec}
 use Rattle.merge_plan.specs.Kept.{kept_by}
 use Rattle.restrict.proofs.Making.{left_is}
 use Rattle.restrict.proofs.restricting.restrict.Goals as goal

@@ -1,7 +1,7 @@
 use Rattle.std.proofs.Common.{List, sym, ap, subst, ◌∙◌}
 use Rattle.std.specs.Prelude.{slice_get, IfOk}
-use Rattle.world_model.specs.declared.record.AsmRec.{AsmRec}
-use Rattle.world_model.specs.declared.world.World.{World}
+use Rattle.il_base.specs.declared.world_model.record.AsmRec.{AsmRec}
+use Rattle.il_base.specs.declared.world_model.world.World.{World}
 use Rattle.merge_plan.specs.Kept.{kept_by}
 use Rattle.merged_tables.specs.Parts.{output_by}
 use Rattle.restrict.specs.Plans.{HasNewNames}

@@ -1,6 +1,6 @@
 use Rattle.std.proofs.Common.{◌≡◌, Some, ap, ◌∙◌}
-use Rattle.moved_parts.specs.declared.tokens.NewTokens.{NewTokens}
-use Rattle.moved_parts.specs.Moves.{new_token}
+use Rattle.merge_plan.specs.declared.moved_parts.tokens.NewTokens.{NewTokens}
+use Rattle.merge_plan.specs.moved_parts.Moves.{new_token}
 use Rattle.restrict.proofs.rows.first_callee.Goals as goal
 
 same_some : (x y : NewTokens) → Some x ≡ Some y → x ≡ y

@@ -1,4 +1,4 @@
-use Rattle.signature_rows.specs.Laws.{AreNumberTokens}
+use Rattle.token_keys.specs.signature_rows.Laws.{AreNumberTokens}
 use Rattle.restrict.specs.Rows.{output_from}
 use Rattle.restrict.proofs.rows.naming_of.Goals as goal
 

@@ -1,7 +1,7 @@
 use Rattle.std.proofs.Common.{List, sym, subst, ◌∙◌}
-use Rattle.mark_tables.specs.Assemblies.{all_of}
-use Rattle.moved_parts.specs.declared.tokens.NewTokens.{NewTokens}
-use Rattle.world_keys.specs.Keys.{AreAllNumbers}
+use Rattle.mark_parts.specs.mark_tables.Assemblies.{all_of}
+use Rattle.merge_plan.specs.declared.moved_parts.tokens.NewTokens.{NewTokens}
+use Rattle.token_keys.specs.world_keys.Keys.{AreAllNumbers}
 use Rattle.restrict.proofs.rows.output_rows.Goals as goal
 
 pub all_numbers-requires-clause-references : goal.all_numbers-requires-clause-references

@@ -1,6 +1,6 @@
 use Rattle.std.proofs.Common.{List, sym, subst}
-use Rattle.moved_parts.specs.declared.tokens.NewTokens.{NewTokens}
-use Rattle.merged_members.specs.Laws.{HaveTokens}
+use Rattle.merge_plan.specs.declared.moved_parts.tokens.NewTokens.{NewTokens}
+use Rattle.merged_tables.specs.merged_members.Laws.{HaveTokens}
 use Rattle.restrict.specs.Rows.{output_from}
 use Rattle.restrict.proofs.rows.rows_of.Goals as goal
 

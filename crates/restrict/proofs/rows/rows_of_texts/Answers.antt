@@ -1,5 +1,5 @@
 use Rattle.std.proofs.Common.{◌∙◌}
-use Rattle.merged_texts.specs.Texts.{texts_in}
+use Rattle.merged_tables.specs.merged_texts.Texts.{texts_in}
 use Rattle.restrict.proofs.rows.rows_of_texts.Goals as goal
 
 pub returns : goal.returns

@@ -1,8 +1,8 @@
 use Rattle.std.proofs.Common.{List, ap, ◌∙◌}
 use Rattle.std.specs.List.{flat_map}
-use Rattle.link_rules.specs.declared.row_at.RowAt.{RowAt}
-use Rattle.file_layout.specs.Interning.{each_once}
-use Rattle.merge_rules.specs.Moved.{texts_of_method}
+use Rattle.rules.specs.declared.link_rules.row_at.RowAt.{RowAt}
+use Rattle.rules.specs.file_layout.Interning.{each_once}
+use Rattle.rules.specs.merge_rules.Moved.{texts_of_method}
 use Rattle.restrict.proofs.rows.texts_of.Goals as goal
 
 pub returns-clause-met : goal.returns-clause-met

@@ -1,6 +1,6 @@
 -- The depth counts down; among the calls at one depth each that is called by another has the lower rank.
 use Rattle.std.proofs.Common.{◌≡◌, ◌++◌, ◌+◌, ◌*◌, take}
-use Rattle.blob_grammar.specs.Signatures.{types_bytes}
+use Rattle.il_base.specs.blob_grammar.Signatures.{types_bytes}
 use Rattle.sig_blobs.proofs.put.+writing.Given as goal
 
 abbrev pub decreases-put_type : goal.decreases-put_type

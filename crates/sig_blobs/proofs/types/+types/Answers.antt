@@ -1,6 +1,6 @@
 use Rattle.std.proofs.Common.{arith}
 use Rattle.std.proofs.lemmas.Result.{err_from_is_err_and}
-use Rattle.blob_grammar.specs.Reading.{type_at, types_at}
+use Rattle.il_base.specs.blob_grammar.Reading.{type_at, types_at}
 use Rattle.sig_blobs.proofs.Loop.{goes_on, ends, is_done, opened}
 use Rattle.sig_blobs.proofs.types.+types.Goals as goal
 

@@ -1,6 +1,6 @@
 -- The depth counts down; among the calls at one depth each that is called by another has the lower rank.
 use Rattle.std.proofs.Common.{◌≡◌, ◌+◌, ◌-◌, ◌*◌}
-use Rattle.blob_grammar.specs.Reading.{type_at, types_at}
+use Rattle.il_base.specs.blob_grammar.Reading.{type_at, types_at}
 use Rattle.sig_blobs.proofs.Loop.{with_front}
 use Rattle.sig_blobs.proofs.types.+types.Given as goal
 

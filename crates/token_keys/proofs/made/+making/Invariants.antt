@@ -1,5 +1,5 @@
 use Rattle.std.proofs.Common.{◌≡◌, map, take}
-use Rattle.merge_rules.specs.Keys.{made_sig}
+use Rattle.rules.specs.merge_rules.Keys.{made_sig}
 use Rattle.token_keys.proofs.made.+making.Given as goal
 
 abbrev pub invariant-made_sigs-loop-ty : goal.invariant-made_sigs-loop-ty

@@ -1,6 +1,6 @@
 use Rattle.std.proofs.Common.{sym}
 use Rattle.token_keys.proofs.Plain.{plain_here, plain_gone}
-use Rattle.mark_tables.specs.Assemblies.{all_of, rec_of}
+use Rattle.mark_parts.specs.mark_tables.Assemblies.{all_of, rec_of}
 use Rattle.token_keys.proofs.members.is_plain.Goals as goal
 
 pub returns-in_default : goal.returns-in_default

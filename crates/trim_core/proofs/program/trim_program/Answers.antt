@@ -1,5 +1,5 @@
 use Rattle.std.proofs.Common.{Option, ap, subst, ◌∙◌}
-use Rattle.link_rules.specs.declared.row_at.RowAt.{RowAt}
+use Rattle.rules.specs.declared.link_rules.row_at.RowAt.{RowAt}
 use Rattle.trim_core.specs.Taken.{Bytes}
 use Rattle.trim_core.specs.Told.{entry_row}
 use Rattle.trim_core.specs.Trim.{TrimsProgram}

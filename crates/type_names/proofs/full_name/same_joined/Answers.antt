@@ -1,4 +1,4 @@
-use Rattle.type_rules.specs.Texts.{full_name_of}
+use Rattle.rules.specs.type_rules.Texts.{full_name_of}
 use Rattle.type_names.proofs.Comparing.{one_further}
 use Rattle.type_names.proofs.full_name.same_joined.Goals as goal
 

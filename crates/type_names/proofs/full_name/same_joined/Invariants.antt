@@ -1,6 +1,6 @@
 use Rattle.std.proofs.Common.{◌≡◌, drop}
-use Rattle.world_model.specs.Core.{same_name}
-use Rattle.type_rules.specs.Texts.{full_name_of}
+use Rattle.il_base.specs.world_model.Core.{same_name}
+use Rattle.rules.specs.type_rules.Texts.{full_name_of}
 use Rattle.type_names.proofs.full_name.same_joined.Given as goal
 
 abbrev pub invariant-loop-i : goal.invariant-loop-i

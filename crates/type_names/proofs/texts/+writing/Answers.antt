@@ -1,4 +1,4 @@
-use Rattle.type_rules.specs.Texts.{text}
+use Rattle.rules.specs.type_rules.Texts.{text}
 use Rattle.type_names.proofs.Joining.{one_more, all_joined}
 use Rattle.type_names.proofs.texts.+writing.Goals as goal
 

@@ -1,5 +1,5 @@
 use Rattle.std.proofs.Common.{◌≡◌, ◌++◌, map, drop}
-use Rattle.type_rules.specs.Texts.{text}
+use Rattle.rules.specs.type_rules.Texts.{text}
 use Rattle.type_names.proofs.Joining.{joined_behind}
 use Rattle.type_names.proofs.texts.+writing.Given as goal
 

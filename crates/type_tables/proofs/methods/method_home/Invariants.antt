@@ -1,5 +1,5 @@
 use Rattle.std.proofs.Common.{◌≡◌, drop}
-use Rattle.link_rules.specs.Members.{home_from, methods_in}
+use Rattle.rules.specs.link_rules.Members.{home_from, methods_in}
 use Rattle.type_tables.proofs.methods.method_home.Given as goal
 
 abbrev pub invariant-loop-a : goal.invariant-loop-a

@@ -1,5 +1,5 @@
 use Rattle.std.proofs.Common.{◌≡◌, ◌++◌, map, drop}
-use Rattle.world_model.specs.declared.members.MethodSemanticsRow.{MethodSemanticsRow}
+use Rattle.il_base.specs.declared.world_model.members.MethodSemanticsRow.{MethodSemanticsRow}
 use Rattle.type_tables.proofs.tables.associations.Given as goal
 
 abbrev pub invariant-loop-row : goal.invariant-loop-row

@@ -1,5 +1,5 @@
 use Rattle.std.proofs.Common.{◌≡◌, ◌++◌, map, drop}
-use Rattle.world_model.specs.declared.members.EventMapRow.{EventMapRow}
+use Rattle.il_base.specs.declared.world_model.members.EventMapRow.{EventMapRow}
 use Rattle.type_tables.proofs.tables.event_parents.Given as goal
 
 abbrev pub invariant-loop-row : goal.invariant-loop-row

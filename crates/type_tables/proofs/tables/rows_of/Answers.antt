@@ -1,4 +1,4 @@
-use Rattle.member_search.proofs.Zips.{zip_more}
+use Rattle.type_tables.proofs.lemmas.member_search.Zips.{zip_more}
 use Rattle.type_tables.specs.Tables.{AreRowTables}
 use Rattle.type_tables.proofs.tables.rows_of.Goals as goal
 

@@ -1,4 +1,4 @@
-use Rattle.body_graph.specs.Methods.{setting_in}
+use Rattle.value_flow.specs.body_graph.Methods.{setting_in}
 use Rattle.value_flow.proofs.Flowing.{within, reached_exactly}
 use Rattle.value_flow.proofs.flow.reached_of.Goals as goal
 

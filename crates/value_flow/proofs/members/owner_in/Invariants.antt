@@ -1,6 +1,6 @@
 use Rattle.std.proofs.Common.{◌≡◌, drop}
 use Rattle.std.specs.List.{position_from}
-use Rattle.link_rules.specs.Members.{owns_method}
+use Rattle.rules.specs.link_rules.Members.{owns_method}
 use Rattle.value_flow.proofs.members.owner_in.Given as goal
 
 abbrev pub invariant-loop-i : goal.invariant-loop-i

@@ -1,6 +1,6 @@
 use Rattle.std.proofs.Common.{◌≡◌, ◌++◌, drop, map}
-use Rattle.flow_rules.specs.Moves.{move_of, moves_of}
-use Rattle.body_graph.specs.Methods.{setting_in}
+use Rattle.value_flow.specs.flow_rules.Moves.{move_of, moves_of}
+use Rattle.value_flow.specs.body_graph.Methods.{setting_in}
 use Rattle.value_flow.specs.Numbers.{numbered_move}
 use Rattle.value_flow.proofs.parts.moves_of.Given as goal
 

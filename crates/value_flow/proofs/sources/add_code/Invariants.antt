@@ -1,9 +1,9 @@
 use Rattle.std.proofs.Common.{◌≡◌, drop}
 use Rattle.std.specs.List.{flat_map}
-use Rattle.link_rules.specs.Cycles.{add_all}
-use Rattle.flow_rules.specs.Sources.{same_source}
-use Rattle.flow_rules.specs.Moves.{sources_by}
-use Rattle.body_graph.specs.Methods.{setting_in}
+use Rattle.rules.specs.link_rules.Cycles.{add_all}
+use Rattle.value_flow.specs.flow_rules.Sources.{same_source}
+use Rattle.value_flow.specs.flow_rules.Moves.{sources_by}
+use Rattle.value_flow.specs.body_graph.Methods.{setting_in}
 use Rattle.value_flow.proofs.sources.add_code.Given as goal
 
 abbrev pub invariant-loop-i : goal.invariant-loop-i

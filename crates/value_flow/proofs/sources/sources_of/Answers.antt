@@ -1,4 +1,4 @@
-use Rattle.body_graph.specs.Methods.{setting_in}
+use Rattle.value_flow.specs.body_graph.Methods.{setting_in}
 use Rattle.value_flow.proofs.Looping.{all_listed}
 use Rattle.value_flow.proofs.sources.sources_of.Goals as goal
 

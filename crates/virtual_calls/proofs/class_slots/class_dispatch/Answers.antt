@@ -1,5 +1,5 @@
 use Rattle.std.proofs.Common.{sym, ◌∙◌}
-use Rattle.type_rules.specs.Dispatch.{class_method_in, class_dispatch}
+use Rattle.rules.specs.type_rules.Dispatch.{class_method_in, class_dispatch}
 use Rattle.virtual_calls.proofs.Walking.{walk_here, walk_next, walk_last, walk_none}
 use Rattle.virtual_calls.proofs.class_slots.class_dispatch.Goals as goal
 

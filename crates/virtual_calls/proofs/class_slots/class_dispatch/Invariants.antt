@@ -1,7 +1,7 @@
 use Rattle.std.proofs.Common.{◌≡◌, ◌-◌}
-use Rattle.link_rules.specs.Members.{bases_from}
-use Rattle.type_rules.specs.Slots.{nearest}
-use Rattle.type_rules.specs.Dispatch.{class_method_in}
+use Rattle.rules.specs.link_rules.Members.{bases_from}
+use Rattle.rules.specs.type_rules.Slots.{nearest}
+use Rattle.rules.specs.type_rules.Dispatch.{class_method_in}
 use Rattle.virtual_calls.proofs.class_slots.class_dispatch.Given as goal
 
 abbrev pub invariant-loop : goal.invariant-loop

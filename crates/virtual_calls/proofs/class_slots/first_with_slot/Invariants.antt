@@ -1,8 +1,8 @@
 use Rattle.std.proofs.Common.{◌≡◌, ℕ, ◌+◌, ◌-◌}
 use Rattle.std.specs.List.{range_with_len}
-use Rattle.link_rules.specs.Types.{at_row}
-use Rattle.type_rules.specs.Slots.{has_slot}
-use Rattle.type_rules.specs.Dispatch.{place_that}
+use Rattle.rules.specs.link_rules.Types.{at_row}
+use Rattle.rules.specs.type_rules.Slots.{has_slot}
+use Rattle.rules.specs.type_rules.Dispatch.{place_that}
 use Rattle.virtual_calls.proofs.class_slots.first_with_slot.Given as goal
 
 abbrev pub invariant-loop-i : goal.invariant-loop-i

@@ -1,7 +1,7 @@
 use Rattle.std.proofs.Common.{Option, sym, ap, ◌∙◌}
 use Rattle.std.specs.List.{list_any}
-use Rattle.link_rules.specs.declared.row_at.RowAt.{RowAt}
-use Rattle.link_rules.specs.Members.{with_bases}
+use Rattle.rules.specs.declared.link_rules.row_at.RowAt.{RowAt}
+use Rattle.rules.specs.link_rules.Members.{with_bases}
 use Rattle.virtual_calls.specs.Impls.{stands_at}
 use Rattle.virtual_calls.proofs.Walking.{any_here, any_next, any_last, any_none}
 use Rattle.virtual_calls.proofs.impls.have_method.Goals as goal

@@ -1,6 +1,6 @@
 use Rattle.std.proofs.Common.{◌≡◌, ◌-◌}
 use Rattle.std.specs.List.{list_any}
-use Rattle.link_rules.specs.Members.{bases_from}
+use Rattle.rules.specs.link_rules.Members.{bases_from}
 use Rattle.virtual_calls.specs.Impls.{stands_at}
 use Rattle.virtual_calls.proofs.impls.have_method.Given as goal
 

@@ -1,6 +1,6 @@
 use Rattle.std.proofs.Common.{◌≡◌, drop}
 use Rattle.std.specs.Prelude.{find}
-use Rattle.type_rules.specs.Dispatch.{is_closed_to}
+use Rattle.rules.specs.type_rules.Dispatch.{is_closed_to}
 use Rattle.virtual_calls.proofs.interface_slots.first_closed.Given as goal
 
 abbrev pub invariant-loop-e : goal.invariant-loop-e

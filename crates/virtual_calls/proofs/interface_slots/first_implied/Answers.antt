@@ -1,4 +1,4 @@
-use Rattle.type_rules.specs.Dispatch.{implied, is_closed_to}
+use Rattle.rules.specs.type_rules.Dispatch.{implied, is_closed_to}
 use Rattle.virtual_calls.proofs.Finding.{found_here, found_next}
 use Rattle.virtual_calls.proofs.interface_slots.first_implied.Goals as goal
 

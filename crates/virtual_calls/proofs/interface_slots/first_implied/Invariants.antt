@@ -1,7 +1,7 @@
 use Rattle.std.proofs.Common.{◌≡◌, drop}
 use Rattle.std.specs.Prelude.{find}
 use Rattle.std.specs.List.{flat_map}
-use Rattle.type_rules.specs.Dispatch.{implied, is_closed_to}
+use Rattle.rules.specs.type_rules.Dispatch.{implied, is_closed_to}
 use Rattle.virtual_calls.proofs.interface_slots.first_implied.Given as goal
 
 abbrev pub invariant-loop-e : goal.invariant-loop-e

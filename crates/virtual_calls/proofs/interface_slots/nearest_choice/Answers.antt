@@ -1,7 +1,7 @@
 use Rattle.std.proofs.Common.{◌≡◌, Option, sym, ap, ◌∙◌}
 use Rattle.std.specs.Option.{option_map}
-use Rattle.world_model.specs.declared.expr.TypeExpr.{TypeExpr}
-use Rattle.type_rules.specs.Dispatch.{Choice, choice_in}
+use Rattle.il_base.specs.declared.world_model.expr.TypeExpr.{TypeExpr}
+use Rattle.rules.specs.type_rules.Dispatch.{Choice, choice_in}
 use Rattle.virtual_calls.proofs.Walking.{walk_here, walk_next, walk_last, walk_none}
 use Rattle.virtual_calls.proofs.interface_slots.nearest_choice.Goals as goal
 

@@ -1,6 +1,6 @@
 use Rattle.std.proofs.Common.{◌≡◌, ◌-◌}
-use Rattle.link_rules.specs.Members.{bases_from}
-use Rattle.type_rules.specs.Slots.{nearest}
+use Rattle.rules.specs.link_rules.Members.{bases_from}
+use Rattle.rules.specs.type_rules.Slots.{nearest}
 use Rattle.virtual_calls.specs.Interfaces.{interface_look}
 use Rattle.virtual_calls.proofs.interface_slots.nearest_look.Given as goal
 

@@ -1,5 +1,5 @@
 use Rattle.std.proofs.Common.{◌≡◌, [], ◌++◌, map, drop}
-use Rattle.world_model.specs.Exprs.{subst}
+use Rattle.il_base.specs.world_model.Exprs.{subst}
 use Rattle.virtual_calls.proofs.interface_slots.subst_types.Given as goal
 
 abbrev pub invariant-loop-e : goal.invariant-loop-e

@@ -1,5 +1,5 @@
 use Rattle.std.proofs.Common.{sym, ◌∙◌}
-use Rattle.member_search.specs.Wanted.{look_for}
+use Rattle.type_tables.specs.member_search.Wanted.{look_for}
 use Rattle.virtual_calls.proofs.Walking.{walk_here, walk_next, walk_last, walk_none}
 use Rattle.virtual_calls.proofs.nearest.nearest_match.Goals as goal
 

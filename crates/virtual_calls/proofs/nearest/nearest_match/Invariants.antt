@@ -1,7 +1,7 @@
 use Rattle.std.proofs.Common.{◌≡◌, ◌-◌}
-use Rattle.link_rules.specs.Members.{bases_from}
-use Rattle.member_search.specs.Wanted.{look_for}
-use Rattle.type_rules.specs.Slots.{nearest}
+use Rattle.rules.specs.link_rules.Members.{bases_from}
+use Rattle.type_tables.specs.member_search.Wanted.{look_for}
+use Rattle.rules.specs.type_rules.Slots.{nearest}
 use Rattle.virtual_calls.proofs.nearest.nearest_match.Given as goal
 
 abbrev pub invariant-loop : goal.invariant-loop

@@ -1,5 +1,5 @@
 use Rattle.std.proofs.Common.{sym}
-use Rattle.member_search.specs.Wanted.{look_for}
+use Rattle.type_tables.specs.member_search.Wanted.{look_for}
 use Rattle.virtual_calls.proofs.Slotting.{above_none}
 use Rattle.virtual_calls.proofs.slots.nearest_above.Goals as goal
 

@@ -1,5 +1,5 @@
 use Rattle.std.proofs.Common.{◌≡◌, suc, ◌+◌, arith, sym, ◌∙◌}
-use Rattle.link_rules.specs.Members.{type_count}
+use Rattle.rules.specs.link_rules.Members.{type_count}
 use Rattle.virtual_calls.proofs.Slotting.{slot_next, slot_missing, slot_other, slot_new, slot_own, slot_none}
 use Rattle.virtual_calls.proofs.slots.slot_of.Goals as goal
 

@@ -1,5 +1,5 @@
 use Rattle.std.proofs.Common.{◌≡◌, ◌-◌}
-use Rattle.type_rules.specs.Slots.{slot_within}
+use Rattle.rules.specs.type_rules.Slots.{slot_within}
 use Rattle.virtual_calls.proofs.slots.slot_of.Given as goal
 
 abbrev pub invariant-loop : goal.invariant-loop

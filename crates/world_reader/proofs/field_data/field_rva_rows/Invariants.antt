@@ -1,8 +1,8 @@
 -- The rows so far.
 use Rattle.std.proofs.Common.{◌≡◌}
-use Rattle.cli_format.specs.Image.{metadata_of}
-use Rattle.record_format.specs.Cells.{first_rows}
-use Rattle.record_format.specs.Others.{field_rva_row}
+use Rattle.il_base.specs.cli_format.Image.{metadata_of}
+use Rattle.rules.specs.record_format.Cells.{first_rows}
+use Rattle.rules.specs.record_format.Others.{field_rva_row}
 use Rattle.world_reader.proofs.field_data.field_rva_rows.Given as goal
 
 abbrev pub invariant-loop-i : goal.invariant-loop-i

@@ -1,6 +1,6 @@
 use Rattle.std.proofs.Common.{◌≡◌, ◌∙◌, ap}
 use Rattle.std.proofs.lemmas.Result.{err_from_is_err_and}
-use Rattle.record_format.specs.Record.{record_at}
+use Rattle.rules.specs.record_format.Record.{record_at}
 use Rattle.world_reader.proofs.Demands.{refused_record, read_record_of}
 use Rattle.world_reader.proofs.record.read_record.Goals as goal
 

@@ -1,5 +1,5 @@
 use Rattle.std.proofs.Common.{◌≡◌, drop}
-use Rattle.link_rules.specs.Faults.{first_of, cyclic_type}
+use Rattle.rules.specs.link_rules.Faults.{first_of, cyclic_type}
 use Rattle.link_faults.proofs.cycles.Graphs.first_cyclic_in.Given as goal
 
 abbrev pub invariant-loop-at : goal.invariant-loop-at

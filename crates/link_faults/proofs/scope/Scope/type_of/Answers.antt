@@ -1,5 +1,5 @@
 use Rattle.std.proofs.Common.{sym, ap, ◌∙◌}
-use Rattle.link_rules.specs.Members.{good_type}
+use Rattle.rules.specs.link_rules.Members.{good_type}
 use Rattle.link_faults.proofs.Unsubstituted.{plain_expr}
 use Rattle.link_faults.proofs.scope.Scope.type_of.Goals as goal
 

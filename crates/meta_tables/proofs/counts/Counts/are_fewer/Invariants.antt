@@ -1,6 +1,6 @@
 -- Each table so far has fewer rows.
 use Rattle.std.proofs.Common.{◌≡◌, drop}
-use Rattle.cli_format.specs.Tables.{fewer}
+use Rattle.il_base.specs.cli_format.Tables.{fewer}
 use Rattle.meta_tables.proofs.counts.Counts.are_fewer.Given as goal
 
 abbrev pub invariant-loop-t : goal.invariant-loop-t

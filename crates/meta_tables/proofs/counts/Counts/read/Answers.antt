@@ -1,6 +1,6 @@
 -- One table more has its row count.
 use Rattle.std.proofs.Common.{◌≡◌, arith, length-set, ◌∙◌}
-use Rattle.cli_format.specs.Tables.{rows_of}
+use Rattle.il_base.specs.cli_format.Tables.{rows_of}
 use Rattle.meta_tables.proofs.Rows.{counting, rows_more}
 use Rattle.meta_tables.proofs.counts.Counts.read.Goals as goal
 

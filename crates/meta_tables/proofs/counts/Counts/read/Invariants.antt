@@ -1,6 +1,6 @@
 -- The tables so far have their row counts.
 use Rattle.std.proofs.Common.{◌≡◌, ◌+◌, ◌*◌, ◌≤◌, length}
-use Rattle.cli_format.specs.Tables.{count_place}
+use Rattle.il_base.specs.cli_format.Tables.{count_place}
 use Rattle.meta_tables.specs.Held.{AreRows}
 use Rattle.meta_tables.proofs.counts.Counts.read.Given as goal
 

@@ -1,6 +1,6 @@
 -- The total so far, with the widths that are left.
 use Rattle.std.proofs.Common.{◌≡◌, ◌+◌, ◌*◌, ◌≤◌, drop}
-use Rattle.cli_format.specs.Tables.{widths}
+use Rattle.il_base.specs.cli_format.Tables.{widths}
 use Rattle.meta_tables.proofs.counts.Counts.widths.Given as goal
 
 abbrev pub invariant-loop-column : goal.invariant-loop-column

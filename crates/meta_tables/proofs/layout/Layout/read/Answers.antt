@@ -1,6 +1,6 @@
 -- One table more has its place, and the next one begins where it ends.
 use Rattle.std.proofs.Common.{◌≡◌, ◌+◌, ◌<◌, length, get_or, arith, length-set, get_or-set_same, ◌∙◌}
-use Rattle.cli_format.specs.Tables.{table_place}
+use Rattle.il_base.specs.cli_format.Tables.{table_place}
 use Rattle.meta_tables.proofs.Rows.{place_more, places_more}
 use Rattle.meta_tables.proofs.layout.Layout.read.Goals as goal
 

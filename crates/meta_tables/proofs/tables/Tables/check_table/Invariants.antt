@@ -1,7 +1,7 @@
 -- What was looked at so far is there.
 use Rattle.std.proofs.Common.{◌≡◌, None}
-use Rattle.cli_format.specs.Demand.{first_fault, each_below}
-use Rattle.cli_format.specs.Metadata.{row_demands}
+use Rattle.il_base.specs.cli_format.Demand.{first_fault, each_below}
+use Rattle.il_base.specs.cli_format.Metadata.{row_demands}
 use Rattle.meta_tables.proofs.tables.Tables.check_table.Given as goal
 
 abbrev pub invariant-loop-r : goal.invariant-loop-r

@@ -1,7 +1,7 @@
 -- What was looked at so far is in order.
 use Rattle.std.proofs.Common.{◌≡◌, None}
-use Rattle.cli_format.specs.Demand.{first_fault, each_below}
-use Rattle.cli_format.specs.Metadata.{sort_demands}
+use Rattle.il_base.specs.cli_format.Demand.{first_fault, each_below}
+use Rattle.il_base.specs.cli_format.Metadata.{sort_demands}
 use Rattle.meta_tables.proofs.tables.Tables.check_table_sorted.Given as goal
 
 abbrev pub invariant-loop-r : goal.invariant-loop-r

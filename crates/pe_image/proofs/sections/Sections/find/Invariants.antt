@@ -1,6 +1,6 @@
 -- The RVA lies in none of the sections passed so far.
 use Rattle.std.proofs.Common.{◌≡◌, ◌-◌}
-use Rattle.cli_format.specs.Image.{sections_from, section_of, sections_of}
+use Rattle.il_base.specs.cli_format.Image.{sections_from, section_of, sections_of}
 use Rattle.pe_image.proofs.sections.Sections.find.Given as goal
 
 abbrev pub invariant-loop-i : goal.invariant-loop-i

@@ -1,5 +1,5 @@
 use Rattle.std.proofs.Common.{length, ap, ◌∙◌}
-use Rattle.world_model.specs.declared.record.AsmRec.{AsmRec}
+use Rattle.il_base.specs.declared.world_model.record.AsmRec.{AsmRec}
 use Rattle.type_names.proofs.ChainLemmas.{start, not_nested, nested}
 use Rattle.type_names.proofs.chain.Chain.of.Goals as goal
 

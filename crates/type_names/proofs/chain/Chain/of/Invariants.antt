@@ -1,5 +1,5 @@
 use Rattle.std.proofs.Common.{◌≡◌, ◌++◌, ◌-◌, length}
-use Rattle.type_rules.specs.Texts.{row_name}
+use Rattle.rules.specs.type_rules.Texts.{row_name}
 use Rattle.type_names.specs.Chains.{inner_names}
 use Rattle.type_names.proofs.chain.Chain.of.Given as goal
 

@@ -1,7 +1,7 @@
 use Rattle.std.proofs.Common.{List, slice_get, sym, ap, ◌∙◌}
 use Rattle.std.proofs.lemmas.Option.{slice_get_within}
-use Rattle.world_model.specs.declared.record.AsmRec.{AsmRec}
-use Rattle.link_rules.specs.Types.{at_row, is_added}
+use Rattle.il_base.specs.declared.world_model.record.AsmRec.{AsmRec}
+use Rattle.rules.specs.link_rules.Types.{at_row, is_added}
 use Rattle.type_names.proofs.Within.{none_added, id_found}
 use Rattle.type_names.proofs.names.TypeNames.type_along.Goals as goal
 

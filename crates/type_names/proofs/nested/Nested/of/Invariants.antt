@@ -2,7 +2,7 @@
 use Rattle.std.proofs.Common.{◌≡◌, ℕ, drop, nat_eq}
 use Rattle.std.specs.HashMap.{get}
 use Rattle.std.specs.Option.{unwrap_or}
-use Rattle.link_rules.specs.Types.{encloser_in}
+use Rattle.rules.specs.link_rules.Types.{encloser_in}
 use Rattle.type_names.proofs.nested.Nested.of.Given as goal
 
 abbrev pub invariant-loop-row : goal.invariant-loop-row

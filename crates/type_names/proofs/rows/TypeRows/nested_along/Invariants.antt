@@ -1,5 +1,5 @@
 use Rattle.std.proofs.Common.{◌≡◌, Some, drop}
-use Rattle.type_rules.specs.Searches.{nested_along}
+use Rattle.rules.specs.type_rules.Searches.{nested_along}
 use Rattle.type_names.proofs.rows.TypeRows.nested_along.Given as goal
 
 abbrev pub invariant-loop-name : goal.invariant-loop-name

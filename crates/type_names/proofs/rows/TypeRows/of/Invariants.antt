@@ -1,8 +1,8 @@
 -- The row that was kept, or else the one that the rest has.
 use Rattle.std.proofs.Common.{◌≡◌, drop}
 use Rattle.std.specs.HashMap.{get}
-use Rattle.link_rules.specs.Types.{or_else}
-use Rattle.type_rules.specs.Searches.{named_from, named_within}
+use Rattle.rules.specs.link_rules.Types.{or_else}
+use Rattle.rules.specs.type_rules.Searches.{named_from, named_within}
 use Rattle.type_names.specs.declared.full_name.FullName.{FullName}
 use Rattle.type_names.specs.FullNames.{name_of, same_full_name}
 use Rattle.type_names.proofs.rows.TypeRows.of.Given as goal

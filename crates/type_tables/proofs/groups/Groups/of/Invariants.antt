@@ -1,5 +1,5 @@
 use Rattle.std.proofs.Common.{◌≡◌, ℕ, ◌++◌, drop}
-use Rattle.member_search.specs.Names.{places}
+use Rattle.type_tables.specs.member_search.Names.{places}
 use Rattle.type_tables.specs.Groups.{is_key, rows_of}
 use Rattle.type_tables.proofs.groups.Groups.of.Given as goal
 

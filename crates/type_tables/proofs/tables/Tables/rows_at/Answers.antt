@@ -1,7 +1,7 @@
 use Rattle.std.proofs.Common.{◌≡◌, Some, refl, sym, ap, subst, ◌∙◌}
 use Rattle.std.specs.Prelude.{slice_get}
 use Rattle.std.specs.List.{AllZip}
-use Rattle.member_search.proofs.Zips.{zip_as_long, zip_at}
+use Rattle.type_tables.proofs.lemmas.member_search.Zips.{zip_as_long, zip_at}
 use Rattle.type_tables.specs.declared.tables.RowTables.{RowTables}
 use Rattle.type_tables.specs.Tables.{AreRowTables}
 use Rattle.type_tables.proofs.tables.Tables.rows_at.Goals as goal

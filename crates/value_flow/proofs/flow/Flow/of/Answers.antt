@@ -1,8 +1,8 @@
 use Rattle.std.proofs.Common.{◌≡◌, ap, ◌∙◌}
 use Rattle.std.specs.Prelude.{Some, IfSome}
-use Rattle.world_model.specs.declared.world.World.{World}
-use Rattle.flow_rules.specs.Methods.{setting_of}
-use Rattle.body_graph.specs.Methods.{setting_in}
+use Rattle.il_base.specs.declared.world_model.world.World.{World}
+use Rattle.value_flow.specs.flow_rules.Methods.{setting_of}
+use Rattle.value_flow.specs.body_graph.Methods.{setting_in}
 use Rattle.value_flow.proofs.Ending.{graph_of}
 use Rattle.value_flow.proofs.flow.Flow.of.Goals as goal
 

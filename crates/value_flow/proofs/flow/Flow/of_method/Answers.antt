@@ -1,5 +1,5 @@
 use Rattle.std.proofs.Common.{◌≡◌, ℕ, ◌≤◌, refl, ap, ◌∙◌, subst}
-use Rattle.body_graph.specs.Methods.{setting_in}
+use Rattle.value_flow.specs.body_graph.Methods.{setting_in}
 use Rattle.value_flow.specs.Flows.{slots_of, most_work, work_of}
 use Rattle.value_flow.proofs.Ending.{work_is, flow_exactly}
 use Rattle.value_flow.proofs.flow.Flow.of_method.Goals as goal

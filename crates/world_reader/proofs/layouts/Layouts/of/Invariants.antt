@@ -2,7 +2,7 @@
 use Rattle.std.proofs.Common.{◌≡◌, ℕ, drop}
 use Rattle.std.specs.HashMap.{get}
 use Rattle.std.specs.Prelude.{nat_eq}
-use Rattle.record_format.specs.Parts.{layout_size}
+use Rattle.rules.specs.record_format.Parts.{layout_size}
 use Rattle.world_reader.proofs.First.{or_else}
 use Rattle.world_reader.proofs.layouts.Layouts.of.Given as goal
 

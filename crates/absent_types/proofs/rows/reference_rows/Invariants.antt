@@ -1,6 +1,0 @@
-use Rattle.std.proofs.Common.{◌≡◌, ◌++◌, drop}
-use Rattle.absent_types.specs.Rows.{rows_from}
-use Rattle.absent_types.proofs.rows.reference_rows.Given as goal
-
-abbrev pub invariant-loop-a : goal.invariant-loop-a
-invariant-loop-a l = l.rows.items ++ rows_from l.a (drop l.a l.rec-items) ≡ rows_from 0 l.rec-items

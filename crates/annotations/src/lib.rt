@@ -1,7 +1,0 @@
-//! Which members of a type an annotation keeps: the set of `DynamicallyAccessedMembersAttribute`'s kinds, a number in, a set
-//! out, as `specs/Kinds` defines it.
-#![tactic(auto)]
-
-mod dam;
-
-pub use dam::Dam;

@@ -1,0 +1,6 @@
+//! Which members of a type an annotation keeps: the set of `DynamicallyAccessedMembersAttribute`'s kinds, a number in, a set
+//! out, as `specs/Kinds` defines it.
+
+mod dam;
+
+pub use dam::Dam;

@@ -1,8 +1,0 @@
-//! The types that the value of a custom attribute names (II.23.3). What goes in is a value, the types of a world by name
-//! (`type_names`) and the assembly from which names are looked up; what comes out are types, as `value_types` of
-//! `mark_rules/specs/Attributes` lists them.
-#![tactic(auto)]
-
-pub mod named;
-pub mod texts;
-pub mod values;

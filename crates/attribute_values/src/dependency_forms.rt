@@ -1,0 +1,5 @@
+//! Dependencies as code keeps them: what a custom attribute `DynamicDependencyAttribute` names, and lists of it. Contracts see
+//! them as `rules/specs/mark_rules/Annotations` has them (`specs/Told`).
+
+pub mod dependencies;
+pub mod dependency;

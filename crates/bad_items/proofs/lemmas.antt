@@ -1,0 +1,2 @@
+pub mod mark_flaws
+pub mod attribute_flaws

@@ -1,6 +1,0 @@
-//! Numbers, zeros and padding, put behind bytes. Which bytes these are is defined by `file_layout`'s `specs/Bytes`.
-#![tactic(auto)]
-
-mod bytes;
-
-pub use bytes::{next_multiple, pad, put_half, put_number, put_word, put_zeros};

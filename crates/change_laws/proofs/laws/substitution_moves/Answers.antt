@@ -1,8 +1,0 @@
-use Rattle.change_laws.proofs.Subst.{subst_moves, subst_stays}
-use Rattle.change_laws.proofs.laws.substitution_moves.Goals as goal
-
-pub returns-clause-moves : goal.returns-clause-moves
-returns-clause-moves c rho targs margs e = subst_moves rho targs margs e
-
-pub returns-clause-keeps : goal.returns-clause-keeps
-returns-clause-keeps c k targs margs ts ms e h = (subst_stays k targs margs ts ms e).kept h

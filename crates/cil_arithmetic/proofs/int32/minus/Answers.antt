@@ -1,8 +1,0 @@
-use Rattle.std.proofs.Common.{◌-ℤ◌}
-use Rattle.std.specs.Int.{w32}
-use Rattle.cil_arithmetic.proofs.Exact.{checked_by, passed}
-use Rattle.cil_arithmetic.proofs.int32.minus.Goals as goal
-
-pub returns : goal.returns
-returns c =
-    checked_by w32 _ _ c.checked_sub.result c.or_overflow.result (passed w32 (◌-ℤ◌) c.args.a c.args.b c.ranges.a c.ranges.b) c.checked_sub.ensures c.or_overflow.ensures

@@ -1,8 +1,0 @@
-use Rattle.std.proofs.Common.{◌+ℤ◌}
-use Rattle.std.specs.Int.{w64}
-use Rattle.cil_arithmetic.proofs.Exact.{checked_by, passed}
-use Rattle.cil_arithmetic.proofs.int64.plus.Goals as goal
-
-pub returns : goal.returns
-returns c =
-    checked_by w64 _ _ c.checked_add.result c.or_overflow.result (passed w64 (◌+ℤ◌) c.args.a c.args.b c.ranges.a c.ranges.b) c.checked_add.ensures c.or_overflow.ensures

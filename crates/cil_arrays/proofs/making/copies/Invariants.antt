@@ -1,5 +1,0 @@
-use Rattle.std.proofs.Common.{◌≡◌, replicate}
-use Rattle.cil_arrays.proofs.making.copies.Given as goal
-
-abbrev pub invariant-loop : goal.invariant-loop
-invariant-loop l = l.cells ≡ replicate l.counter l.v

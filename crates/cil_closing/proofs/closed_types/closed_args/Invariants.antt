@@ -1,8 +1,0 @@
-use Rattle.std.proofs.Common.{◌≡◌, ◌++◌, drop}
-use Rattle.std.specs.Option.{option_map}
-use Rattle.step_rules.specs.Closing.{all_of, closed_arg}
-use Rattle.cil_closing.proofs.closed_types.closed_args.Given as goal
-
-abbrev pub invariant-loop-one : goal.invariant-loop-one
-invariant-loop-one g l =
-    all_of (closed_arg (g.Q.Answers.queries l.q) l.targs l.margs) l.types ≡ option_map (λ rest. l.made ++ rest) (all_of (closed_arg (g.Q.Answers.queries l.q) l.targs l.margs) (drop l.one-index l.types))

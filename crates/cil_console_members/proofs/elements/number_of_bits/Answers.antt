@@ -1,6 +1,0 @@
-use Rattle.std.proofs.Common.{arith}
-use Rattle.cil_console_members.proofs.Bits.{number_read}
-use Rattle.cil_console_members.proofs.elements.number_of_bits.Goals as goal
-
-pub returns : goal.returns
-returns c = number_read c.args.code c.args.n c.cast_signed.result c.number.result (omega arith) c.cast_signed.ensures c.number.ensures

@@ -1,6 +1,0 @@
-use Rattle.cil_console_members.proofs.LineLemmas.{taken_line}
-use Rattle.cil_console_members.proofs.lines.line_of.Goals as goal
-
-pub returns-then-unit-eq-LINE_FEED : goal.returns-then-unit-eq-LINE_FEED
-returns-then-unit-eq-LINE_FEED c =
-    taken_line c.args.input.now c.loop-unit.input c.loop-unit.units c.pop.new.self c.in-Some.unit c.loop-unit.invariant c.in-Some.ensures c.if-unit-eq-LINE_FEED.true

@@ -1,7 +1,0 @@
-use Rattle.std.proofs.Common.{◌∙◌}
-use Rattle.cil_fields.proofs.Kept.{kept}
-use Rattle.cil_fields.proofs.static_fields.puts_global.Goals as goal
-
-pub returns : goal.returns
-returns c = λ vs.
-    c.goes.ensures ∙ kept c.args.body.now c.args.i.now c.args.st.now c.with_global.new.st c.args.a.now.id c.args.a.now.owner c.args.w.now vs c.in_ok-with_global.ensures

@@ -1,4 +1,0 @@
-use Rattle.cil_making.proofs.making.gives_object.Goals as goal
-
-pub returns : goal.returns
-returns c = λ bytes. c.in_ok-out.ensures bytes c.args.returned

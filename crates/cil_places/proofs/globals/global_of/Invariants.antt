@@ -1,7 +1,0 @@
-use Rattle.std.proofs.Common.{◌≡◌, drop}
-use Rattle.std.specs.List.{find}
-use Rattle.step_rules.specs.Places.{is_global}
-use Rattle.cil_places.proofs.globals.global_of.Given as goal
-
-abbrev pub invariant-loop-g : goal.invariant-loop-g
-invariant-loop-g l = find (is_global l.field l.owner) (drop l.g-index l.st.statics) ≡ find (is_global l.field l.owner) l.st.statics

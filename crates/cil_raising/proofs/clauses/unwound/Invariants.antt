@@ -1,6 +1,0 @@
-use Rattle.std.proofs.Common.{◌≡◌, drop}
-use Rattle.step_rules.specs.Raising.{is_unwound, places_of}
-use Rattle.cil_raising.proofs.clauses.unwound.Given as goal
-
-abbrev pub invariant-loop-n : goal.invariant-loop-n
-invariant-loop-n l = l.places ≡ places_of (is_unwound l.at) l.n (drop l.n l.clauses)

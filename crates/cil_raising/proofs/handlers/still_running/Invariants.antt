@@ -1,9 +1,0 @@
-use Rattle.std.proofs.Common.{◌≡◌, reverse}
-use Rattle.std.specs.Prelude.{slice_get}
-use Rattle.std.specs.List.{filter}
-use Rattle.cil_values.specs.declared.frame.Running.{Running}
-use Rattle.step_rules.specs.Raising.{is_in}
-use Rattle.cil_raising.proofs.handlers.still_running.Given as goal
-
-abbrev pub invariant-loop-r : goal.invariant-loop-r
-invariant-loop-r l = l.left ≡ filter (λ (r : Running). is_in (slice_get l.code.clauses r.clause) l.at) (reverse l.yielded)

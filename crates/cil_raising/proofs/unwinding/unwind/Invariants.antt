@@ -1,9 +1,0 @@
-use Rattle.std.proofs.Common.{◌≡◌, ℕ, length}
-use Rattle.step_rules.specs.Raising.{unwind_to, unwind}
-use Rattle.cil_raising.proofs.unwinding.unwind.Given as goal
-
-abbrev pub invariant-loop-body : goal.invariant-loop-body
-invariant-loop-body g l = unwind_to (g.Q.Answers.queries l.q) l.u l.st l.st.below ≡ unwind (g.Q.Answers.queries l.q) l.fn.u l.fn.st
-
-abbrev pub decreases-loop-body : goal.decreases-loop-body
-decreases-loop-body g l = length l.st.below

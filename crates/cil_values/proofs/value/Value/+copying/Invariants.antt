@@ -1,5 +1,0 @@
-use Rattle.std.proofs.Common.{◌≡◌, take}
-use Rattle.cil_values.proofs.value.Value.+copying.Given as goal
-
-abbrev pub invariant-copy_all-loop-one : goal.invariant-copy_all-loop-one
-invariant-copy_all-loop-one l = l.copies ≡ take l.one-index l.values

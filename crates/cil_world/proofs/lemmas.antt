@@ -1,0 +1,6 @@
+pub mod world_core
+pub mod world_code
+pub mod world_methods
+pub mod world_definitions
+pub mod world_types
+pub mod world_layouts

@@ -1,0 +1,166 @@
+//! The questions on closed types.
+
+ghost use Rattle.std.specs.Prelude.{◌≡◌, IfOk};
+ghost use Rattle.il_base.specs.declared.core_table.names.CoreName.TheVariants as core;
+ghost use Rattle.rules.specs.link_rules.Members.{with_bases};
+ghost use Rattle.rules.specs.type_rules.Subtypes.{is_subtype};
+ghost use Rattle.rules.specs.type_rules.Texts.{text};
+ghost use Rattle.type_tables.specs.Tables.{IsTables};
+ghost use Rattle.rules.specs.view_rules.Members.{core_call};
+ghost use Rattle.rules.specs.view_rules.Answers.{core_type_id, core_method_id, answers_query, nearest_core};
+
+use crate::world_core::{core_call, core_type_row};
+use crate::world_types::core_rows::CoreRows;
+use crate::world_types::owners::with_owner;
+use crate::world_types::{bases, kin};
+use il_base::cil_values::CoreCall;
+use il_base::core_table::CoreName;
+use il_base::world_model::{AsmRec, MethodUse, TypeExpr, World};
+use il_base::{MethodId, NoMemory, Text};
+use std::alloc::Global;
+use std::marker::Model;
+use type_names::TypeNames;
+use type_tables::subtypes::relation;
+use type_tables::tables::Tables;
+use virtual_calls::dispatch::dispatch;
+use virtual_calls::slots::Slots;
+
+/// A world with what questions on its closed types are answered by, made once. Contracts see the world, which a link gave.
+#[derive(Drop)]
+pub struct ClosedTypes<'w> {
+    tables: Tables<'w>,
+    slots: Slots,
+    names: TypeNames<'w>,
+    core: CoreRows,
+}
+
+impl<'w> Model for ClosedTypes<'w> {
+    ghost use Rattle.std.specs.Prelude.{◌≡◌};
+    ghost use Rattle.il_base.specs.declared.world_model.world.World.{World};
+    ghost use Rattle.il_base.specs.contracts.world_model.world.World as whole;
+    ghost use Rattle.type_tables.specs.Tables.{IsTables};
+    ghost use Rattle.virtual_calls.specs.Slots.{AreSlots};
+    ghost use Rattle.cil_world.specs.world_types.CoreRows.{AreCoreRows};
+
+    ghost Value = { World };
+
+    ghost coded = { whole.the_row.coded };
+
+    ghost view = { λ t. t.tables.world.now };
+
+    ghost invariant = { λ t. IsTables t.tables × AreSlots t.tables.world.now.recs t.slots × (t.names ≡ t.tables.world.now.recs) × AreCoreRows t.tables.world.now.recs t.core };
+}
+
+impl<'w> ClosedTypes<'w> {
+    /// The types of a world whose tables are made.
+    pub fn of(alloc: Global, tables: Tables<'w>) -> Result<ClosedTypes<'w>, NoMemory>
+        requires { IsTables tables }
+        ensures { IfOk result (λ types. types ≡ tables.entry.world.now) }
+    {
+        let Ok(slots) = Slots::of(alloc, &tables) else {
+            return Err(NoMemory);
+        };
+        let Ok(names) = TypeNames::of(alloc, tables.world.recs.as_slice()) else {
+            return Err(NoMemory);
+        };
+        let Ok(core) = CoreRows::of(tables.world.recs.as_slice()) else {
+            return Err(NoMemory);
+        };
+        Ok(ClosedTypes {
+            tables,
+            slots,
+            names,
+            core,
+        })
+    }
+
+    /// The assemblies of the world, the last of which is the core library.
+    pub fn recs(&self) -> &[AsmRec]
+        ensures { result.now ≡ self.now.recs }
+    {
+        self.tables.world.recs.as_slice()
+    }
+
+    /// The member of the core library that a method is. None for a method of an input, and for an abstract one.
+    pub fn core_call(&self, method: u32) -> Option<CoreCall>
+        ensures { result ≡ core_call self.now.recs method }
+    {
+        core_call(self.tables.world, MethodId(method))
+    }
+
+    /// The id of a type of the core library.
+    #[tactic(auto, using(crate::proofs::lemmas::world_types::Rows::row_within))]
+    pub fn known(&self, name: CoreName) -> u32
+        ensures { result ≡ core_type_id self.now.recs name }
+    {
+        self.core.types + core_type_row(name)
+    }
+
+    /// The id of Object.ToString().
+    pub fn to_string(&self) -> u32
+        ensures { result ≡ core_method_id self.now.recs core.ToString }
+    {
+        self.core.to_string
+    }
+
+    /// The id of Object.Equals(object).
+    pub fn equals(&self) -> u32
+        ensures { result ≡ core_method_id self.now.recs core.Equals }
+    {
+        self.core.equals
+    }
+
+    /// Whether the first type can stand for the second (I.8.7).
+    pub fn is_subtype(&self, alloc: Global, a: &TypeExpr, b: &TypeExpr) -> Result<bool, NoMemory>
+        ensures { IfOk result (λ yes. yes ≡ is_subtype self.now.recs a.now b.now) }
+    {
+        relation::is_subtype(alloc, &self.tables, a, b)
+    }
+
+    /// The method that a virtual call runs for an object of a type, by its id, with the closed type in which it was found
+    /// (II.12.2). `owner` is the closed owner of the called method.
+    #[tactic(auto, unfolding(rules::specs::view_rules::Answers::answers_query))]
+    pub fn answers(
+        &self,
+        alloc: Global,
+        ty: &TypeExpr,
+        owner: &TypeExpr,
+        method: u32,
+    ) -> Result<Option<MethodUse>, NoMemory>
+        ensures { IfOk result (λ found. found ≡ answers_query self.now.recs ty.now owner.now method) }
+    {
+        match dispatch(
+            alloc,
+            &self.tables,
+            &self.slots,
+            ty,
+            owner,
+            MethodId(method),
+        ) {
+            Ok(Some(found)) => with_owner(alloc, &self.tables, ty, found),
+            Ok(None) => Ok(None),
+            Err(error) => Err(error),
+        }
+    }
+
+    /// The text of a type, in UTF-8.
+    pub fn text(&self, alloc: Global, ty: &TypeExpr) -> Result<Text, NoMemory>
+        ensures { IfOk result (λ t. t ≡ text self.now.recs ty.now) }
+    {
+        self.names.text(alloc, ty)
+    }
+
+    /// The nearest type of the core library among a type and its bases.
+    pub fn kin(&self, alloc: Global, ty: &TypeExpr) -> Result<Option<CoreName>, NoMemory>
+        ensures { IfOk result (λ name. name ≡ nearest_core self.now.recs (with_bases self.now.recs ty.now)) }
+    {
+        kin::kin(alloc, &self.tables, ty)
+    }
+
+    /// A type and its bases, the nearest first.
+    pub fn with_bases(&self, alloc: Global, ty: &TypeExpr) -> Result<Vec<TypeExpr>, NoMemory>
+        ensures { IfOk result (λ types. types.items ≡ with_bases self.now.recs ty.now) }
+    {
+        bases::with_bases(alloc, &self.tables, ty)
+    }
+}

@@ -1,0 +1,1 @@
+pub mod queued_closure

@@ -1,9 +1,0 @@
-//! The constructors of attributes that are written (II.22.10): in go an assembly of a world with what its tokens have keys by
-//! (`token_keys`) and the token of a constructor; out comes the key by which the output names it, or nothing where the attribute is left
-//! out. `merge_rules/specs/Attributes` defines it (`constructor_key`).
-#![tactic(auto)]
-
-mod absent;
-mod constructors;
-
-pub use constructors::constructor_key;

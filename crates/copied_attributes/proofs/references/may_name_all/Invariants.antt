@@ -1,7 +1,0 @@
-use Rattle.std.proofs.Common.{◌≡◌, drop}
-use Rattle.std.specs.List.{list_all}
-use Rattle.merge_rules.specs.Attributes.{may_name}
-use Rattle.copied_attributes.proofs.references.may_name_all.Given as goal
-
-abbrev pub invariant-loop-token : goal.invariant-loop-token
-invariant-loop-token l = list_all (may_name l.index.all.now l.a l.rec) (drop l.token-index l.tokens) ≡ list_all (may_name l.index.all.now l.a l.rec) l.tokens

@@ -1,6 +1,0 @@
-use Rattle.std.proofs.Common.{◌≡◌, drop}
-use Rattle.link_rules.specs.Types.{forwarder_in}
-use Rattle.core_names.proofs.forwarding.forwarder_in.Given as goal
-
-abbrev pub invariant-loop-row : goal.invariant-loop-row
-invariant-loop-row l = forwarder_in l.namespace l.name (drop l.row-index l.rows) ≡ forwarder_in l.namespace l.name l.rows

@@ -1,8 +1,0 @@
-use Rattle.std.proofs.Common.{◌≡◌, ◌++◌, take}
-use Rattle.std.specs.List.{flat_map}
-use Rattle.world_model.specs.declared.members.MethodSpecRow.{MethodSpecRow}
-use Rattle.link_rules.specs.CoreNames.{in_good, modifiers_of}
-use Rattle.core_names.proofs.modifiers.in_instances.Given as goal
-
-abbrev pub invariant-loop-row : goal.invariant-loop-row
-invariant-loop-row l = l.tokens.items ≡ l.initial.tokens.items ++ flat_map (λ (r : MethodSpecRow). in_good modifiers_of r.instantiation) (take l.row-index l.rows)

@@ -1,7 +1,0 @@
-use Rattle.std.proofs.Common.{◌≡◌, ◌++◌, drop, map}
-use Rattle.std.specs.List.{flat_map}
-use Rattle.core_scopes.specs.CoreRefs.{told, core_refs_of}
-use Rattle.core_scopes.proofs.core_refs.push_refs.Given as goal
-
-abbrev pub invariant-loop-row : goal.invariant-loop-row
-invariant-loop-row l = map told l.refs.items ++ flat_map (core_refs_of l.index.all.now l.rec) (drop l.row-index l.row-items) ≡ map told l.initial.refs.items ++ flat_map (core_refs_of l.index.all.now l.rec) l.row-items

@@ -1,6 +1,0 @@
-use Rattle.std.proofs.Common.{◌≡◌, ◌++◌, drop}
-use Rattle.core_table.specs.Record.{all_methods}
-use Rattle.core_table.proofs.rows.all_methods.Given as goal
-
-abbrev pub invariant-loop-ty : goal.invariant-loop-ty
-invariant-loop-ty l = l.rows ++ all_methods (drop l.ty-index l.types) ≡ all_methods l.types

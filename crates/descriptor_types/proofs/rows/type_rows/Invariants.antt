@@ -1,8 +1,0 @@
-use Rattle.std.proofs.Common.{◌≡◌, ℕ, List, drop}
-use Rattle.link_rules.specs.Types.{or_else}
-use Rattle.mark_tables.specs.Assemblies.{rec_of}
-use Rattle.descriptor_types.specs.Rows.{row_in, first_from}
-use Rattle.descriptor_types.proofs.rows.type_rows.Given as goal
-
-abbrev pub invariant-loop-k : goal.invariant-loop-k
-invariant-loop-k l = (q : List ℕ) → or_else (row_in l.rows q) (first_from (rec_of l.asm) q l.k (drop l.k l.types)) ≡ first_from (rec_of l.asm) q 0 l.types

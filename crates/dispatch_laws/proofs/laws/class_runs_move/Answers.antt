@@ -1,6 +1,0 @@
-use Rattle.dispatch_laws.proofs.Classes.{class_moved}
-use Rattle.dispatch_laws.proofs.laws.class_runs_move.Goals as goal
-
-pub returns : goal.returns
-returns c k kept p after before r keeps apart impls later earlier whole_after whole_before e slot m h kept_slot there g =
-    class_moved k kept p after before r keeps apart impls later earlier whole_after whole_before slot kept_slot m there e h g

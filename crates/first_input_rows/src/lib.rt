@@ -1,7 +1,0 @@
-//! The rows of the first input that stay in the output: its Module and Assembly rows, and its flags in the CLI header (II.22.30,
-//! II.22.2, II.25.3.3.1). `merge_rules/specs/Restricted` defines them.
-#![tactic(auto)]
-
-pub mod assemblies;
-pub mod header;
-pub mod modules;

@@ -1,7 +1,0 @@
-//! Where each key of a list stands first. Keys go in, and a map that is made once; a look-up takes no memory.
-#![tactic(auto)]
-
-mod near;
-mod places;
-
-pub use places::Places;

@@ -1,9 +1,0 @@
-use Rattle.flaw_laws.proofs.Listing.{found}
-use Rattle.flaw_laws.proofs.There.{rows_there}
-use Rattle.flaw_laws.proofs.laws.flaws_told.Goals as goal
-
-pub returns-clause-first : goal.returns-clause-first
-returns-clause-first c = λ w is there entry roots have tells. found w (c.homes_told.ensures.items w is) there entry roots have tells
-
-pub returns-clause-there : goal.returns-clause-there
-returns-clause-there c = rows_there

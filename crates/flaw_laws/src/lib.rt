@@ -1,5 +1,0 @@
-//! Laws: the first bad item of a marked set (`mark_rules/specs/BadItems`) is the least of a list of flaws, which is made item
-//! by item and row by row. Nothing goes in or comes out.
-#![tactic(auto)]
-
-pub mod laws;

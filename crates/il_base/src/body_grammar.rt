@@ -1,0 +1,12 @@
+//! The grammars of blobs and method bodies: which bytes spell which value, and where bytes that spell none go wrong.
+//! The definitions stand in `specs`; here is the data that they and the readers share.
+
+mod body;
+mod body_laws;
+
+pub use crate::outside::{BODY, FILTER, FLOAT, INSTRUCTION};
+pub use body::{Fault, Header, Inline, Range, Row};
+pub use body_laws::{
+    fault_is_first, read_body_is_spelled, spelled_body_is_read, written_body_is_read,
+    written_body_is_spelled,
+};

@@ -1,0 +1,87 @@
+use crate::core_table::CoreName;
+
+/// What `Console.Write` and `Console.WriteLine` take.
+#[derive(Clone, Copy, Debug, PartialEq, Eq)]
+pub enum Printed {
+    OfString,
+    /// An int or a long.
+    OfNumber,
+    OfBool,
+    OfChar,
+    OfObject,
+}
+
+/// The members of the core library that a program can call, by what they do. Several members of the table can be one here.
+#[derive(Clone, Copy, Debug, PartialEq, Eq)]
+pub enum CoreCall {
+    /// Ends the run as Stopped: GetHashCode; Equals of ValueType and Enum; ToString of Enum and Exception.
+    Halts,
+    /// Does nothing: the constructors of Object and Attribute, Finalize.
+    Idle,
+    /// Object.ToString().
+    TypeName,
+    /// Object.Equals(object).
+    IsObject,
+    /// The static Object.Equals(object, object).
+    AreEqual,
+    /// Object.ReferenceEquals(object, object).
+    SameReference,
+    /// ToString() of Boolean, Char or an integer, by its element type.
+    NumberText(u8),
+    /// Equals(object) of Boolean, Char or an integer, by its element type.
+    NumberIs(u8),
+    /// Int32.Equals(int).
+    IntEquals,
+    /// Int32.CompareTo(int).
+    IntCompare,
+    /// Int32.Parse(string).
+    IntParse,
+    /// String.get_Length().
+    StringLength,
+    /// String.get_Chars(int).
+    StringUnit,
+    /// String.Concat of 2, 3 or 4.
+    StringConcat,
+    /// String.op_Equality, String.Equals(string).
+    StringSame,
+    /// String.op_Inequality.
+    StringOther,
+    /// String.Equals(object).
+    StringIs,
+    /// String.ToString().
+    StringItself,
+    /// String.Substring(int).
+    StringFrom,
+    /// String.Substring(int, int).
+    StringPart,
+    /// String.IndexOf(char).
+    StringIndex,
+    /// String.IsNullOrEmpty(string).
+    StringIsEmpty,
+    /// String.CompareOrdinal(string, string).
+    StringCompare,
+    /// Array.get_Length().
+    ArrayLength,
+    /// Console.Write, or Console.WriteLine where the line ends, and what is printed.
+    Prints(bool, Printed),
+    /// Console.WriteLine().
+    PrintsLineEnd,
+    /// Console.ReadLine().
+    ReadLine,
+    /// Console.Read().
+    ReadUnit,
+    /// .ctor() of an exception.
+    ExceptionPlain,
+    /// .ctor(string) of an exception.
+    ExceptionText,
+    /// .ctor(string, Exception) of an exception.
+    ExceptionInner,
+    /// .ctor(string) of an exception that takes a parameter's name.
+    ExceptionParameter(CoreName),
+    /// Exception.get_Message().
+    GetMessage,
+    /// Exception.get_InnerException().
+    GetInner,
+    /// RuntimeHelpers.InitializeArray.
+    FillArray,
+}

@@ -1,8 +1,0 @@
--- The dependencies that a row of CustomAttribute gives to whatever it belongs to.
-use Rattle.std.specs.Prelude.{ℕ, List, [], if◌then◌else◌}
-use Rattle.world_model.specs.declared.extras.CustomAttributeRow.{CustomAttributeRow}
-use Rattle.world_model.specs.declared.record.AsmRec.{AsmRec}
-use Rattle.mark_rules.specs.Annotations.{Dependency, is_called, dynamic_dependency, dependencies_of_row}
-
-abbrev pub if_called : List AsmRec → ℕ → AsmRec → CustomAttributeRow → List Dependency
-if_called recs a rec row = if is_called rec dynamic_dependency row then dependencies_of_row recs a rec row else []

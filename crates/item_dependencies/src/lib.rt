@@ -1,8 +1,0 @@
-//! The dependencies that custom attributes give a method or a field. What goes in is a world with what its attributes are read by
-//! (`mark_tables`, `attribute_values`) and an item; what comes out are its dependencies (`dependency_forms`), as
-//! `mark_rules/specs/Annotations` lists them.
-#![tactic(auto)]
-
-mod arguments;
-pub mod items;
-mod rows;

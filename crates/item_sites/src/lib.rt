@@ -1,6 +1,0 @@
-//! The sites of types, of their fields, interface rows, properties and events, and of the signatures and locals of methods. A world with
-//! what is made of it (`mark_tables`) and a row go in; the sites come out, as `site_rules/specs/Types` and `Bodies` list them.
-#![tactic(auto)]
-
-pub mod heads;
-pub mod types;

@@ -1,4 +1,0 @@
-//! Laws: what parts of kept items name of the core library is in the world of a merge's output. Nothing goes in or comes out.
-#![tactic(auto)]
-
-pub mod laws;

@@ -1,8 +1,0 @@
-use Rattle.std.proofs.Common.{◌≡◌, ◌++◌, map, drop}
-use Rattle.type_rules.specs.Rows.{each_from}
-use Rattle.kept_tables.specs.Order.{sorted_of}
-use Rattle.kept_tables.specs.Tables.{constraint_by}
-use Rattle.kept_tables.proofs.constraints.push_constraints.Given as goal
-
-abbrev pub invariant-loop-k : goal.invariant-loop-k
-invariant-loop-k l = map sorted_of l.rows.items ++ each_from (constraint_by l.params l.asm) l.k (drop l.k l.row-items) ≡ map sorted_of l.initial.rows.items ++ each_from (constraint_by l.params l.asm) 0 l.row-items

@@ -1,7 +1,0 @@
-use Rattle.std.proofs.Common.{◌≡◌, ◌++◌, drop}
-use Rattle.std.specs.List.{flat_map}
-use Rattle.link_faults.specs.Codes.{type_code}
-use Rattle.key_codes.proofs.exprs.+coding.Given as goal
-
-abbrev pub invariant-add_exprs-loop-ty : goal.invariant-add_exprs-loop-ty
-invariant-add_exprs-loop-ty l = l.code.items ++ flat_map type_code (drop l.ty-index l.types) ≡ l.initial.code.items ++ flat_map type_code l.types

@@ -1,7 +1,0 @@
-use Rattle.std.proofs.Common.{◌≡◌, ◌++◌, drop}
-use Rattle.std.specs.List.{flat_map}
-use Rattle.merge_rules.specs.Refs.{type_of_number}
-use Rattle.key_types.proofs.types.push_numbered.Given as goal
-
-abbrev pub invariant-loop-number : goal.invariant-loop-number
-invariant-loop-number l = l.types.items ++ flat_map type_of_number (drop l.number-index l.numbers) ≡ l.initial.types.items ++ flat_map type_of_number l.numbers

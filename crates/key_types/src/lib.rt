@@ -1,5 +1,0 @@
-//! The types in keys: in go signatures over the types of the world (II.23.2) and keys of types (`key_codes`), out come the types that
-//! stand in them, in order. `merge_rules/specs/Refs` defines them (`types_of_sig`, `types_of_key`).
-#![tactic(auto)]
-
-pub mod types;

@@ -1,5 +1,0 @@
-//! Laws: the links of all type tokens of several assemblies tell what each token and each signature names. `link_rules`
-//! says what they name.
-#![tactic(auto)]
-
-pub mod laws;

@@ -1,5 +1,0 @@
-//! Laws of calls: where two worlds agree, calls, new objects, prefixes and returns keep step. The law is the contract of a function
-//! with an empty body.
-#![tactic(auto)]
-
-pub mod laws;

@@ -1,5 +1,0 @@
-//! Laws of fields and texts: where two worlds agree, accesses to fields keep step, and so does `ldstr`. The law is the contract of a
-//! function with an empty body.
-#![tactic(auto)]
-
-pub mod laws;

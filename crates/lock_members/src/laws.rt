@@ -1,6 +1,0 @@
-ghost use Rattle.lock_members.specs.Laws.{MembersLock};
-
-/// A law: a call of each member of the core library keeps step. It does nothing.
-pub fn members_lock()
-    ensures { MembersLock }
-{}

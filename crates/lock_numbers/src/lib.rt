@@ -1,5 +1,0 @@
-//! Laws of numbers: where two worlds agree, arithmetic, comparisons, conversions and branches keep step. The law is the contract of
-//! a function with an empty body.
-#![tactic(auto)]
-
-pub mod laws;

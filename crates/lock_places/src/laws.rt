@@ -1,6 +1,0 @@
-ghost use Rattle.lock_places.specs.Laws.{IndirectLock};
-
-/// A law: places are read and written alike, and loads and stores through pointers keep step. It does nothing.
-pub fn indirect_lock()
-    ensures { IndirectLock }
-{}

@@ -1,9 +1,0 @@
-use Rattle.lock_steps.proofs.Running as running
-use Rattle.lock_steps.proofs.Beginning as beginning
-use Rattle.lock_steps.proofs.laws.runs_lock.Goals as goal
-
-pub returns-clause-steps : goal.returns-clause-steps
-returns-clause-steps c k q' q a n s cs = running.run_moved k q' q a n s cs
-
-pub returns-clause-entry : goal.returns-clause-entry
-returns-clause-entry c k q' q a m h bytes n = beginning.run_from_moved k q' q a m h bytes n

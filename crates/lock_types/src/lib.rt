@@ -1,5 +1,0 @@
-//! Laws of types and vectors: where two worlds agree, casts, boxes, handles, and the forms on arrays keep step. The law is the
-//! contract of a function with an empty body.
-#![tactic(auto)]
-
-pub mod laws;

@@ -1,4 +1,0 @@
-//! Laws of the words in which the forms of instruction are written: where two worlds agree, each word keeps step.
-#![tactic(auto)]
-
-pub mod laws;

@@ -1,0 +1,2 @@
+pub mod cil_invoking
+pub mod cil_returns

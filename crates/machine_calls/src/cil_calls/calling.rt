@@ -1,0 +1,172 @@
+//! `call` and `callvirt`.
+
+ghost use Rattle.std.specs.Prelude.{◌≡◌, [], IfOk};
+ghost use Rattle.rules.specs.step_rules.Words.{given, taken};
+ghost use Rattle.rules.specs.step_rules.Dispatch.{slots_of};
+ghost use Rattle.rules.specs.step_rules.Calls.{by_prefix, call, calls, may_call, received, receives, with_args};
+ghost use Rattle.machine_words.specs.cil_closing.Callees.{callee_by};
+ghost use Rattle.machine_words.specs.cil_words.Steps.{here_by, next_of};
+
+use crate::cil_calls::constrained::constrained_on;
+use crate::cil_calls::receiving::{call_on, call_virtual};
+use crate::cil_invoking::{
+    Operand, begun_for, first_and_rest, method_operand, runs, take_prefix, take_values,
+};
+use il_base::cil_values::{Instruction, Prefix, State, Value};
+use il_base::{NoMemory, Seq, opcode};
+use machine_frames::cil_dispatch::{is_abstract, slots_of};
+use machine_words::cil_closing::Callee;
+use machine_words::cil_queries::Answers;
+use machine_words::cil_words::{Body, StepOut, stopped, stuck};
+use std::alloc::Global;
+
+/// `callvirt`, with the prefix as it was at the instruction.
+fn by_prefix<Q: Answers>(
+    alloc: Global,
+    q: &Q,
+    body: &Body,
+    i: &Instruction,
+    c: &Callee,
+    values: Seq<Value>,
+    prefix: Prefix,
+    this: Value,
+    st: &mut State,
+    printed: &mut Vec<u8>,
+) -> Result<StepOut, NoMemory>
+    requires { printed.old.items ≡ [] }
+    ensures { IfOk result (λ out. next_of out st.new printed.new.items ≡ by_prefix (Q.queries q.now) (here_by body.now st.old) i.now (callee_by c.now) values st.old prefix this) }
+{
+    match prefix {
+        Prefix::Constrained(ty) => {
+            let out = constrained_on(alloc, q, body, i, c, values, &ty, this, st, printed)?;
+            drop(ty);
+            Ok(out)
+        }
+        Prefix::None => call_virtual(alloc, q, body, i, c, values, this, st, printed),
+        Prefix::Readonly => call_virtual(alloc, q, body, i, c, values, this, st, printed),
+    }
+}
+
+/// A method that takes `this` is called on a value.
+fn receives<Q: Answers>(
+    alloc: Global,
+    q: &Q,
+    body: &Body,
+    i: &Instruction,
+    c: &Callee,
+    values: Seq<Value>,
+    prefix: Prefix,
+    this: Value,
+    st: &mut State,
+    printed: &mut Vec<u8>,
+) -> Result<StepOut, NoMemory>
+    requires { printed.old.items ≡ [] }
+    ensures { IfOk result (λ out. next_of out st.new printed.new.items ≡ receives (Q.queries q.now) (here_by body.now st.old) i.now (callee_by c.now) values st.old prefix this) }
+{
+    if i.opcode == opcode::CALL {
+        drop(prefix);
+        return call_on(alloc, q, body, i, c, values, this, st, printed);
+    }
+    by_prefix(alloc, q, body, i, c, values, prefix, this, st, printed)
+}
+
+/// A method that takes `this` is called on the first of these values.
+fn received<Q: Answers>(
+    alloc: Global,
+    q: &Q,
+    body: &Body,
+    i: &Instruction,
+    c: &Callee,
+    values: Seq<Value>,
+    prefix: Prefix,
+    st: &mut State,
+    printed: &mut Vec<u8>,
+) -> Result<StepOut, NoMemory>
+    requires { printed.old.items ≡ [] }
+    ensures { IfOk result (λ out. next_of out st.new printed.new.items ≡ received (Q.queries q.now) (here_by body.now st.old) i.now (callee_by c.now) values st.old prefix) }
+{
+    let Some((this, rest)) = first_and_rest(values) else {
+        return Ok(stuck(st));
+    };
+    receives(alloc, q, body, i, c, rest, prefix, this, st, printed)
+}
+
+/// A call with its arguments, which are still on the stack.
+fn with_args<Q: Answers>(
+    alloc: Global,
+    q: &Q,
+    body: &Body,
+    i: &Instruction,
+    c: &Callee,
+    st: &mut State,
+    printed: &mut Vec<u8>,
+) -> Result<StepOut, NoMemory>
+    requires { printed.old.items ≡ [] }
+    ensures { IfOk result (λ out. next_of out st.new printed.new.items ≡ given (taken (slots_of c.now.signature) st.old.top.stack) st.old (with_args (Q.queries q.now) (here_by body.now st.old) i.now (callee_by c.now) st.old)) }
+{
+    let count = slots_of(&c.signature)?;
+    let Some(values) = take_values(alloc, &mut st.top.stack, count)? else {
+        return Ok(stuck(st));
+    };
+    let prefix = take_prefix(st);
+    if c.signature.this {
+        return received(alloc, q, body, i, c, values, prefix, st, printed);
+    }
+    drop(prefix);
+    runs(alloc, q, body, i, c, values, st, printed)
+}
+
+/// `call` takes no abstract method, `callvirt` no static one.
+fn may_call(i: &Instruction, c: &Callee) -> bool
+    ensures { result ≡ may_call i.now (callee_by c.now) }
+{
+    if i.opcode == opcode::CALL {
+        return !is_abstract(c.method);
+    }
+    c.signature.this
+}
+
+fn calls<Q: Answers>(
+    alloc: Global,
+    q: &Q,
+    body: &Body,
+    i: &Instruction,
+    c: &Callee,
+    st: &mut State,
+    printed: &mut Vec<u8>,
+) -> Result<StepOut, NoMemory>
+    requires { printed.old.items ≡ [] }
+    ensures { IfOk result (λ out. next_of out st.new printed.new.items ≡ calls (Q.queries q.now) (here_by body.now st.old) i.now st.old (callee_by c.now)) }
+{
+    if !may_call(i, c) {
+        return Ok(stuck(st));
+    }
+    match begun_for(alloc, q, c, st)? {
+        Some(out) => Ok(out),
+        None => with_args(alloc, q, body, i, c, st, printed),
+    }
+}
+
+/// `call` (III.3.19) and `callvirt` (III.4.2).
+#[tactic(auto, unfolding(rules::specs::step_rules::Calls::call))]
+pub fn call<Q: Answers>(
+    alloc: Global,
+    q: &Q,
+    body: &Body,
+    i: &Instruction,
+    st: &mut State,
+    printed: &mut Vec<u8>,
+) -> Result<StepOut, NoMemory>
+    requires { printed.old.items ≡ [] }
+    ensures { IfOk result (λ out. next_of out st.new printed.new.items ≡ call (Q.queries q.now) (here_by body.now st.old) i.now st.old) }
+{
+    match method_operand(alloc, q, body, st, &i.operand)? {
+        Operand::Named(c) => {
+            let out = calls(alloc, q, body, i, &c, st, printed)?;
+            drop(c);
+            Ok(out)
+        }
+        Operand::Meaningless => Ok(stopped(st)),
+        Operand::Another => Ok(stuck(st)),
+    }
+}

@@ -1,0 +1,32 @@
+//! Copies of what waits for a method's end.
+
+ghost use Rattle.std.specs.Prelude.{◌≡◌, IfOk};
+
+use il_base::NoMemory;
+use il_base::cil_values::{Value, Waits};
+use machine_frames::cil_frames::copy_use;
+use std::alloc::Global;
+
+/// A copy.
+pub(crate) fn copy_waits(alloc: Global, waits: &Waits) -> Result<Waits, NoMemory>
+    ensures { IfOk result (λ copy. copy ≡ waits.now) }
+{
+    match waits {
+        Waits::Nothing => Ok(Waits::Nothing),
+        Waits::Makes(a) => Ok(Waits::Makes(*a)),
+        Waits::MakesValue(a) => Ok(Waits::MakesValue(*a)),
+        Waits::Starts(ty) => {
+            let ty = ty.copy(alloc)?;
+            Ok(Waits::Starts(ty))
+        }
+        Waits::Opens(ty, entry) => {
+            let ty = ty.copy(alloc)?;
+            let entry = copy_use(alloc, entry)?;
+            Ok(Waits::Opens(ty, entry))
+        }
+        Waits::Core(member, args) => {
+            let args = Value::copy_all(alloc, args.as_slice())?;
+            Ok(Waits::Core(*member, args))
+        }
+    }
+}

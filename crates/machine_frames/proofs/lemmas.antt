@@ -1,0 +1,2 @@
+pub mod cil_raising
+pub mod cil_throws

@@ -1,0 +1,8 @@
+use Rattle.std.proofs.Common.{sym, ◌∙◌}
+use Rattle.machine_words.specs.cil_words.Steps.{here_by}
+use Rattle.machine_numbers.proofs.lemmas.cil_numbers.Outcomes.{convert_from}
+use Rattle.machine_numbers.proofs.cil_numbers.numbers.convert.Goals as goal
+
+pub returns : goal.returns
+returns g c =
+    c.in_ok-out.ensures ∙ sym (convert_from _ (here_by c.args.body.now c.args.st.now) c.args.i.now c.args.st.now c.in-Some.v _ c.in-Some.ensures)

@@ -1,0 +1,8 @@
+pub mod cil_compare
+pub mod cil_branches
+pub mod cil_slots
+pub mod cil_arithmetic
+pub mod cil_conversions
+pub mod cil_pointers
+pub mod cil_numbers
+pub mod cil_operands

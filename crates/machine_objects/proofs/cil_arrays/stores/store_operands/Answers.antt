@@ -1,0 +1,24 @@
+use Rattle.machine_words.specs.cil_stores.Accesses.{access_in}
+use Rattle.machine_objects.proofs.lemmas.cil_arrays.Telling.{store_none, store_one, store_two, store_tells, store_refused}
+use Rattle.machine_objects.proofs.cil_arrays.stores.store_operands.Goals as goal
+
+pub returns-in_default : goal.returns-in_default
+returns-in_default g c = λ here i. store_none (g.Q.Answers.queries c.args.q.now) here i c.args.st.now _ (access_in c.args.access.now) c.in_default.ensures
+
+pub returns-in_default-next_operand : goal.returns-in_default-next_operand
+returns-in_default-next_operand g c = λ here i.
+    store_one (g.Q.Answers.queries c.args.q.now) here i c.args.st.now _ _ _ c.in-Some.ensures (access_in c.args.access.now) c.in_default-next_operand.ensures
+
+pub returns-in_default-next_operand-2 : goal.returns-in_default-next_operand-2
+returns-in_default-next_operand-2 g c = λ here i.
+    store_two (g.Q.Answers.queries c.args.q.now) here i c.args.st.now _ _ _ c.in-Some.ensures (access_in c.args.access.now) _ _ c.in-Some-next_operand.ensures c.in_default-next_operand-2.ensures
+
+pub returns-in-Ok : goal.returns-in-Ok
+returns-in-Ok g c =
+    store_tells c.args.st.now _ _ c.in-Ok.ensures.0 _ _ _ _ _ c.in-Some.ensures c.in-Some-next_operand.ensures c.in-Some-next_operand-2.ensures c.in-Ok.ensures.1
+    (g.Q.Answers.queries c.args.q.now) (access_in c.args.access.now) _ c.store_found.ensures
+
+pub returns-in-Err : goal.returns-in-Err
+returns-in-Err g c = λ here i.
+    store_refused c.args.st.now _ c.in-Err.why c.in-Err.ensures (g.Q.Answers.queries c.args.q.now) here i _ _ _ _ _ _
+    c.in-Some.ensures c.in-Some-next_operand.ensures c.in-Some-next_operand-2.ensures (access_in c.args.access.now)

@@ -1,0 +1,6 @@
+pub mod cil_queries
+pub mod cil_words
+pub mod cil_closing
+pub mod cil_stores
+pub mod cil_places
+pub mod cil_objects

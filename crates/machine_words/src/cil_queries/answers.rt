@@ -1,0 +1,83 @@
+ghost use Rattle.std.specs.Prelude.{◌≡◌, IfOk};
+ghost use Rattle.std.specs.Option.{option_copied};
+ghost use Rattle.rules.specs.step_rules.Queries.{Queries};
+ghost use Rattle.machine_words.specs.cil_queries.Bodies.{instruction_of};
+
+use il_base::cil_values::{CoreCall, FieldDef, Head, Instruction, Layout, Method, Shape};
+use il_base::core_table::CoreName;
+use il_base::world_model::{MethodUse, TypeExpr};
+use il_base::{NoMemory, Seq, Text};
+use std::alloc::Global;
+
+/// What a world tells the machine. Types, methods and fields go by their places in the world, from 0. `NoMemory` is the only
+/// answer without a stated cause.
+pub trait Answers {
+    ghost queries: { Self → Queries };
+
+    /// The member of the core library that a method is. None for a method of an input, and for an abstract one.
+    fn core(&self, method: u32) -> Option<CoreCall>
+        ensures { result ≡ (queries self.now).core method };
+
+    /// A type of the core library. One that has an element type isn't asked for.
+    fn known(&self, name: CoreName) -> u32
+        ensures { result ≡ (queries self.now).known name };
+
+    /// A method. None for one that no type's run holds.
+    fn method(&self, method: u32) -> Option<&Method>
+        ensures { option_copied result ≡ (queries self.now).method method };
+
+    /// The instruction of a method's body at an IL offset. None where none begins there, or the method has no body that can
+    /// run.
+    fn instruction(&self, method: u32, at: u32) -> Option<&Instruction>
+        ensures { option_copied result ≡ instruction_of (queries self.now) method at };
+
+    /// A field.
+    fn field(&self, field: u32) -> Option<&FieldDef>
+        ensures { option_copied result ≡ (queries self.now).field field };
+
+    /// A type definition.
+    fn head(&self, ty: u32) -> Option<Head>
+        ensures { result ≡ (queries self.now).head ty };
+
+    /// What a place of a closed type holds.
+    fn shape(&self, alloc: Global, ty: &TypeExpr) -> Result<Shape, NoMemory>
+        ensures { IfOk result (λ shape. shape ≡ (queries self.now).shape ty.now) };
+
+    /// The cells of an instance of a class: those of the bases first, before these an exception's own.
+    fn cells(&self, alloc: Global, ty: &TypeExpr) -> Result<Seq<Layout>, NoMemory>
+        ensures { IfOk result (λ cells. cells ≡ (queries self.now).cells ty.now) };
+
+    /// The initializer of a type (II.10.5.3).
+    fn starts(&self, ty: u32) -> Option<u32>
+        ensures { result ≡ (queries self.now).starts ty };
+
+    /// Whether the first type can stand for the second (I.8.7).
+    fn below(&self, alloc: Global, a: &TypeExpr, b: &TypeExpr) -> Result<bool, NoMemory>
+        ensures { IfOk result (λ yes. yes ≡ (queries self.now).below a.now b.now) };
+
+    /// What a virtual call runs for an object of a type, with the closed type in which it was found (II.12.2).
+    fn answers(
+        &self,
+        alloc: Global,
+        ty: &TypeExpr,
+        owner: &TypeExpr,
+        method: u32,
+    ) -> Result<Option<MethodUse>, NoMemory>
+        ensures { IfOk result (λ found. found ≡ (queries self.now).answers ty.now owner.now method) };
+
+    /// A type's text, in UTF-8.
+    fn text(&self, alloc: Global, ty: &TypeExpr) -> Result<Text, NoMemory>
+        ensures { IfOk result (λ text. text ≡ (queries self.now).text ty.now) };
+
+    /// The nearest type of the core library among a type and its bases.
+    fn kin(&self, alloc: Global, ty: &TypeExpr) -> Result<Option<CoreName>, NoMemory>
+        ensures { IfOk result (λ name. name ≡ (queries self.now).kin ty.now) };
+
+    /// Object.ToString().
+    fn to_string(&self) -> u32
+        ensures { result ≡ (queries self.now).to_string };
+
+    /// Object.Equals(object).
+    fn equals(&self) -> u32
+        ensures { result ≡ (queries self.now).equals };
+}

@@ -1,6 +1,0 @@
-use Rattle.std.proofs.Common.{◌≡◌, drop}
-use Rattle.link_rules.specs.Cycles.{add_all, same_row}
-use Rattle.mark_calls.proofs.implied.add_all.Given as goal
-
-abbrev pub invariant-loop-at : goal.invariant-loop-at
-invariant-loop-at l = add_all same_row l.found.items (drop l.at-index l.rows) ≡ add_all same_row l.initial.found.items l.rows

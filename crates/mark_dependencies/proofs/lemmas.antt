@@ -1,0 +1,2 @@
+pub mod mark_attributes
+pub mod item_dependencies

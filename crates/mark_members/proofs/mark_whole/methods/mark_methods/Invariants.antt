@@ -1,0 +1,6 @@
+use Rattle.std.proofs.Common.{◌≡◌, ◌++◌, map, drop}
+use Rattle.rules.specs.mark_rules.Places.{marks_method}
+use Rattle.mark_members.proofs.mark_whole.methods.mark_methods.Given as goal
+
+abbrev pub invariant-loop-at : goal.invariant-loop-at
+invariant-loop-at l = l.facts ++ map (marks_method l.all) (drop l.at-index l.rows) ≡ l.initial.facts ++ map (marks_method l.all) l.rows

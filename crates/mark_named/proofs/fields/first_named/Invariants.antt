@@ -1,7 +1,0 @@
-use Rattle.std.proofs.Common.{◌≡◌, drop}
-use Rattle.std.specs.List.{filter}
-use Rattle.mark_rules.specs.Attributes.{is_field_named, head_of}
-use Rattle.mark_named.proofs.fields.first_named.Given as goal
-
-abbrev pub invariant-loop-at : goal.invariant-loop-at
-invariant-loop-at l = head_of (filter (is_field_named l.all l.name) (drop l.at-index l.rows)) ≡ head_of (filter (is_field_named l.all l.name) l.rows)

@@ -1,0 +1,9 @@
+use Rattle.std.proofs.Common.{◌≡◌, ◌++◌, drop, map}
+use Rattle.rules.specs.mark_rules.Facts.Fact.{shown}
+use Rattle.rules.specs.mark_rules.Shown.{arguments_of_parts}
+use Rattle.mark_parts.specs.mark_facts.Told.{part_told}
+use Rattle.mark_parts.proofs.mark_facts.parts.Parts.show_arguments.Given as goal
+
+abbrev pub invariant-loop-part : goal.invariant-loop-part
+invariant-loop-part l =
+    l.facts ++ map shown (arguments_of_parts (map part_told (drop l.part-index l.part-items))) ≡ l.initial.facts ++ map shown (arguments_of_parts (map part_told l.part-items))

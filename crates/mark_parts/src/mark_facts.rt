@@ -1,0 +1,12 @@
+//! Facts of marking and parts of items, as code keeps them: what goes in are types, members and rows, and what comes out are
+//! lists that the definitions of `mark_rules` have (`specs/Told`).
+
+pub mod arguments;
+pub mod exprs;
+pub mod fact;
+pub mod facts;
+pub mod kinds;
+pub mod naming;
+pub mod part;
+pub mod parts;
+pub mod rows;

@@ -1,7 +1,0 @@
-use Rattle.std.proofs.Common.{◌≡◌, ◌++◌, drop}
-use Rattle.std.specs.List.{flat_map}
-use Rattle.mark_rows.specs.Runs.{events_at}
-use Rattle.mark_rows.proofs.members.events_under.Given as goal
-
-abbrev pub invariant-loop-k : goal.invariant-loop-k
-invariant-loop-k l = l.rows.items ++ flat_map (events_at l.rec l.asm) (drop l.k-index l.maps) ≡ flat_map (events_at l.rec l.asm) l.maps

@@ -1,6 +1,0 @@
-use Rattle.std.proofs.Common.{◌≡◌, drop}
-use Rattle.mark_rules.specs.Properties.{property_owner_in}
-use Rattle.mark_rows.proofs.rows.property_owner.Given as goal
-
-abbrev pub invariant-loop-row : goal.invariant-loop-row
-invariant-loop-row l = property_owner_in l.fn.k (drop l.row-index l.row-items) ≡ property_owner_in l.fn.k l.row-items

@@ -1,8 +1,0 @@
-use Rattle.std.proofs.Common.{◌≡◌, ◌-◌, ◌++◌, map}
-use Rattle.std.specs.List.{range_with_len}
-use Rattle.link_rules.specs.Types.{at_row}
-use Rattle.mark_rows.proofs.runs.add_rows.Given as goal
-
-abbrev pub invariant-loop-row : goal.invariant-loop-row
-invariant-loop-row l =
-    l.rows.items ++ map (at_row l.asm) (range_with_len l.row (l.end - l.row)) ≡ l.initial.rows.items ++ map (at_row l.asm) (range_with_len l.start (l.end - l.start))

@@ -1,5 +1,0 @@
-//! Which members a program needs, as definitions in `specs/`: facts, the rules by which one follows from others, and the least
-//! set that they derive from the roots. Nothing goes in or comes out.
-#![tactic(auto)]
-
-pub mod member_kinds;

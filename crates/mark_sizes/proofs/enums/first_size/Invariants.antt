@@ -1,8 +1,0 @@
-use Rattle.std.proofs.Common.{◌≡◌, drop}
-use Rattle.std.specs.List.{flat_map}
-use Rattle.mark_rules.specs.Attributes.{first_size, field_size}
-use Rattle.mark_tables.specs.Assemblies.{all_of}
-use Rattle.mark_sizes.proofs.enums.first_size.Given as goal
-
-abbrev pub invariant-loop-at : goal.invariant-loop-at
-invariant-loop-at l = first_size (flat_map (field_size (all_of l.marker)) (drop l.at-index l.rows)) ≡ first_size (flat_map (field_size (all_of l.marker)) l.rows)

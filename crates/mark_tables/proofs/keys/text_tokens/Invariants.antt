@@ -1,6 +1,0 @@
-use Rattle.std.proofs.Common.{◌≡◌, ◌++◌, map, drop}
-use Rattle.world_model.specs.declared.record.UserText.{UserText}
-use Rattle.mark_tables.proofs.keys.text_tokens.Given as goal
-
-abbrev pub invariant-loop-text : goal.invariant-loop-text
-invariant-loop-text l = l.keys.items ++ map (λ (t : UserText). t.token) (drop l.text-index l.text-items) ≡ map (λ (t : UserText). t.token) l.text-items

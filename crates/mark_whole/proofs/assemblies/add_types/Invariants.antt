@@ -1,9 +1,0 @@
-use Rattle.std.proofs.Common.{◌≡◌, ◌++◌, drop}
-use Rattle.type_rules.specs.Rows.{each_from}
-use Rattle.mark_tables.specs.Assemblies.{all_of}
-use Rattle.mark_whole.specs.Assemblies.{whole_type}
-use Rattle.mark_whole.proofs.assemblies.add_types.Given as goal
-
-abbrev pub invariant-loop-k : goal.invariant-loop-k
-invariant-loop-k l =
-    l.facts ++ each_from (whole_type (all_of l.marker) l.asm) l.k (drop l.k l.types) ≡ l.initial.facts ++ each_from (whole_type (all_of l.marker) l.asm) 0 l.types

@@ -1,7 +1,0 @@
-ghost use Rattle.marked_code_laws.specs.Laws.{MarkedMethods};
-
-/// A law: what a marked method's signature and body name is kept, where signatures and locals of marked methods have a reading.
-/// It does nothing.
-pub fn marked_methods()
-    ensures { MarkedMethods }
-{}

@@ -1,4 +1,0 @@
-//! A law: the file that is written of what a trim leaves has that record. Nothing goes in or comes out.
-#![tactic(auto)]
-
-pub mod laws;

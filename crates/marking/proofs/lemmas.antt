@@ -1,0 +1,2 @@
+pub mod mark_known
+pub mod marking_rules

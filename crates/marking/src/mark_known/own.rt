@@ -1,0 +1,168 @@
+//! The slots that a type itself has: those of its methods, and those that its MethodImpl rows declare (II.22.27).
+
+ghost use Rattle.std.specs.Prelude.{◌≡◌, ◌++◌, [], slice_get, Some, IfOk, OnOk};
+ghost use Rattle.std.specs.List.{flat_map};
+ghost use Rattle.std.specs.Option.{option_map_or};
+ghost use Rattle.base_laws.specs.known_laws.Known.{slot_list, use_slot, declared_slot, declared_slots, own_slots};
+ghost use Rattle.mark_parts.specs.mark_tables.Assemblies.{recs_of, place_of, rec_of, all_of, IsAssembly, IsMarker};
+ghost use Rattle.virtual_calls.specs.Slots.{AreSlots};
+
+use il_base::world_model::{AsmRec, MethodImplRow, MethodUse, token_of};
+use il_base::{NoMemory, table};
+use mark_parts::mark_rows::members::methods_of_type;
+use mark_parts::mark_tables::assembly::Assembly;
+use mark_parts::mark_tables::marker::Marker;
+use rules::link_rules::RowAt;
+use std::alloc::Global;
+use type_tables::methods::{method_home, use_at};
+use virtual_calls::slots::{Slots, slot_of_method};
+
+/// Puts the slot of a method at the end, if it has one.
+fn add_slot(
+    marker: &Marker<'_>,
+    slots: &Slots,
+    at: RowAt,
+    found: &mut Vec<RowAt>,
+) -> Result<(), NoMemory>
+    requires { AreSlots (all_of marker.now) slots.now }
+    ensures { OnOk result (found.new.items ≡ found.old.items ++ slot_list (all_of marker.now) at) }
+{
+    match slot_of_method(&marker.tables, slots, at) {
+        Some(slot) => {
+            found.push(slot)?;
+            Ok(())
+        }
+        None => Ok(()),
+    }
+}
+
+/// Puts the slots of these methods at the end.
+fn add_slots(
+    marker: &Marker<'_>,
+    slots: &Slots,
+    methods: &[RowAt],
+    found: &mut Vec<RowAt>,
+) -> Result<(), NoMemory>
+    requires { AreSlots (all_of marker.now) slots.now }
+    ensures { OnOk result (found.new.items ≡ found.old.items ++ flat_map (slot_list (all_of marker.now)) methods.now) }
+{
+    for at in methods {
+        add_slot(marker, slots, *at, found)?;
+    }
+    Ok(())
+}
+
+/// Puts the slot of a method that is named at the end.
+fn add_used(
+    marker: &Marker<'_>,
+    slots: &Slots,
+    used: &MethodUse,
+    found: &mut Vec<RowAt>,
+) -> Result<(), NoMemory>
+    requires { AreSlots (all_of marker.now) slots.now }
+    ensures { OnOk result (found.new.items ≡ found.old.items ++ use_slot (all_of marker.now) used.now) }
+{
+    match method_home(marker.tables.world.recs.as_slice(), used.method) {
+        Ok(Some(at)) => add_slot(marker, slots, at, found),
+        Ok(None) => Ok(()),
+        Err(error) => Err(error),
+    }
+}
+
+/// Puts the slot that a row declares at the end.
+fn add_declared(
+    marker: &Marker<'_>,
+    slots: &Slots,
+    asm: u32,
+    rec: &AsmRec,
+    row: &MethodImplRow,
+    found: &mut Vec<RowAt>,
+) -> Result<(), NoMemory>
+    requires marker { IsMarker marker.now }
+    requires slots { AreSlots (all_of marker.now) slots.now }
+    requires here { slice_get (all_of marker.now) asm ≡ Some rec.now }
+    ensures { OnOk result (found.new.items ≡ found.old.items ++ declared_slot (all_of marker.now) asm rec.now row.now) }
+{
+    match use_at(&marker.tables, asm, row.declaration) {
+        Some(used) => add_used(marker, slots, used, found),
+        None => Ok(()),
+    }
+}
+
+/// Puts the slot that a row of an assembly, by its number from 0, declares at the end.
+fn add_declared_at(
+    marker: &Marker<'_>,
+    slots: &Slots,
+    asm: u32,
+    rec: &AsmRec,
+    k: u32,
+    found: &mut Vec<RowAt>,
+) -> Result<(), NoMemory>
+    requires marker { IsMarker marker.now }
+    requires slots { AreSlots (all_of marker.now) slots.now }
+    requires here { slice_get (all_of marker.now) asm ≡ Some rec.now }
+    ensures { OnOk result (found.new.items ≡ found.old.items ++ option_map_or (declared_slot (all_of marker.now) asm rec.now) (slice_get rec.now.method_impl k) []) }
+{
+    match rec.method_impl.get(k as usize) {
+        Some(row) => add_declared(marker, slots, asm, rec, row, found),
+        None => Ok(()),
+    }
+}
+
+/// Puts the slots that these rows of an assembly declare at the end.
+fn add_all_declared(
+    marker: &Marker<'_>,
+    slots: &Slots,
+    asm: u32,
+    rec: &AsmRec,
+    ks: &[u32],
+    found: &mut Vec<RowAt>,
+) -> Result<(), NoMemory>
+    requires marker { IsMarker marker.now }
+    requires slots { AreSlots (all_of marker.now) slots.now }
+    requires here { slice_get (all_of marker.now) asm ≡ Some rec.now }
+    ensures { OnOk result (found.new.items ≡ found.old.items ++ flat_map (λ k. option_map_or (declared_slot (all_of marker.now) asm rec.now) (slice_get rec.now.method_impl k) []) ks.now) }
+{
+    for k in ks {
+        add_declared_at(marker, slots, asm, rec, *k, found)?;
+    }
+    Ok(())
+}
+
+/// Puts the slots that the MethodImpl rows of a type declare at the end.
+fn add_declared_slots(
+    marker: &Marker<'_>,
+    slots: &Slots,
+    c: RowAt,
+    found: &mut Vec<RowAt>,
+) -> Result<(), NoMemory>
+    requires marker { IsMarker marker.now }
+    requires slots { AreSlots (all_of marker.now) slots.now }
+    ensures { OnOk result (found.new.items ≡ found.old.items ++ declared_slots (all_of marker.now) c) }
+{
+    let Some(asm) = marker.assembly_at(c.asm) else {
+        return Ok(());
+    };
+    let token = token_of(table::TYPE_DEF, c.row as usize)?;
+    let ks = asm.of_types.impls.rows_with(token);
+    add_all_declared(marker, slots, c.asm, asm.scope.rec, ks, found)?;
+    Ok(())
+}
+
+/// The slots of a type's methods, and those that its MethodImpl rows declare.
+pub fn own_slots(
+    alloc: Global,
+    marker: &Marker<'_>,
+    slots: &Slots,
+    c: RowAt,
+) -> Result<Vec<RowAt>, NoMemory>
+    requires marker { IsMarker marker.now }
+    requires slots { AreSlots (all_of marker.now) slots.now }
+    ensures { IfOk result (λ found. found.items ≡ own_slots (all_of marker.now) c) }
+{
+    let methods = methods_of_type(alloc, marker, c)?;
+    let mut found = Vec::new(alloc);
+    add_slots(marker, slots, methods.as_slice(), &mut found)?;
+    add_declared_slots(marker, slots, c, &mut found)?;
+    Ok(found)
+}

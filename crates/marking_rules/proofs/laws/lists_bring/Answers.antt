@@ -1,8 +1,0 @@
-use Rattle.marking_rules.proofs.Bringing.{lists_bring, joined_more}
-use Rattle.marking_rules.proofs.laws.lists_bring.Goals as goal
-
-pub returns-clause-bring : goal.returns-clause-bring
-returns-clause-bring c = lists_bring c.tries_enough.ensures
-
-pub returns-clause-more : goal.returns-clause-more
-returns-clause-more c = joined_more c.tries_enough.ensures

@@ -1,6 +1,0 @@
-use Rattle.member_links.proofs.Telling.{is_scope}
-use Rattle.member_links.proofs.links.field_links.Goals as goal
-
-pub push_fields-requires : goal.push_fields-requires
-push_fields-requires c =
-    is_scope c.links_tell.ensures _ c.loop-a.a c.requires (rw (← c.as_slice.ensures.value) at c.in_ok-names.ensures) c.in_ok-row_of.ensures c.loop-a-test.true c.index-all-a.is

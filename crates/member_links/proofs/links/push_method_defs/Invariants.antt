@@ -1,9 +1,0 @@
-use Rattle.std.proofs.Common.{◌≡◌, ◌++◌, map}
-use Rattle.std.specs.List.{range_with_len}
-use Rattle.link_rules.specs.Members.{method_def_use}
-use Rattle.link_rules.specs.Linked.{method_link}
-use Rattle.member_links.proofs.links.push_method_defs.Given as goal
-
-abbrev pub invariant-loop-k : goal.invariant-loop-k
-invariant-loop-k l =
-    l.links.items ≡ l.initial.links.items ++ map (λ k. method_link l.scope.asm 0x06 k (method_def_use l.scope.linked.all.now l.scope.asm l.scope.rec.now k)) (range_with_len 0 l.k)

@@ -1,4 +1,0 @@
-//! Laws: in what a merge leaves, each MemberRef row names the type in which its member is found. Nothing goes in or comes out.
-#![tactic(auto)]
-
-pub mod laws;

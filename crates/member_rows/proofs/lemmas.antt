@@ -1,0 +1,2 @@
+pub mod merged_attributes
+pub mod assembly_tokens

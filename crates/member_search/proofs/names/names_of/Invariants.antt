@@ -1,7 +1,0 @@
-use Rattle.std.proofs.Common.{take}
-use Rattle.std.specs.List.{AllZip}
-use Rattle.member_search.specs.Names.{AreNames}
-use Rattle.member_search.proofs.names.names_of.Given as goal
-
-abbrev pub invariant-loop-rec : goal.invariant-loop-rec
-invariant-loop-rec l = AllZip AreNames (take l.rec-index l.all) l.names.items

@@ -1,6 +1,0 @@
-use Rattle.std.proofs.Common.{◌≡◌, map, take}
-use Rattle.member_search.specs.Owners.{field_run}
-use Rattle.member_search.proofs.owners.field_runs.Given as goal
-
-abbrev pub invariant-loop-row : goal.invariant-loop-row
-invariant-loop-row l = l.runs.items ≡ map field_run (take l.row-index l.row-items)

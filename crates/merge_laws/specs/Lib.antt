@@ -1,0 +1,10 @@
+pub mod merged_places
+pub mod merged_rows_move
+pub mod merged_record
+pub mod merged_links
+pub mod merged_loads
+pub mod merged_references
+pub mod merged_signatures
+pub mod merged_owners
+pub mod merged_tokens
+pub mod merged_standing

@@ -1,0 +1,3 @@
+//! Laws on what signatures and tokens that a merge writes name, in the world of the output alone. Nothing goes in or comes out.
+
+pub mod laws;

@@ -1,0 +1,7 @@
+-- What addresses after bodies need of their size.
+use Rattle.std.specs.Prelude.{◌≡◌, ℕ, ◌%◌}
+use Rattle.rules.specs.merge_rules.Refs.{Output}
+use Rattle.rules.specs.merge_rules.Restricted.{field_rvas}
+
+abbrev pub ModuloTells : Type 0
+ModuloTells = (o : Output) (n : ℕ) → field_rvas o (n % 4294967296) ≡ field_rvas o n

@@ -1,0 +1,14 @@
+//! Signatures, bodies and rows of kept items with the tokens of the output: in go the new tokens of an assembly and a part of
+//! its record, out comes the part as the output has it. `specs/Moves` says what it is by the new tokens, and a law that this
+//! is what `merge_rules` defines.
+
+mod code;
+pub mod laws;
+mod rows;
+mod sigs;
+mod tokens;
+
+pub use code::moved_body;
+pub use rows::{moved_event, moved_field, moved_method, moved_param, moved_property};
+pub use sigs::{moved_method_sig, moved_sig, moved_sigs};
+pub use tokens::{NewTokens, TokenMap};

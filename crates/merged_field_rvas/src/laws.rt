@@ -1,8 +1,0 @@
-//! The law of FieldRVA rows.
-
-ghost use Rattle.merged_field_rvas.specs.Laws.{FieldRvasTell};
-
-/// The rows by the tables of an output are those of the record that a merge leaves. It does nothing.
-pub fn field_rvas_tell()
-    ensures { FieldRvasTell }
-{}

@@ -1,4 +1,0 @@
-//! A law: the fields that a trim keeps are what they were, with types under new numbers. Nothing goes in or comes out.
-#![tactic(auto)]
-
-pub mod laws;

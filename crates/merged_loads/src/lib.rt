@@ -1,4 +1,0 @@
-//! Laws: the file that is written of what a merge leaves of files' records has that record. Nothing goes in or comes out.
-#![tactic(auto)]
-
-pub mod laws;

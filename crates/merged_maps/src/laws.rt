@@ -1,8 +1,0 @@
-//! The law of maps.
-
-ghost use Rattle.merged_maps.specs.Laws.{MapsTell};
-
-/// The rows of maps, by the tables of an output, are those of the record that a merge leaves. It does nothing.
-pub fn maps_tell()
-    ensures { MapsTell }
-{}

@@ -1,7 +1,0 @@
-use Rattle.std.proofs.Common.{◌≡◌, ◌++◌, drop}
-use Rattle.std.specs.List.{flat_map}
-use Rattle.merged_members.specs.Members.{method_of}
-use Rattle.merged_members.proofs.methods.methods.Given as goal
-
-abbrev pub invariant-loop-at : goal.invariant-loop-at
-invariant-loop-at l = l.rows ++ flat_map (method_of l.recs l.tokens l.params) (drop l.at-index l.places) ≡ flat_map (method_of l.recs l.tokens l.params) l.places

@@ -1,9 +1,0 @@
-//! The law of member rows.
-
-ghost use Rattle.merged_members.specs.Laws.{MembersTell};
-
-/// The rows that are made of kept rows with the tokens of the output are those of the record that a merge leaves. It does
-/// nothing.
-pub fn members_tell()
-    ensures { MembersTell }
-{}

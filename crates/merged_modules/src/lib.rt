@@ -1,4 +1,0 @@
-//! Law: no type comes to the place of an assembly's module by a merge. Nothing goes in or comes out.
-#![tactic(auto)]
-
-pub mod laws;

@@ -1,5 +1,0 @@
-//! Laws: what is marked belongs to a type, and members that are kept go with the types that they belong to. Nothing goes in or comes
-//! out.
-#![tactic(auto)]
-
-pub mod laws;

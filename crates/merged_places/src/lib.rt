@@ -1,5 +1,0 @@
-//! Laws: in the world of a merge's output each kept type, method and field of the inputs stands under its new number, and two rows
-//! stay two (`merged_world_rules`). Nothing goes in or comes out.
-#![tactic(auto)]
-
-pub mod laws;

@@ -1,7 +1,0 @@
-ghost use Rattle.merged_record.specs.Laws.{RestrictedIsRecord};
-
-/// A law: the record that is left of records is one, where no reference is missing in it and members go with what they belong to.
-/// It does nothing.
-pub fn restricted_is_record()
-    ensures { RestrictedIsRecord }
-{}

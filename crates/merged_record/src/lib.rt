@@ -1,4 +1,0 @@
-//! A law: what a merge leaves of records is a record. Nothing goes in or comes out.
-#![tactic(auto)]
-
-pub mod laws;

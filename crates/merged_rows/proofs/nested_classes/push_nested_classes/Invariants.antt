@@ -1,7 +1,0 @@
-use Rattle.std.proofs.Common.{◌≡◌, ◌++◌, drop}
-use Rattle.std.specs.List.{flat_map}
-use Rattle.merged_rows.specs.Belonging.{nested_by}
-use Rattle.merged_rows.proofs.nested_classes.push_nested_classes.Given as goal
-
-abbrev pub invariant-loop-row : goal.invariant-loop-row
-invariant-loop-row l = l.rows.items ++ flat_map (nested_by l.tables l.asm) (drop l.row-index l.row-items) ≡ l.initial.rows.items ++ flat_map (nested_by l.tables l.asm) l.row-items

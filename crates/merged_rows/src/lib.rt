@@ -1,9 +1,0 @@
-//! Rows of the output that go with kept rows, sorted by their new keys: in go the assemblies of a world and the tables of the
-//! output, out come constants, layouts of classes, nesting and accessors. `merge_rules/specs/Restricted` defines them.
-#![tactic(auto)]
-
-pub mod class_layouts;
-pub mod constants;
-pub mod laws;
-pub mod method_semantics;
-pub mod nested_classes;

@@ -1,5 +1,0 @@
-use Rattle.merged_scopes.proofs.Whole.{met_types_there as there}
-use Rattle.merged_scopes.proofs.laws.met_types_there.Goals as goal
-
-pub returns : goal.returns
-returns c = there

@@ -1,4 +1,0 @@
-//! Laws: what the output of a merge refers to stands in what is left. Nothing goes in or comes out.
-#![tactic(auto)]
-
-pub mod laws;

@@ -1,4 +1,0 @@
-//! Laws: what the output of a merge refers to has rows. Nothing goes in or comes out.
-#![tactic(auto)]
-
-pub mod laws;

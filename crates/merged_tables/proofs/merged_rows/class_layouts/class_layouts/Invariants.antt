@@ -1,0 +1,7 @@
+use Rattle.std.proofs.Common.{◌≡◌, ◌++◌, drop}
+use Rattle.merge_plan.specs.Kept.{all_from}
+use Rattle.merged_tables.specs.merged_rows.Belonging.{class_layouts_in}
+use Rattle.merged_tables.proofs.merged_rows.class_layouts.class_layouts.Given as goal
+
+abbrev pub invariant-loop-a : goal.invariant-loop-a
+invariant-loop-a l = l.rows.items ++ all_from (class_layouts_in l.tables) l.a (drop l.a l.rec-items) ≡ all_from (class_layouts_in l.tables) 0 l.rec-items

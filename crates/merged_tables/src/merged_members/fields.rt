@@ -1,0 +1,52 @@
+//! The Field rows of the output (II.22.15).
+
+ghost use Rattle.std.specs.Prelude.{◌≡◌, ◌++◌, IfOk, OnOk};
+ghost use Rattle.merged_tables.specs.merged_members.Members.{field_of, fields_by};
+
+use crate::merged_members::found::tokens_at;
+use il_base::world_model::{AsmRec, FieldRow};
+use il_base::{NoMemory, Seq};
+use merge_plan::moved_parts::{NewTokens, moved_field};
+use rules::link_rules::RowAt;
+use std::alloc::Global;
+use type_tables::member_search::linked::assembly_at;
+
+/// Puts the row of the output at the end that is made of a row.
+fn push_field(
+    alloc: Global,
+    recs: &[AsmRec],
+    tokens: &[NewTokens],
+    at: RowAt,
+    rows: &mut Seq<FieldRow>,
+) -> Result<(), NoMemory>
+    ensures { OnOk result (rows.new ≡ rows.old ++ field_of recs.now tokens.now at) }
+{
+    let Some(rec) = assembly_at(recs, at.asm) else {
+        return Ok(());
+    };
+    let Some(new) = tokens_at(tokens, at.asm) else {
+        return Ok(());
+    };
+    let Some(row) = rec.field.get(at.row as usize) else {
+        return Ok(());
+    };
+    let moved = moved_field(alloc, new, row)?;
+    rows.push(moved)?;
+    Ok(())
+}
+
+/// The rows of the output that are made of some rows. `tokens` has the new tokens of each assembly.
+pub fn fields(
+    alloc: Global,
+    recs: &[AsmRec],
+    tokens: &[NewTokens],
+    places: &[RowAt],
+) -> Result<Seq<FieldRow>, NoMemory>
+    ensures { IfOk result (λ rows. rows ≡ fields_by recs.now tokens.now places.now) }
+{
+    let mut rows = Seq::new(alloc);
+    for at in places {
+        push_field(alloc, recs, tokens, *at, &mut rows)?;
+    }
+    Ok(rows)
+}

@@ -1,7 +1,0 @@
-use Rattle.std.proofs.Common.{◌≡◌, ℕ, drop}
-use Rattle.moved_parts.specs.Moves.{new_token}
-use Rattle.merged_texts.specs.Texts.{texts_in, text_number, first_token}
-use Rattle.merged_texts.proofs.tokens.tokens_of.Given as goal
-
-abbrev pub invariant-loop-n : goal.invariant-loop-n
-invariant-loop-n l = (q : ℕ) → new_token l.map q ≡ first_token (text_number (texts_in l.places)) q (drop l.n l.texts)

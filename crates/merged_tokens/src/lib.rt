@@ -1,4 +1,0 @@
-//! Laws: the tokens of what a merge leaves name rows, where exactly what is marked is kept. Nothing goes in or comes out.
-#![tactic(auto)]
-
-pub mod laws;

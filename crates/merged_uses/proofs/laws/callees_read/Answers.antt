@@ -1,5 +1,0 @@
-use Rattle.merged_uses.proofs.Tokens.{callee_reads}
-use Rattle.merged_uses.proofs.laws.callees_read.Goals as goal
-
-pub returns : goal.returns
-returns c m k kept r a rec token u there input met h = callee_reads m k kept r a rec there input token u met h

@@ -1,3 +1,0 @@
-//! The world of a merge's output against that of its inputs, as definitions alone: `specs/Merge` is the merge with what is so of it,
-//! `specs/NewNumbers` the new numbers and places of kept rows. Nothing goes in or comes out.
-#![tactic(auto)]

@@ -1,9 +1,0 @@
-use Rattle.std.proofs.Common.{◌≡◌, ◌++◌, drop}
-use Rattle.std.specs.List.{flat_map}
-use Rattle.mark_tables.specs.Assemblies.{all_of}
-use Rattle.merge_rules.specs.Order.{met_field_row}
-use Rattle.met_order.proofs.members.meet_field_rows.Given as goal
-
-abbrev pub invariant-loop-at : goal.invariant-loop-at
-invariant-loop-at l =
-    l.mets ++ flat_map (met_field_row (all_of l.world.marker.now)) (drop l.at-index l.fields) ≡ l.initial.mets ++ flat_map (met_field_row (all_of l.world.marker.now)) l.fields

@@ -1,7 +1,0 @@
-use Rattle.std.proofs.Common.{◌≡◌, ◌∷◌, ◌++◌, map, drop}
-use Rattle.std.specs.List.{flat_map}
-use Rattle.metadata_writer.specs.Lengths.{user_put}
-use Rattle.metadata_writer.proofs.heaps.users.Given as goal
-
-abbrev pub invariant-loop-text : goal.invariant-loop-text
-invariant-loop-text l = l.bytes.items ++ flat_map user_put (map (λ t. t.text) (drop l.text-index l.texts)) ≡ 0 ∷ flat_map user_put (map (λ t. t.text) l.texts)

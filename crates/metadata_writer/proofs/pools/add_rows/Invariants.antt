@@ -1,7 +1,0 @@
-use Rattle.std.proofs.Common.{drop}
-use Rattle.std.specs.List.{flat_map}
-use Rattle.metadata_writer.proofs.Gathering.{Left}
-use Rattle.metadata_writer.proofs.pools.add_rows.Given as goal
-
-abbrev pub invariant-loop-row : goal.invariant-loop-row
-invariant-loop-row l = Left (λ items row. flat_map items row) (drop l.row-index l.rows) l.rows l.initial.pools l.pools

@@ -1,6 +1,0 @@
-use Rattle.std.proofs.Common.{◌≡◌, ◌++◌, drop}
-use Rattle.file_layout.specs.TableStream.{counts_bytes}
-use Rattle.metadata_writer.proofs.tables.put_counts.Given as goal
-
-abbrev pub invariant-loop-rows : goal.invariant-loop-rows
-invariant-loop-rows l = l.out.items ++ counts_bytes (drop l.rows-index l.tables) ≡ l.initial.out.items ++ counts_bytes l.tables

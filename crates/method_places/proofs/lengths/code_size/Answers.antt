@@ -1,6 +1,0 @@
-use Rattle.std.proofs.Common.{arith}
-use Rattle.method_places.proofs.Sizing.{code_done}
-use Rattle.method_places.proofs.lengths.code_size.Goals as goal
-
-pub returns : goal.returns
-returns c = code_done c.loop-instr.size c.loop-instr.instr-index c.args.code.now (omega arith) c.loop-instr.invariant.size

@@ -1,7 +1,0 @@
--- What addresses after bodies need of their size.
-use Rattle.std.specs.Prelude.{◌≡◌, ℕ, ◌%◌}
-use Rattle.merge_rules.specs.Refs.{Output}
-use Rattle.merge_rules.specs.Restricted.{field_rvas}
-
-abbrev pub ModuloTells : Type 0
-ModuloTells = (o : Output) (n : ℕ) → field_rvas o (n % 4294967296) ≡ field_rvas o n

@@ -1,9 +1,0 @@
-//! Where the method bodies of a record are written (II.25.4): in go MethodDef rows, out come the rows with the addresses of their bodies
-//! (II.22.26), and how many bytes these take. `merge_rules/specs/Restricted` defines them (`placed_methods`).
-#![tactic(auto)]
-
-pub mod laws;
-mod lengths;
-mod places;
-
-pub use places::{Placed, placed_methods};

@@ -1,6 +1,0 @@
-use Rattle.std.proofs.Common.{◌≡◌, map, take}
-use Rattle.moved_parts.specs.Moves.{instr_by}
-use Rattle.moved_parts.proofs.code.moved_code.Given as goal
-
-abbrev pub invariant-loop-one : goal.invariant-loop-one
-invariant-loop-one l = l.moved ≡ map (instr_by l.tokens l.rec) (take l.one-index l.code)

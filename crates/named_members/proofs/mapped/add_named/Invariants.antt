@@ -1,7 +1,0 @@
-use Rattle.std.proofs.Common.{◌≡◌, ◌-◌, ◌++◌}
-use Rattle.named_members.specs.Mapped.{named_from}
-use Rattle.named_members.proofs.mapped.add_named.Given as goal
-
-abbrev pub invariant-loop-row : goal.invariant-loop-row
-invariant-loop-row l =
-    l.found.items ++ named_from l.mapped l.rec l.asm l.name l.row (l.end - l.row) ≡ l.initial.found.items ++ named_from l.mapped l.rec l.asm l.name l.start (l.end - l.start)

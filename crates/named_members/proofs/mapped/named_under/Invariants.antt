@@ -1,7 +1,0 @@
-use Rattle.std.proofs.Common.{◌≡◌, ◌++◌, drop}
-use Rattle.std.specs.List.{flat_map}
-use Rattle.named_members.specs.Mapped.{named_under}
-use Rattle.named_members.proofs.mapped.named_under.Given as goal
-
-abbrev pub invariant-loop-k : goal.invariant-loop-k
-invariant-loop-k l = l.found.items ++ flat_map (named_under l.mapped l.rec l.asm l.name) (drop l.k-index l.rows) ≡ flat_map (named_under l.mapped l.rec l.asm l.name) l.rows

@@ -1,7 +1,0 @@
-use Rattle.std.proofs.Common.{◌≡◌, ◌++◌, drop}
-use Rattle.named_members.specs.Named.{kept}
-use Rattle.named_members.proofs.named.kept.Given as goal
-
-abbrev pub invariant-loop-x : goal.invariant-loop-x
-invariant-loop-x l =
-    l.more.items ++ kept l.tables.world.now.recs l.types l.kind l.inherited l.found (drop l.x-index l.rows) ≡ kept l.tables.world.now.recs l.types l.kind l.inherited l.found l.rows

@@ -1,7 +1,0 @@
-use Rattle.std.proofs.Common.{◌≡◌, drop}
-use Rattle.std.specs.List.{list_any}
-use Rattle.type_rules.specs.Searches.{overrides}
-use Rattle.named_members.proofs.overrides.any_overrides.Given as goal
-
-abbrev pub invariant-loop-method : goal.invariant-loop-method
-invariant-loop-method l = list_any (λ m. list_any (overrides l.tables.world.now.recs l.types m) l.others) (drop l.method-index l.methods) ≡ list_any (λ m. list_any (overrides l.tables.world.now.recs l.types m) l.others) l.methods

@@ -1,7 +1,0 @@
-//! The rules of marking that find items by attributes, by texts and by descriptors, as a trait: what a world and its roots go
-//! into, and facts come out of, as `mark_rules/specs` lists them.
-#![tactic(auto)]
-
-mod named_rules;
-
-pub use named_rules::NamedRules;

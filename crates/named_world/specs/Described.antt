@@ -1,8 +1,0 @@
--- A world and the elements of descriptors.
-use Rattle.std.specs.Prelude.{List}
-use Rattle.world_model.specs.declared.record.AsmRec.{AsmRec}
-use Rattle.descriptor_file.specs.declared.root.Root.{Root}
-
-pub record Described : Type 0 where
-  pub recs : List AsmRec
-  pub roots : List Root

@@ -1,6 +1,0 @@
-use Rattle.std.proofs.Common.{◌≡◌, drop}
-use Rattle.link_rules.specs.Members.{home_from, fields_in}
-use Rattle.own_members.proofs.fields.field_at.Given as goal
-
-abbrev pub invariant-loop-a : goal.invariant-loop-a
-invariant-loop-a l = home_from fields_in l.a (drop l.a l.recs) l.left ≡ home_from fields_in 0 l.recs l.fn.id.0

@@ -1,9 +1,0 @@
-use Rattle.closure.specs.Rounds.{missing}
-use Rattle.queued_closure.specs.Waiting.{IsKnown}
-use Rattle.queued_closure.proofs.rounds.least.Given as goal
-
-abbrev pub invariant-loop-found : goal.invariant-loop-found
-invariant-loop-found g l = IsKnown (g.R.Rules.alone l.rules) (g.R.Rules.joined l.rules) (g.R.Rules.universe_of l.rules) l.roots l.found
-
-abbrev pub decreases-loop-found : goal.decreases-loop-found
-decreases-loop-found g l = missing l.found.set.flags

@@ -1,7 +1,0 @@
-//! The bytes of the file that any record is laid out in, as definitions in `specs/`: a record goes in, and its file comes out
-//! (II.22 to II.25). `file_layout` says how cells, heaps, tables and images are laid out; here a record becomes cells.
-#![tactic(auto)]
-
-mod value;
-
-pub use value::Value;

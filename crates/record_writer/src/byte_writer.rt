@@ -1,0 +1,5 @@
+//! Numbers, zeros and padding, put behind bytes. Which bytes these are is defined by `file_layout`'s `specs/Bytes`.
+
+mod bytes;
+
+pub use bytes::{next_multiple, pad, put_half, put_number, put_word, put_zeros};

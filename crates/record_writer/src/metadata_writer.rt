@@ -1,0 +1,18 @@
+//! The metadata of tables and user texts (II.24): cells that name items go in, and the metadata root with its five streams
+//! comes out, each item once in its heap. Which bytes these are is defined by `file_layout`'s `specs/Metadata`.
+
+mod heaps;
+mod metadata;
+mod numbers;
+mod pool;
+mod pools;
+mod rows;
+mod streams;
+mod tables;
+mod widths;
+
+pub use heaps::users;
+pub use streams::metadata_of;
+
+#[cfg(test)]
+mod tests;

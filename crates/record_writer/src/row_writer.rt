@@ -1,0 +1,18 @@
+//! The rows of a record as cells: a record goes in, and its tables come out, with the addresses of bodies and field bytes (II.22).
+//! Which cells these are is defined by `record_layout`'s `specs/Tables`.
+
+mod assemblies;
+mod cells;
+mod coded;
+mod extras;
+mod members;
+mod placed;
+mod row;
+mod signatures;
+mod tables;
+mod types;
+
+pub use tables::tables_of;
+
+#[cfg(test)]
+mod tests;

@@ -1,7 +1,0 @@
-use Rattle.std.proofs.Common.{◌≡◌, [], drop}
-use Rattle.reference_scopes.specs.Scopes.{recs_of}
-use Rattle.reference_assemblies.proofs.Walking.{all_met}
-use Rattle.reference_assemblies.proofs.assemblies.assembly_refs.Given as goal
-
-abbrev pub invariant-loop-id : goal.invariant-loop-id
-invariant-loop-id l = all_met (recs_of l.scopes) l.rows (drop l.id-index l.types) ≡ all_met (recs_of l.scopes) [] l.types

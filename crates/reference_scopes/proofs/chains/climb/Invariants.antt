@@ -1,7 +1,0 @@
-use Rattle.std.proofs.Common.{◌≡◌, ◌-◌, ◌++◌, reverse}
-use Rattle.merge_rules.specs.Refs.{with_scopes}
-use Rattle.reference_scopes.proofs.chains.climb.Given as goal
-
-abbrev pub invariant-loop-i : goal.invariant-loop-i
-invariant-loop-i l =
-    with_scopes l.references.index.now.all.now (l.most - l.i) l.at ++ reverse l.inner.items ≡ with_scopes l.references.index.now.all.now l.most l.fn.id ++ reverse l.initial.inner.items

@@ -1,9 +1,0 @@
-//! The scopes of types that have TypeRef rows in the output of a merge (II.22.38): in go the assemblies of a world and a type, out
-//! come the type around it, the types that have a row before it, and the assembly in which it is. `merge_rules/specs/Refs` defines
-//! them.
-#![tactic(auto)]
-
-mod around;
-mod chains;
-mod ids;
-pub mod scopes;

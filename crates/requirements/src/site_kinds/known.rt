@@ -1,0 +1,9 @@
+use attribute_values::tables::AttributeTables;
+use mark_parts::mark_tables::marker::Marker;
+
+/// A world with what is made of it, and what its annotations are read by.
+#[derive(Clone, Copy)]
+pub struct Annotated<'a> {
+    pub marker: &'a Marker<'a>,
+    pub tables: &'a AttributeTables<'a>,
+}

@@ -1,0 +1,8 @@
+use Rattle.std.proofs.Common.{◌≡◌, ◌++◌, take}
+use Rattle.std.specs.List.{flat_map}
+use Rattle.il_base.specs.declared.world_model.members.PropertyRow.{PropertyRow}
+use Rattle.rules.specs.link_rules.CoreNames.{in_good, method_modifiers}
+use Rattle.resolver.proofs.core_names.modifiers.in_properties.Given as goal
+
+abbrev pub invariant-loop-row : goal.invariant-loop-row
+invariant-loop-row l = l.tokens.items ≡ l.initial.tokens.items ++ flat_map (λ (r : PropertyRow). in_good method_modifiers r.signature) (take l.row-index l.rows)

@@ -1,0 +1,8 @@
+use Rattle.std.proofs.Common.{◌≡◌, ◌++◌, take}
+use Rattle.std.specs.List.{flat_map}
+use Rattle.il_base.specs.declared.world_model.types.TypeSpecRow.{TypeSpecRow}
+use Rattle.rules.specs.link_rules.CoreNames.{in_good, modifiers}
+use Rattle.resolver.proofs.core_names.modifiers.in_specs.Given as goal
+
+abbrev pub invariant-loop-row : goal.invariant-loop-row
+invariant-loop-row l = l.tokens.items ≡ l.initial.tokens.items ++ flat_map (λ (r : TypeSpecRow). in_good modifiers r.signature) (take l.row-index l.rows)

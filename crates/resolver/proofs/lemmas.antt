@@ -1,0 +1,3 @@
+pub mod type_links
+pub mod core_names
+pub mod member_links

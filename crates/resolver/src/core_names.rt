@@ -1,0 +1,10 @@
+//! The core library with the names that modifiers use: in go the inputs and the core library's record, out comes the record
+//! with a type without members for each name that it lacks. `rules/specs/link_rules/CoreNames` defines it.
+
+mod forwarding;
+mod missing;
+mod modifiers;
+mod with_names;
+
+pub use missing::missing_names;
+pub use with_names::add_names;

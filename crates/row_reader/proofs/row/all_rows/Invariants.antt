@@ -1,7 +1,0 @@
--- The rows so far.
-use Rattle.std.proofs.Common.{◌≡◌}
-use Rattle.record_format.specs.Cells.{first_rows}
-use Rattle.row_reader.proofs.row.all_rows.Given as goal
-
-abbrev pub invariant-loop-i : goal.invariant-loop-i
-invariant-loop-i g l = l.rows ≡ first_rows (g.R.Row.row_of l.file) l.i

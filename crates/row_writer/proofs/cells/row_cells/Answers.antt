@@ -1,9 +1,0 @@
-use Rattle.std.proofs.Common.{rules, ◌≡◌, length, arith}
-use Rattle.row_writer.proofs.RowEnd.{no_more, none_left}
-use Rattle.row_writer.proofs.cells.row_cells.Goals as goal
-
-pub returns : goal.returns
-returns c =
-    let f = c.in-None.ensures.steps.0 in
-    let long : length c.loop-value.value-iterator.rest.items ≡ c.loop-value.value-iterator.rest.len = search rules in
-    no_more _ _ _ _ (none_left _ (omega (arith, f, long))) c.loop-value.invariant

@@ -1,0 +1,12 @@
+pub mod record_format
+pub mod file_layout
+pub mod record_layout
+pub mod link_rules
+pub mod type_rules
+pub mod step_rules
+pub mod mark_rules
+pub mod view_rules
+pub mod change_rules
+pub mod merge_rules
+pub mod world_change_rules
+pub mod merged_world_rules

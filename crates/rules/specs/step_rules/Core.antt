@@ -1,0 +1,128 @@
+-- Calls of members of the core library: each is whole in its step, but for one that calls a method of the program.
+use Rattle.std.specs.Prelude.{ℕ, List, [], ◌∷◌, Bool, true, false, Option, Some, None}
+use Rattle.il_base.specs.declared.element.TheConstants.{BOOLEAN, OBJECT}
+use Rattle.il_base.specs.declared.world_model.expr.TypeExpr as expr
+use Rattle.il_base.specs.declared.world_model.expr.MethodUse.{MethodUse}
+use Rattle.il_base.specs.declared.cil_values.value.Value.{Value}
+use Rattle.il_base.specs.declared.cil_values.value.Value.TheVariants as value
+use Rattle.rules.specs.step_rules.Queries.{Queries}
+use Rattle.il_base.specs.declared.cil_values.state.State.{State}
+use Rattle.il_base.specs.declared.cil_values.frame.Waits.{Waits}
+use Rattle.rules.specs.step_rules.Next.{Next}
+use Rattle.il_base.specs.declared.cil_values.frame.Waits.TheVariants as waits
+use Rattle.il_base.specs.declared.cil_values.core_call.CoreCall.{CoreCall}
+use Rattle.il_base.specs.declared.cil_values.core_call.Printed.{Printed}
+use Rattle.il_base.specs.declared.cil_values.core_call.Printed.TheVariants.{OfObject as of_object}
+use Rattle.il_base.specs.declared.cil_values.core_call.CoreCall.TheVariants as core
+use Rattle.rules.specs.step_rules.Words.{stuck, given, had, object_at}
+use Rattle.rules.specs.step_rules.Closing.{Callee, callee_of, front}
+use Rattle.rules.specs.step_rules.Integers.{narrowed}
+use Rattle.rules.specs.step_rules.Stores.{all_fit}
+use Rattle.rules.specs.step_rules.Objects.{type_of}
+use Rattle.rules.specs.step_rules.Frames.{enter}
+use Rattle.rules.specs.step_rules.Dispatch.{dispatched, this_for}
+use Rattle.rules.specs.step_rules.CoreWords.{Gives, CoreForm, checked, gives_value, gives_truth}
+use Rattle.rules.specs.step_rules.CoreObjects.{halt, idle_form, type_name_form, same_form, number_text_form, number_is_form, int_equals_form, int_compare_form, exception_text_form, exception_inner_form, exception_parameter_form, get_message_form, get_inner_form, is_same}
+use Rattle.rules.specs.step_rules.CoreTexts.{string_length_form, string_unit_form, string_index_form, string_concat_form, string_from_form, string_part_form, string_itself_form, string_same_form, string_other_form, string_is_form, string_is_empty_form, string_compare_form, int_parse_form}
+use Rattle.rules.specs.step_rules.CoreConsole.{print_form, line_end_form, read_unit_form, read_line_form}
+use Rattle.rules.specs.step_rules.CoreArrays.{array_length_form, fill_array_form}
+
+-- ---- members that call nothing
+
+unfoldable pub simple : CoreCall → CoreForm
+simple core.Halts = halt
+simple core.Idle = idle_form
+simple core.TypeName = type_name_form
+simple core.IsObject = same_form
+simple core.SameReference = same_form
+simple (core.NumberText code) = number_text_form code
+simple (core.NumberIs code) = number_is_form code
+simple core.IntEquals = int_equals_form
+simple core.IntCompare = int_compare_form
+simple core.IntParse = int_parse_form
+simple core.StringLength = string_length_form
+simple core.StringUnit = string_unit_form
+simple core.StringConcat = string_concat_form
+simple core.StringSame = string_same_form
+simple core.StringOther = string_other_form
+simple core.StringIs = string_is_form
+simple core.StringItself = string_itself_form
+simple core.StringFrom = string_from_form
+simple core.StringPart = string_part_form
+simple core.StringIndex = string_index_form
+simple core.StringIsEmpty = string_is_empty_form
+simple core.StringCompare = string_compare_form
+simple core.ArrayLength = array_length_form
+simple (core.Prints line kind) = print_form line kind
+simple core.PrintsLineEnd = line_end_form
+simple core.ReadLine = read_line_form
+simple core.ReadUnit = read_unit_form
+simple core.ExceptionPlain = idle_form
+simple core.ExceptionText = exception_text_form
+simple core.ExceptionInner = exception_inner_form
+simple (core.ExceptionParameter n) = exception_parameter_form n
+simple core.GetMessage = get_message_form
+simple core.GetInner = get_inner_form
+simple core.FillArray = fill_array_form
+simple core.AreEqual = λ q args s give. stuck s
+
+-- ---- members that call
+
+-- what a member does with the result of what it called: the arguments are its own
+abbrev pub with_result : CoreCall → Queries → List Value → Value → State → Gives → Next
+with_result (core.Prints line of_object) q args v s give = print_form line of_object q (v ∷ []) s give
+with_result core.AreEqual q args v s give = given (narrowed BOOLEAN v) s (λ b. gives_value b s give)
+with_result _ q args v s give = stuck s
+
+abbrev pub with_option : CoreCall → Queries → List Value → State → Gives → Option Value → Next
+with_option k q args s give None = stuck s
+with_option k q args s give (Some v) = with_result k q args v s give
+
+abbrev pub resumed : CoreCall → Queries → List Value → Gives → Gives
+resumed k q args give s v bytes = with_option k q args s give v
+
+-- what was found runs: a member of the core library in this step, a method of the program in a frame for which this waits
+abbrev pub run_found : Queries → CoreCall → List Value → Callee → List Value → State → Gives → Option CoreCall → Next
+run_found q k args c vs s give (Some found) = checked q c vs s (λ checked_vs. simple found q checked_vs s (resumed k q args give))
+run_found q k args c vs s give None = enter q c vs (waits.Core k args) s
+
+-- `this` as the found method takes it, and the other arguments as its slots keep them
+abbrev pub found_args : Queries → State → Callee → Value → List Value → Option (List Value)
+found_args q s c this vs = front (this_for q s c this) (all_fit q c.signature.params vs)
+
+abbrev pub object_slot : ℕ → MethodUse
+object_slot m = record { method = record { 0 = m }; owner = expr.Prim OBJECT; args = [] }
+
+-- a virtual call of a slot of Object
+unfoldable pub calls_slot : ℕ → Queries → CoreCall → List Value → ℕ → List Value → State → Gives → Next
+calls_slot m q k args a vs s give =
+    had (callee_of q (object_slot m)) s (λ c. given (object_at s a) s (λ o. dispatched q c (type_of q o) s (λ found.
+    given (found_args q s found (value.Object a) vs) s (λ ws. run_found q k args found ws s give (q.core found.called.method.0)))))
+
+-- Write and WriteLine of an object: null prints nothing, another by ToString()
+unfoldable pub print_object : Bool → CoreForm
+print_object line q (value.Null ∷ []) s give = print_form line of_object q (value.Null ∷ []) s give
+print_object line q (value.Object a ∷ []) s give = calls_slot q.to_string q (core.Prints line of_object) (value.Object a ∷ []) a [] s give
+print_object line q _ s give = stuck s
+
+abbrev pub equal_by : Queries → State → Gives → Value → Value → Bool → Next
+equal_by q s give v w true = gives_truth true s give
+equal_by q s give (value.Object a) (value.Object b) false =
+    calls_slot q.equals q core.AreEqual (value.Object a ∷ value.Object b ∷ []) a (value.Object b ∷ []) s give
+equal_by q s give v w false = gives_truth false s give
+
+-- the static Object.Equals(object, object): the same or both null, one null, else the first one's Equals(object)
+unfoldable pub equal_form : CoreForm
+equal_form q (v ∷ w ∷ []) s give = given (is_same v w) s (equal_by q s give v w)
+equal_form q _ s give = stuck s
+
+-- ---- all members
+
+unfoldable pub member : CoreCall → CoreForm
+member (core.Prints line of_object) = print_object line
+member core.AreEqual = equal_form
+member k = simple k
+
+-- a call, with all its arguments
+unfoldable pub core_call : Queries → Callee → CoreCall → List Value → State → Gives → Next
+core_call q c k vs s give = checked q c vs s (λ args. member k q args s give)

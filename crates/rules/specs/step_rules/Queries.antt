@@ -1,0 +1,39 @@
+-- What a step asks of a world. The answers name no token, row or blob: references are resolved. Types, methods and fields
+-- go by their places in the world (`TypeId`, `MethodId` and `FieldId` as numbers); types of definitions are open.
+use Rattle.std.specs.Prelude.{ℕ, List, Bool, Option}
+use Rattle.il_base.specs.declared.world_model.expr.TypeExpr.{TypeExpr}
+use Rattle.il_base.specs.declared.world_model.expr.MethodUse.{MethodUse}
+use Rattle.il_base.specs.declared.core_table.names.CoreName.{CoreName}
+use Rattle.il_base.specs.declared.cil_values.core_call.CoreCall.{CoreCall}
+use Rattle.il_base.specs.declared.cil_values.definition.Method.{Method}
+use Rattle.il_base.specs.declared.cil_values.definition.FieldDef.{FieldDef}
+use Rattle.il_base.specs.declared.cil_values.definition.Head.{Head}
+use Rattle.il_base.specs.declared.cil_values.layout.Layout.{Layout}
+use Rattle.il_base.specs.declared.cil_values.layout.Shape.{Shape}
+
+pub record Queries : Type 0 where
+  -- the member of the core library that a method is; None for a method of an input, and for an abstract one
+  pub core : ℕ → Option CoreCall
+  -- a type of the core library by its name; one that has an element type isn't asked for
+  pub known : CoreName → ℕ
+  -- None for a method that no type's run holds
+  pub method : ℕ → Option Method
+  pub field : ℕ → Option FieldDef
+  pub head : ℕ → Option Head
+  pub shape : TypeExpr → Shape
+  -- the cells of an instance of a class: those of the bases first, before these an exception's own
+  pub cells : TypeExpr → List Layout
+  -- the initializer of a type (II.10.5.3)
+  pub starts : ℕ → Option ℕ
+  -- whether the first can stand for the second (I.8.7)
+  pub below : TypeExpr → TypeExpr → Bool
+  -- what a virtual call runs for an object of a type, with the closed type in which it was found (II.12.2): of the type,
+  -- of the closed owner of the called method, of that method
+  pub answers : TypeExpr → TypeExpr → ℕ → Option MethodUse
+  -- a type's text, in UTF-8
+  pub text : TypeExpr → List ℕ
+  -- the nearest type of the core library among a type and its bases
+  pub kin : TypeExpr → Option CoreName
+  -- the slots of Object that the core library calls: ToString() and Equals(object)
+  pub to_string : ℕ
+  pub equals : ℕ

@@ -1,0 +1,90 @@
+-- What a linked world answers to each question of the machine.
+use Rattle.std.specs.Prelude.{ℕ, suc, ◌+◌, ◌-◌, List, [], ◌∷◌, length, Option, Some, None, slice_get, ◌==◌, if◌then◌else◌}
+use Rattle.std.specs.List.{list_any}
+use Rattle.std.specs.Option.{option_and_then, option_map}
+use Rattle.il_base.specs.declared.ids.MethodId.{MethodId}
+use Rattle.il_base.specs.declared.world_model.expr.TypeExpr.{TypeExpr}
+use Rattle.il_base.specs.declared.world_model.expr.MethodUse.{MethodUse}
+use Rattle.il_base.specs.declared.world_model.record.AsmRec.{AsmRec}
+use Rattle.il_base.specs.world_model.Worlds.{rows_before, type_id}
+use Rattle.il_base.specs.declared.core_table.names.CoreName.{CoreName}
+use Rattle.il_base.specs.declared.core_table.names.CoreName.TheVariants as core
+use Rattle.il_base.specs.declared.core_table.shape.CoreType.{CoreType}
+use Rattle.il_base.specs.declared.core_table.types.TheConstants.{TYPES}
+use Rattle.rules.specs.declared.link_rules.row_at.RowAt.{RowAt}
+use Rattle.rules.specs.link_rules.Members.{type_home, methods_in, with_bases}
+use Rattle.rules.specs.link_rules.Cycles.{listed, same_row, home_of}
+use Rattle.rules.specs.type_rules.Subtypes.{is_subtype}
+use Rattle.rules.specs.type_rules.Slots.{method_home, type_of_method}
+use Rattle.rules.specs.type_rules.Dispatch.{dispatch, method_id}
+use Rattle.rules.specs.type_rules.Texts.{text}
+use Rattle.rules.specs.type_rules.Initializers.{initializer}
+use Rattle.rules.specs.step_rules.Queries.{Queries}
+use Rattle.rules.specs.view_rules.Members.{core_call, core_type_row, object_method}
+use Rattle.rules.specs.view_rules.Methods.{method_query, field_query, head_query}
+use Rattle.rules.specs.view_rules.Layouts.{shape_query, cells_query}
+
+-- ---- types of the core library
+
+-- the id of a type of the core library
+abbrev pub core_type_id : List AsmRec → CoreName → ℕ
+core_type_id recs name = (type_id recs (length recs - 1) (core_type_row name)).0
+
+abbrev pub core_method_id : List AsmRec → CoreName → ℕ
+core_method_id recs name = rows_before methods_in recs (length recs - 1) + object_method name
+
+-- ---- initializers
+
+abbrev pub starts_query : List AsmRec → ℕ → Option ℕ
+starts_query recs t = option_map (λ at. (method_id recs at).0) (option_and_then (initializer recs) (type_home recs (record { 0 = t })))
+
+-- ---- virtual calls
+
+-- the closed type, of a type and its bases, whose definition has a method
+abbrev pub owner_among : List AsmRec → RowAt → List TypeExpr → Option TypeExpr
+owner_among recs owner [] = None
+owner_among recs owner (e ∷ es) = if list_any (same_row owner) (listed (home_of recs e)) then Some e else owner_among recs owner es
+
+abbrev pub found_owner : List AsmRec → TypeExpr → MethodId → Option TypeExpr
+found_owner recs e m = option_and_then (λ owner. owner_among recs owner (with_bases recs e)) (option_and_then (type_of_method recs) (method_home recs m))
+
+abbrev pub with_owner : List AsmRec → TypeExpr → MethodId → Option MethodUse
+with_owner recs e m = option_map (λ owner. record { method = m; owner = owner; args = [] }) (found_owner recs e m)
+
+-- the method that a virtual call runs for an object of a type, and the closed type in which it was found
+unfoldable pub answers_query : List AsmRec → TypeExpr → TypeExpr → ℕ → Option MethodUse
+answers_query recs e owner m = option_and_then (with_owner recs e) (dispatch recs e owner (record { 0 = m }))
+
+-- ---- the nearest type of the core library
+
+abbrev pub core_name_at : List AsmRec → RowAt → Option CoreName
+core_name_at recs at = if suc at.asm == length recs then option_map (λ (t : CoreType). t.name) (slice_get TYPES at.row) else None
+
+abbrev pub nearest_core : List AsmRec → List TypeExpr → Option CoreName
+nearest_core recs [] = None
+nearest_core recs (e ∷ es) = or_nearest (option_and_then (core_name_at recs) (home_of recs e)) (nearest_core recs es)
+  where
+    or_nearest : Option CoreName → Option CoreName → Option CoreName
+    or_nearest None later = later
+    or_nearest (Some n) later = Some n
+
+-- ---- all questions
+
+-- what the assemblies of a linked world answer, the last of which is the core library
+unfoldable pub queries_of : List AsmRec → Queries
+queries_of recs = record {
+  core = core_call recs;
+  known = core_type_id recs;
+  method = method_query recs;
+  field = field_query recs;
+  head = head_query recs;
+  shape = shape_query recs;
+  cells = cells_query recs;
+  starts = starts_query recs;
+  below = is_subtype recs;
+  answers = answers_query recs;
+  text = text recs;
+  kin = λ e. nearest_core recs (with_bases recs e);
+  to_string = core_method_id recs core.ToString;
+  equals = core_method_id recs core.Equals;
+}

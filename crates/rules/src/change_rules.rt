@@ -1,0 +1,2 @@
+//! How queries and states change with new numbers of types, methods and fields, as definitions alone. `specs/Agree` says when
+//! one world answers as another does for what is kept, `specs/Lock` what a step in the one owes to the step in the other.

@@ -1,0 +1,12 @@
+//! Definitions of linking, for those who cite them: what references name, which demand on several assemblies fails first,
+//! and the world that they make. `specs/` has them; here is the data that they speak of.
+
+mod core_type_name;
+mod link_error;
+mod member_type;
+mod row_at;
+
+pub use core_type_name::CoreTypeName;
+pub use link_error::LinkError;
+pub use member_type::MethodType;
+pub use row_at::RowAt;

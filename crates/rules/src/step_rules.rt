@@ -1,0 +1,54 @@
+//! What the machine does (I.12, III), as definitions: `specs/Queries` says what a step asks of a world, `specs/State` what the
+//! machine holds, `specs/Step` what one instruction does, `specs/Run` what a program does. The functions are laws that state
+//! examples.
+
+ghost use Rattle.rules.specs.step_rules.Examples.{Adds, DividesByZero, DividesLeast, Converts, Shifts, Branches, Calls, Prints, BadOperand, EmptyStack, Makes, StoresField, LoadsField, FieldOfNull, Addresses, Points, NewArrays, StoresElement, Mismatches, Boxes, Casts, Catches, Leaves, EndsFinally, FallsOut};
+
+/// Arithmetic, conversions and shifts (III.3): small programs and steps, and what each comes to. It does nothing.
+pub fn arithmetic()
+    ensures sum { Adds }
+    ensures by_zero { DividesByZero }
+    ensures least { DividesLeast }
+    ensures converted { Converts }
+    ensures shifted { Shifts }
+{}
+
+/// Branches, calls and what is printed (III.3): small programs and steps, and what each comes to. It does nothing.
+pub fn control()
+    ensures branches { Branches }
+    ensures calls { Calls }
+    ensures prints { Prints }
+    ensures operand { BadOperand }
+    ensures stack { EmptyStack }
+{}
+
+/// Objects, fields and pointers (III.3, III.4): small programs and steps, and what each comes to. It does nothing.
+pub fn places()
+    ensures makes { Makes }
+    ensures stores { StoresField }
+    ensures loads { LoadsField }
+    ensures null { FieldOfNull }
+    ensures addresses { Addresses }
+    ensures pointers { Points }
+{}
+
+/// Arrays (III.4): small programs and steps, and what each comes to. It does nothing.
+pub fn arrays()
+    ensures new { NewArrays }
+    ensures stores { StoresElement }
+    ensures covariance { Mismatches }
+{}
+
+/// Boxes and casts (III.4): small programs and steps, and what each comes to. It does nothing.
+pub fn types()
+    ensures boxes { Boxes }
+    ensures casts { Casts }
+{}
+
+/// Handlers (I.12.4.2): small programs and steps, and what each comes to. It does nothing.
+pub fn exceptions()
+    ensures catches { Catches }
+    ensures leaves { Leaves }
+    ensures ends { EndsFinally }
+    ensures falls { FallsOut }
+{}

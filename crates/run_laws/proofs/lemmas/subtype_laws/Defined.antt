@@ -1,0 +1,54 @@
+-- Types of which each definition is kept: so is their own.
+use Rattle.std.proofs.Common.{◌≡◌, ℕ, Bool, List, map, Option, Some, None, refl, sym, ap, subst, ◌∙◌}
+use Rattle.std.specs.Prelude.{IsTrue}
+use Rattle.std.specs.List.{list_all}
+use Rattle.std.specs.Option.{option_and_then}
+use Rattle.std.specs.Cmp.{first_so}
+use Rattle.il_base.specs.declared.ids.TypeId.{TypeId}
+use Rattle.il_base.specs.declared.world_model.expr.TypeExpr.{TypeExpr, fold-roll-TypeExpr, out-TypeExpr, roll-TypeExpr, roll-out-TypeExpr}
+use Rattle.il_base.specs.declared.world_model.expr.TypeExpr.TheFolds.{map-TypeExpr}
+use Rattle.il_base.specs.declared.world_model.expr.TypeExpr.TheOpen.{TypeExpr-F}
+use Rattle.il_base.specs.declared.world_model.expr.TypeExpr.TheVariants as expr
+use Rattle.il_base.specs.declared.world_model.record.AsmRec.{AsmRec}
+use Rattle.il_base.specs.world_model.Worlds.{types_in}
+use Rattle.rules.specs.declared.link_rules.row_at.RowAt.{RowAt}
+use Rattle.rules.specs.link_rules.Members.{type_home, owner_in, owner_of}
+use Rattle.rules.specs.link_rules.Cycles.{home_of}
+use Rattle.rules.specs.change_rules.Change.{Keep}
+use Rattle.rules.specs.change_rules.Keeps.{itself, defined_layer, keeps_defined}
+use Rattle.rules.specs.world_change_rules.Places.{keeps_type_row}
+use Rattle.rules.specs.world_change_rules.Kept.{KeepsRows}
+use Rattle.run_laws.proofs.lemmas.query_laws.Ids.{has_number}
+
+defined_rolled : (k : Keep) (x : TypeExpr-F TypeExpr) → keeps_defined k (roll-TypeExpr x) ≡ defined_layer k (map-TypeExpr TypeExpr Bool (keeps_defined k) x)
+unfolding keeps_defined
+defined_rolled k x = fold-roll-TypeExpr Bool (defined_layer k) x
+
+defined_out : (k : Keep) (e : TypeExpr) → keeps_defined k e ≡ defined_layer k (map-TypeExpr TypeExpr Bool (keeps_defined k) (out-TypeExpr e))
+defined_out k e = ap (keeps_defined k) (sym (roll-out-TypeExpr e)) ∙ defined_rolled k (out-TypeExpr e)
+
+pub defined_array : (k : Keep) (e : TypeExpr) → keeps_defined k (expr.Array e) ≡ keeps_defined k e
+defined_array k e = ap (keeps_defined k) (sym (expr.rolls-Array e)) ∙ defined_rolled k (TypeExpr-F.Array e)
+
+module _ (k : Keep) (kept : RowAt → Bool) (recs : List AsmRec) (keeps : KeepsRows k kept recs) where
+  owner_in_kept : (x : TypeExpr-F TypeExpr) (t : TypeId) → IsTrue (defined_layer k (map-TypeExpr TypeExpr Bool (keeps_defined k) x)) → owner_in recs x ≡ Some t → IsTrue (k.typ t.0)
+  owner_in_kept (TypeExpr-F.Prim n) t h e = keeps.prims n t e
+  owner_in_kept (TypeExpr-F.Def s) t h e = let same : s ≡ t = cc in subst (λ (x : TypeId). IsTrue (k.typ x.0)) same h
+  owner_in_kept (TypeExpr-F.Inst s args) t h e =
+      let same : s ≡ t = cc in subst (λ (x : TypeId). IsTrue (k.typ x.0)) same (first_so (k.typ s.0) (list_all itself (map (keeps_defined k) args)) h)
+  owner_in_kept (TypeExpr-F.Array x) t h e = keeps.array t e
+  owner_in_kept (TypeExpr-F.ByRef x) t h e = absurd (cc)
+  owner_in_kept (TypeExpr-F.Var n) t h e = absurd (cc)
+  owner_in_kept (TypeExpr-F.MVar n) t h e = absurd (cc)
+  owner_in_kept (TypeExpr-F.Mod required by x) t h e = absurd (cc)
+
+  owner_kept : (e : TypeExpr) (t : TypeId) → IsTrue (keeps_defined k e) → owner_of recs e ≡ Some t → IsTrue (k.typ t.0)
+  unfolding owner_of
+  owner_kept e t h is = owner_in_kept (out-TypeExpr e) t (sym (defined_out k e) ∙ h) is
+
+  kept_by : (o : Option TypeId) (at : RowAt) → ((t : TypeId) → o ≡ Some t → IsTrue (k.typ t.0)) → option_and_then (type_home recs) o ≡ Some at → IsTrue (keeps_type_row k recs at)
+  kept_by None at h e = absurd (cc)
+  kept_by (Some t) at h e = subst (λ (n : ℕ). IsTrue (k.typ n)) (sym (has_number types_in recs t.0 at e)) (h t refl)
+
+  pub home_defined : (e : TypeExpr) (at : RowAt) → IsTrue (keeps_defined k e) → home_of recs e ≡ Some at → IsTrue (keeps_type_row k recs at)
+  home_defined e at h is = kept_by (owner_of recs e) at (λ t o. owner_kept e t h o) is

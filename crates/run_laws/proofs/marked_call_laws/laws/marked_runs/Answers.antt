@@ -1,0 +1,5 @@
+use Rattle.run_laws.proofs.lemmas.marked_call_laws.Calls.{all_run}
+use Rattle.run_laws.proofs.marked_call_laws.laws.marked_runs.Goals as goal
+
+pub returns : goal.returns
+returns c = all_run

@@ -1,9 +1,0 @@
-use Rattle.std.proofs.Common.{◌∙◌}
-use Rattle.mark_tables.specs.Assemblies.{rec_of}
-use Rattle.sig_texts.proofs.Naming.{named_grouped}
-use Rattle.sig_texts.proofs.params.parameter_name.Goals as goal
-
-pub returns : goal.returns
-returns c =
-    c.first_named.ensures
-    ∙ named_grouped (rec_of c.args.asm.now) c.args.owner c.args.n c.args.asm.now.owners.now.params c.requires.owners.params c.rows_with-rows.result.now c.rows_with-rows.ensures

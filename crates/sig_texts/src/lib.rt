@@ -1,9 +1,0 @@
-//! The texts of signatures as descriptors write them: `RETURN NAME(TYPE,TYPE)` and `TYPE NAME`. What goes in is an assembly of a
-//! world, the names of the world's types (`slashed_names`) and a type; what comes out is its text, as `mark_rules/specs/Roots`
-//! has it.
-#![tactic(auto)]
-
-pub mod members;
-mod params;
-pub mod spelling;
-mod types;

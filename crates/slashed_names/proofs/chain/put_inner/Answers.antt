@@ -1,9 +1,0 @@
-use Rattle.slashed_names.proofs.ChainLemmas.{more_put, none_left}
-use Rattle.slashed_names.proofs.chain.put_inner.Goals as goal
-
-pub returns-in-None : goal.returns-in-None
-returns-in-None c = none_left c.args.rec.now _ _ _ c.in-None.ensures.0 c.loop-left.invariant
-
-pub loop-left-preserved : goal.loop-left-preserved
-loop-left-preserved c =
-    more_put c.args.rec.now _ _ _ _ _ _ _ c.in-Some.ensures c.in_ok-push-in-Some.ensures.ok c.in_ok-put_bare-in-Some.ensures c.loop-left.invariant

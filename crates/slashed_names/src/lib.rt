@@ -1,6 +1,0 @@
-//! The full names of types with `/` before the name of a nested type, made once. What goes in is a world with what is made of it
-//! (`mark_tables`); what comes out are names, as `slashed_name` and `definition_slashed` of `mark_rules/specs/Roots` have them.
-#![tactic(auto)]
-
-mod chain;
-pub mod names;

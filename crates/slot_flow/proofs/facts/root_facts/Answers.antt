@@ -1,7 +1,0 @@
-use Rattle.slot_flow.specs.Facts.{root_facts}
-use Rattle.slot_flow.proofs.Roots.{places_more}
-use Rattle.slot_flow.proofs.facts.root_facts.Goals as goal
-
-pub loop-i-preserved : goal.loop-i-preserved
-loop-i-preserved c =
-    places_more c.args.f.now c.loop-i.facts c.put_place.new.facts c.loop-i.i (root_facts c.args.f.now) c.loop-i-test.true c.in_ok-put_place.ensures c.loop-i.invariant

@@ -1,4 +1,0 @@
-//! Laws: what a trim of files leaves can always be written. Nothing goes in or comes out.
-#![tactic(auto)]
-
-pub mod laws;

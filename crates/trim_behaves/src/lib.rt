@@ -1,4 +1,0 @@
-//! Laws: what a trim leaves of files loads, links and runs as they do. Nothing goes in or comes out.
-#![tactic(auto)]
-
-pub mod laws;

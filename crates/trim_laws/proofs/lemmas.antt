@@ -1,0 +1,17 @@
+pub mod spelled_parts
+pub mod merged_modules
+pub mod merged_uses
+pub mod marked_loads
+pub mod merged_back
+pub mod merged_scopes
+pub mod member_parents
+pub mod flagged_marks
+pub mod trim_moves
+pub mod merged_fields
+pub mod trim_runs
+pub mod added_names
+pub mod marked_mets
+pub mod merged_code
+pub mod kept_parts
+pub mod spelled_trims
+pub mod trim_behaves

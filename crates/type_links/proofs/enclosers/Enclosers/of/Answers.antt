@@ -1,7 +1,0 @@
-use Rattle.std.proofs.Common.{arith}
-use Rattle.type_links.proofs.Outers.{outers_all}
-use Rattle.type_links.proofs.enclosers.Enclosers.of.Goals as goal
-
-pub returns : goal.returns
-returns c =
-    outers_all c.args.rec.now (record { rows = c.loop-row.rows }) c.loop-row.row-index c.as_slice-row-items.result.now (omega arith) c.as_slice-row-items.ensures c.loop-row.invariant

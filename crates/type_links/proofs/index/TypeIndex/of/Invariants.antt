@@ -1,7 +1,0 @@
-use Rattle.std.proofs.Common.{take}
-use Rattle.std.specs.List.{AllZip}
-use Rattle.type_links.specs.Index.{IsIndexOf}
-use Rattle.type_links.proofs.index.TypeIndex.of.Given as goal
-
-abbrev pub invariant-loop-rec : goal.invariant-loop-rec
-invariant-loop-rec l = AllZip (IsIndexOf l.all) (take l.rec-index l.all) l.asms

@@ -1,7 +1,0 @@
-use Rattle.std.proofs.Common.{◌≡◌, ◌++◌, map}
-use Rattle.std.specs.List.{range_with_len}
-use Rattle.link_laws.specs.Parts.{def_link}
-use Rattle.type_links.proofs.links.push_defs.Given as goal
-
-abbrev pub invariant-loop-k : goal.invariant-loop-k
-invariant-loop-k l = l.links.items ≡ l.initial.links.items ++ map (def_link l.all l.a) (range_with_len 0 l.k)

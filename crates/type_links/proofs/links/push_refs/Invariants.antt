@@ -1,7 +1,0 @@
-use Rattle.std.proofs.Common.{◌≡◌, ◌++◌, map}
-use Rattle.std.specs.List.{range_with_len}
-use Rattle.link_laws.specs.Parts.{ref_link}
-use Rattle.type_links.proofs.links.push_refs.Given as goal
-
-abbrev pub invariant-loop-k : goal.invariant-loop-k
-invariant-loop-k l = l.links.items ≡ l.initial.links.items ++ map (ref_link l.index.all.now l.a l.rec) (range_with_len 0 l.k)

@@ -1,4 +1,0 @@
-use Rattle.type_numbers.proofs.maps.type_numbers.Goals as goal
-
-pub returns : goal.returns
-returns c = record { classes = c.in_ok-classes.ensures; modifiers = c.in_ok-modifiers.ensures }

@@ -1,0 +1,2 @@
+pub mod member_search
+pub mod subtypes

@@ -1,7 +1,0 @@
--- The rest is still to be marked.
-use Rattle.std.proofs.Common.{◌≡◌, drop}
-use Rattle.user_strings.specs.Marks.{marked}
-use Rattle.user_strings.proofs.texts.mark_all.Given as goal
-
-abbrev pub invariant-loop-m : goal.invariant-loop-m
-invariant-loop-m l = marked l.marks.items (drop l.m-index l.methods) ≡ marked l.initial.marks.items l.methods

@@ -1,7 +1,0 @@
--- The rest is still to be marked.
-use Rattle.std.proofs.Common.{◌≡◌, drop}
-use Rattle.user_strings.specs.Marks.{marked_in}
-use Rattle.user_strings.proofs.texts.mark_code.Given as goal
-
-abbrev pub invariant-loop-i : goal.invariant-loop-i
-invariant-loop-i l = marked_in l.marks.items (drop l.i-index l.code) ≡ marked_in l.initial.marks.items l.code

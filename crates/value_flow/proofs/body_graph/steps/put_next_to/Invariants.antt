@@ -1,0 +1,6 @@
+use Rattle.std.proofs.Common.{◌≡◌, ◌++◌, drop}
+use Rattle.value_flow.specs.flow_rules.Steps.{offsets, next_to}
+use Rattle.value_flow.proofs.body_graph.steps.put_next_to.Given as goal
+
+abbrev pub invariant-loop-offset : goal.invariant-loop-offset
+invariant-loop-offset l = l.out ++ next_to (offsets l.c.code.now) (drop l.offset-index l.to) ≡ l.initial.out ++ next_to (offsets l.c.code.now) l.to

@@ -1,0 +1,3 @@
+pub mod stack_depths
+pub mod slot_flow
+pub mod body_graph

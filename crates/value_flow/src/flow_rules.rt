@@ -1,0 +1,11 @@
+//! What a trimmer has to know of the values in a body, as definitions in `specs/`: how control goes from each instruction to
+//! others, how deep the evaluation stack is, and which `Type` values and names reach which slot. Nothing goes in or comes out.
+
+mod called;
+pub mod clause_kind;
+mod placed;
+mod source;
+
+pub use called::Called;
+pub use placed::Placed;
+pub use source::Source;

@@ -1,0 +1,6 @@
+use Rattle.std.proofs.Common.{◌≡◌, ◌-◌, ◌++◌}
+use Rattle.rules.specs.link_rules.Members.{bases_from}
+use Rattle.virtual_calls.proofs.named_members.members.with_bases.Given as goal
+
+abbrev pub invariant-loop : goal.invariant-loop
+invariant-loop l = l.types.items ++ bases_from l.tables.world.now.recs (l.count - l.counter) l.ty ≡ bases_from l.tables.world.now.recs l.count l.fn.start

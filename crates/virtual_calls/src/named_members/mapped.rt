@@ -1,0 +1,148 @@
+//! Properties and events of a type: the rows with a name of its runs, by the rows of PropertyMap or EventMap that belong to it.
+
+ghost use Rattle.std.specs.Prelude.{◌≡◌, ℕ, ◌-◌, ◌++◌, ◌≤◌, slice_get, IfOk, OnOk};
+ghost use Rattle.std.specs.List.{flat_map};
+ghost use Rattle.type_tables.specs.Tables.{AreRowTables};
+ghost use Rattle.virtual_calls.specs.named_members.Mapped.{count_in, map_rows, run_at, has_name, named_from, run_length, named_in_run, named_under, named_places};
+
+use crate::named_members::kinds::Mapped;
+use il_base::world_model::{AsmRec, token_of};
+use il_base::{NoMemory, table};
+use rules::link_rules::RowAt;
+use std::alloc::Global;
+use type_tables::member_search::owners::Run;
+use type_tables::tables::RowTables;
+
+/// How many such rows an assembly has.
+fn count_in(rec: &AsmRec, mapped: Mapped) -> usize
+    ensures { result ≡ count_in mapped rec.now }
+{
+    match mapped {
+        Mapped::Property => rec.property.len(),
+        Mapped::Event => rec.event.len(),
+    }
+}
+
+/// The rows of the map, from 0, that belong to a type, by its token.
+fn map_rows<'a>(tables: &'a RowTables, mapped: Mapped, token: u32) -> &'a [u32]
+    ensures { result.now ≡ map_rows mapped tables.now token }
+{
+    match mapped {
+        Mapped::Property => tables.properties.rows_with(token),
+        Mapped::Event => tables.events.rows_with(token),
+    }
+}
+
+/// The run of a row, from 0, of the map.
+fn run_at(rec: &AsmRec, mapped: Mapped, k: u32) -> Option<Run>
+    ensures { result ≡ run_at mapped rec.now k }
+{
+    match mapped {
+        Mapped::Property => match rec.property_map.get(k as usize) {
+            Some(row) => Some(Run {
+                first: row.property_list_first,
+                end: row.property_list_end,
+            }),
+            None => None,
+        },
+        Mapped::Event => match rec.event_map.get(k as usize) {
+            Some(row) => Some(Run {
+                first: row.event_list_first,
+                end: row.event_list_end,
+            }),
+            None => None,
+        },
+    }
+}
+
+/// Whether a row, from 0, has a name.
+pub fn has_name(rec: &AsmRec, mapped: Mapped, name: &[u8], k: u32) -> bool
+    ensures { result ≡ has_name mapped rec.now name.now k }
+{
+    match mapped {
+        Mapped::Property => match rec.property.get(k as usize) {
+            Some(property) => property.name.as_slice() == name,
+            None => false,
+        },
+        Mapped::Event => match rec.event.get(k as usize) {
+            Some(event) => event.name.as_slice() == name,
+            None => false,
+        },
+    }
+}
+
+/// Puts the rows with a name behind those found, of the rows from `start` to before `end`.
+fn add_named(
+    rec: &AsmRec,
+    mapped: Mapped,
+    asm: u32,
+    name: &[u8],
+    start: u32,
+    end: u32,
+    found: &mut Vec<RowAt>,
+) -> Result<(), NoMemory>
+    ensures { OnOk result (found.new.items ≡ found.old.items ++ named_from mapped rec.now asm name.now start (end - start)) }
+{
+    for row in start..end {
+        if has_name(rec, mapped, name, row) {
+            found.push(RowAt { asm, row })?;
+        }
+    }
+    Ok(())
+}
+
+/// Puts the rows of a run that have a name behind those found.
+fn add_in_run(
+    rec: &AsmRec,
+    mapped: Mapped,
+    asm: u32,
+    name: &[u8],
+    run: Run,
+    found: &mut Vec<RowAt>,
+) -> Result<(), NoMemory>
+    ensures { OnOk result (found.new.items ≡ found.old.items ++ named_in_run mapped rec.now asm name.now run) }
+{
+    let start = run.first.saturating_sub(1);
+    let end = start + run.end.saturating_sub(run.first);
+    let count = u32::try_from(count_in(rec, mapped)).unwrap_or(u32::MAX);
+    add_named(rec, mapped, asm, name, start, end.min(count), found)?;
+    Ok(())
+}
+
+/// The rows of a run that have a name, of each of these rows of the map.
+fn named_under(
+    alloc: Global,
+    rec: &AsmRec,
+    mapped: Mapped,
+    asm: u32,
+    name: &[u8],
+    rows: &[u32],
+) -> Result<Vec<RowAt>, NoMemory>
+    ensures { IfOk result (λ found. found.items ≡ flat_map (named_under mapped rec.now asm name.now) rows.now) }
+{
+    let mut found = Vec::new(alloc);
+    for k in rows {
+        if let Some(run) = run_at(rec, mapped, *k) {
+            add_in_run(rec, mapped, asm, name, run, &mut found)?;
+        }
+    }
+    Ok(found)
+}
+
+/// The properties or events with a name of the type in a row, from 0.
+pub fn named_places(
+    alloc: Global,
+    rec: &AsmRec,
+    tables: &RowTables,
+    mapped: Mapped,
+    at: RowAt,
+    name: &[u8],
+) -> Result<Vec<RowAt>, NoMemory>
+    requires { AreRowTables rec.now tables.now }
+    ensures { IfOk result (λ found. found.items ≡ named_places mapped rec.now name.now at) }
+{
+    let token = token_of(table::TYPE_DEF, at.row as usize)?;
+    let rows = map_rows(tables, mapped, token);
+    let found = named_under(alloc, rec, mapped, at.asm, name, rows)?;
+    Ok(found)
+}

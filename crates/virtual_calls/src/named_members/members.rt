@@ -1,0 +1,172 @@
+//! All members of a type under a name, as ids.
+
+ghost use Rattle.std.specs.Prelude.{◌≡◌, ◌++◌, map, IfOk, OnOk};
+ghost use Rattle.rules.specs.link_rules.Members.{with_bases};
+ghost use Rattle.rules.specs.type_rules.Searches.{along, members_along, members_named};
+ghost use Rattle.type_tables.specs.Tables.{IsTables};
+ghost use Rattle.virtual_calls.specs.Slots.{AreSlots};
+ghost use Rattle.virtual_calls.specs.named_members.Named.{counted, item_of, id_of, ids_named};
+
+use crate::named_members::kinds::Kind;
+use crate::named_members::named::named;
+use crate::nearest::{base_of, type_count};
+use crate::slots::Slots;
+use il_base::world_model::{AsmRec, TypeExpr};
+use il_base::{EventId, FieldId, Item, MethodId, NoMemory, PropId, Seq, TypeId};
+use rules::link_rules::RowAt;
+use std::alloc::Global;
+use type_tables::member_search::counted::{Counted, rows_before, sum};
+use type_tables::member_search::homes::type_home;
+use type_tables::member_search::own_types::definition_expr;
+use type_tables::tables::Tables;
+
+/// A type and its bases, the nearest first.
+fn with_bases(
+    alloc: Global,
+    tables: &Tables<'_>,
+    start: TypeExpr,
+) -> Result<Vec<TypeExpr>, NoMemory>
+    requires { IsTables tables.now }
+    ensures { IfOk result (λ types. types.items ≡ with_bases tables.now.world.now.recs start) }
+{
+    let count = type_count(tables)?;
+    let mut types = Vec::new(alloc);
+    let mut ty = start;
+    for _ in 0..count {
+        let base = base_of(alloc, tables, &ty)?;
+        types.push(ty)?;
+        match base {
+            Some(base) => ty = base,
+            None => return Ok(types),
+        }
+    }
+    Ok(types)
+}
+
+/// The type in a row, and its bases.
+fn along(alloc: Global, tables: &Tables<'_>, home: Option<RowAt>) -> Result<Vec<TypeExpr>, NoMemory>
+    requires { IsTables tables.now }
+    ensures { IfOk result (λ types. types.items ≡ along tables.now.world.now.recs home) }
+{
+    match home {
+        None => Ok(Vec::new(alloc)),
+        Some(at) => {
+            let start = definition_expr(tables.world.recs.as_slice(), at)?;
+            with_bases(alloc, tables, start)
+        }
+    }
+}
+
+/// The table whose rows count for the ids of a kind.
+fn counted(kind: Kind) -> Counted
+    ensures { result ≡ counted kind }
+{
+    match kind {
+        Kind::Field => Counted::Fields,
+        Kind::Method => Counted::Methods,
+        Kind::Property => Counted::Properties,
+        Kind::Event => Counted::Events,
+    }
+}
+
+fn item_of(kind: Kind, n: u32) -> Item
+    ensures { result ≡ item_of kind n }
+{
+    match kind {
+        Kind::Field => Item::Field(FieldId(n)),
+        Kind::Method => Item::Method(MethodId(n)),
+        Kind::Property => Item::Prop(PropId(n)),
+        Kind::Event => Item::Event(EventId(n)),
+    }
+}
+
+/// The id of a member: the rows of all assemblies before it count first.
+fn id_of(all: &[AsmRec], kind: Kind, at: RowAt) -> Result<Item, NoMemory>
+    ensures { IfOk result (λ id. id ≡ id_of all.now kind at) }
+{
+    let before = rows_before(all, counted(kind), at.asm as usize)?;
+    let n = sum(before, at.row as usize)?;
+    Ok(item_of(kind, n))
+}
+
+/// Puts the ids of members behind others.
+fn add_ids(
+    all: &[AsmRec],
+    kind: Kind,
+    rows: &[RowAt],
+    items: &mut Seq<Item>,
+) -> Result<(), NoMemory>
+    ensures { OnOk result (items.new ≡ items.old ++ map (id_of all.now kind) rows.now) }
+{
+    for at in rows {
+        let id = id_of(all, kind, *at)?;
+        items.push(id)?;
+    }
+    Ok(())
+}
+
+/// Puts the ids of the members of a kind that types have under a name behind others.
+fn add_named(
+    alloc: Global,
+    tables: &Tables<'_>,
+    slots: &Slots,
+    types: &[TypeExpr],
+    kind: Kind,
+    name: &[u8],
+    items: &mut Seq<Item>,
+) -> Result<(), NoMemory>
+    requires tables { IsTables tables.now }
+    requires slots { AreSlots tables.now.world.now.recs slots.now }
+    ensures { OnOk result (items.new ≡ items.old ++ ids_named tables.now.world.now.recs name.now types.now kind) }
+{
+    let rows = named(alloc, tables, slots, types, kind, name)?;
+    add_ids(tables.world.recs.as_slice(), kind, rows.as_slice(), items)
+}
+
+/// The members that a type and its bases have under a name: fields, then methods, properties and events.
+fn members_along(
+    alloc: Global,
+    tables: &Tables<'_>,
+    slots: &Slots,
+    types: &[TypeExpr],
+    name: &[u8],
+) -> Result<Seq<Item>, NoMemory>
+    requires tables { IsTables tables.now }
+    requires slots { AreSlots tables.now.world.now.recs slots.now }
+    ensures { IfOk result (λ items. items ≡ members_along tables.now.world.now.recs name.now types.now) }
+{
+    let mut items = Seq::new(alloc);
+    add_named(alloc, tables, slots, types, Kind::Field, name, &mut items)?;
+    add_named(alloc, tables, slots, types, Kind::Method, name, &mut items)?;
+    add_named(
+        alloc,
+        tables,
+        slots,
+        types,
+        Kind::Property,
+        name,
+        &mut items,
+    )?;
+    add_named(alloc, tables, slots, types, Kind::Event, name, &mut items)?;
+    Ok(items)
+}
+
+/// The public members of a type that have a name, in the order of their rows, then the public ones of instances of each base;
+/// a method, property or event that one before overrides is left out. Fields come first, then methods, properties, events.
+/// A type that isn't there has none. The error is that memory ends, or that an id needs more than 32 bits.
+#[tactic(auto, unfolding(rules::specs::type_rules::Searches::members_named))]
+pub fn members_named(
+    alloc: Global,
+    tables: &Tables<'_>,
+    slots: &Slots,
+    t: TypeId,
+    name: &[u8],
+) -> Result<Seq<Item>, NoMemory>
+    requires tables { IsTables tables.now }
+    requires slots { AreSlots tables.now.world.now.recs slots.now }
+    ensures { IfOk result (λ items. items ≡ members_named tables.now.world.now.recs t name.now) }
+{
+    let home = type_home(tables.world.recs.as_slice(), t)?;
+    let types = along(alloc, tables, home)?;
+    members_along(alloc, tables, slots, types.as_slice(), name)
+}

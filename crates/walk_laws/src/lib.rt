@@ -1,5 +1,0 @@
-//! Laws: in a linked world the walks that `link_rules` and `type_rules` make with a bound, over bases, interfaces, overrides
-//! and enclosers, are whole.
-#![tactic(auto)]
-
-pub mod laws;

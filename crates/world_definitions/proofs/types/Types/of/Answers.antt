@@ -1,8 +1,0 @@
-use Rattle.world_definitions.proofs.Asking.{heads_placed, starts_placed}
-use Rattle.world_definitions.proofs.types.Types.of.Goals as goal
-
-pub invariant_of-result : goal.invariant_of-result
-invariant_of-result c = (
-  λ n. heads_placed c.args.marker.now.tables.world.now.recs c.as_slice.result.now c.as_slice.ensures n c.in_ok-heads.heads.items c.in_ok-heads.ensures,
-  λ n. starts_placed c.args.marker.now.tables.world.now.recs c.as_slice-2.result.now c.as_slice-2.ensures n c.in_ok-starts.starts.items c.in_ok-starts.ensures,
-)

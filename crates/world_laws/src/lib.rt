@@ -1,4 +1,0 @@
-//! Laws on the worlds that a link gave: what each token names, where each item stands, and what worlds of files keep.
-#![tactic(auto)]
-
-pub mod laws;

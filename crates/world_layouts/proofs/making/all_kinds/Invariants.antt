@@ -1,7 +1,0 @@
-use Rattle.std.proofs.Common.{◌≡◌, ◌++◌, drop}
-use Rattle.mark_tables.specs.Assemblies.{all_of}
-use Rattle.world_layouts.specs.Kinds.{kinds_from}
-use Rattle.world_layouts.proofs.making.all_kinds.Given as goal
-
-abbrev pub invariant-loop-a : goal.invariant-loop-a
-invariant-loop-a l = l.kinds.items ++ kinds_from (all_of l.marker) l.a (drop l.a (all_of l.marker)) ≡ kinds_from (all_of l.marker) 0 (all_of l.marker)

@@ -1,8 +1,0 @@
-use Rattle.world_methods.proofs.Asking.{methods_placed}
-use Rattle.world_methods.proofs.methods.Methods.of.Goals as goal
-
-pub invariant_of-result : goal.invariant_of-result
-invariant_of-result c = (
-  methods_placed c.args.marker.now.tables.world.now.recs c.as_slice.result.now c.in_ok-rows.rows.items c.in_ok-rows.ensures c.as_slice.ensures,
-  rw c.as_slice-2.ensures.value at c.in_ok-places.ensures,
-)

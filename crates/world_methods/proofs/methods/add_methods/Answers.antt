@@ -1,9 +1,0 @@
-use Rattle.mark_tables.specs.Assemblies.{all_of}
-use Rattle.view_rules.specs.Methods.{method_at}
-use Rattle.world_methods.proofs.Filling.{row_more}
-use Rattle.world_methods.proofs.methods.add_methods.Goals as goal
-
-pub loop-k-preserved : goal.loop-k-preserved
-loop-k-preserved c =
-    row_more (method_at (all_of c.args.marker.now)) c.args.a c.loop-k.k c.in_ok-asm.asm c.in_ok-row.row c.args.rows.now.items c.loop-k.rows.items c.push.new.self.items c.in_ok-one.one c.loop-k.invariant
-    c.in_ok-asm.ensures c.in_ok-row.ensures c.in_ok-one.ensures c.in_ok-push.ensures.items

@@ -1,9 +1,0 @@
-use Rattle.std.proofs.Common.{◌≡◌, ◌++◌, drop}
-use Rattle.link_rules.specs.Members.{methods_in}
-use Rattle.mark_tables.specs.Assemblies.{all_of}
-use Rattle.view_rules.specs.Methods.{method_at}
-use Rattle.world_methods.specs.Rows.{rows_from}
-use Rattle.world_methods.proofs.methods.methods_of.Given as goal
-
-abbrev pub invariant-loop-a : goal.invariant-loop-a
-invariant-loop-a l = l.rows.items ++ rows_from methods_in (method_at (all_of l.marker)) l.a (drop l.a l.all) ≡ rows_from methods_in (method_at (all_of l.marker)) 0 l.all

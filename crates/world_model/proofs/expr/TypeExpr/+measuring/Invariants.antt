@@ -1,6 +1,0 @@
-use Rattle.std.proofs.Common.{◌≡◌, map, drop, nat_lt}
-use Rattle.world_model.specs.Exprs.{deepest, levels}
-use Rattle.world_model.proofs.expr.TypeExpr.+measuring.Given as goal
-
-abbrev pub invariant-any_deeper-loop-one : goal.invariant-any_deeper-loop-one
-invariant-any_deeper-loop-one l = nat_lt l.most (deepest (map levels (drop l.one-index l.types))) ≡ nat_lt l.most (deepest (map levels l.types))

@@ -1,6 +1,0 @@
-use Rattle.std.proofs.Common.{◌∙◌}
-use Rattle.world_model.proofs.Counting.{core_last}
-use Rattle.world_model.proofs.prims.core_types.Goals as goal
-
-pub returns-in-len1-up : goal.returns-in-len1-up
-returns-in-len1-up c = c.as_slice.ensures ∙ core_last c.args.recs.now c.core-item.result c.in-len1-up.len_at_least c.core-item.is

@@ -1,0 +1,3 @@
+pub mod cell_reader
+pub mod user_strings
+pub mod row_reader

@@ -1,6 +1,0 @@
-use Rattle.std.proofs.Common.{◌≡◌, drop}
-use Rattle.view_rules.specs.Answers.{nearest_core}
-use Rattle.world_types.proofs.kin.nearest_core.Given as goal
-
-abbrev pub invariant-loop-ty : goal.invariant-loop-ty
-invariant-loop-ty l = nearest_core l.all (drop l.ty-index l.types) ≡ nearest_core l.all l.types
