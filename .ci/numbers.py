@@ -21,25 +21,28 @@ RULES = [
     ("a token is taken apart by world_model::table_of and row_of", r"\btoken\)* *[/%] *(?:0x100_?0000|16777216)\b"),
     ("flags are tested by il_base::has_flag and access_of", r"\b\w*flags\b\)* *[/%&](?!&)(?! *seen_flags::) *"),
 ]
-# In the crates on linking and types every number of one or two hexadecimal digits is a table's, a flag or an element type.
+# In what is on linking and types every number of one or two hexadecimal digits is a table's, a flag or an element type: the crates under
+# these headings of crates.txt, and these modules of others.
 NAMED = ("ECMA-335 has a name for it", r"\b0x[0-9a-f]{1,2}\b")
 NAMED_HEADINGS = ("# link", "# types")
-# Where they stand nevertheless, and why. A path that ends with '/' is a folder.
+NAMED_MODULES = ("core_table", "link_rules", "link_laws", "type_rules", "type_laws", "walk_laws")
+# Where they stand nevertheless, and why: patterns of whole paths.
 EXCEPTIONS = {
-    "crates/il_base/": "defines them",
-    "crates/world_model/src/tokens.rt": "defines tokens",
-    "crates/world_model/specs/Tokens.antt": "defines tokens",
-    "crates/core_table/src/tokens.rt": "names the tokens of the core library",
-    "crates/blob_grammar/specs/": "spells tokens in signatures (II.23.2.8), and has no world_model below it",
-    "crates/sig_blobs/src/": "spells tokens in signatures (II.23.2.8), and has no world_model below it",
-    "crates/cli_format/specs/Tokens.antt": "takes tokens apart for coded indices (II.24.2.6), and has no world_model below it",
+    "crates/il_base/src/[a-z_]+.rt": "defines them",
+    "crates/il_base/specs/(?:Bytes|Flags|formers.*).antt": "defines them",
+    "crates/il_base/src/world_model/tokens.rt": "defines tokens",
+    "crates/il_base/specs/world_model/Tokens.antt": "defines tokens",
+    "crates/il_base/src/core_table/tokens.rt": "names the tokens of the core library",
+    "crates/il_base/specs/blob_grammar/.*": "spells tokens in signatures (II.23.2.8), and has no world_model below it",
+    "crates/sig_blobs/src/.*": "spells tokens in signatures (II.23.2.8), and has no world_model below it",
+    "crates/il_base/specs/cli_format/Tokens.antt": "takes tokens apart for coded indices (II.24.2.6), and has no world_model below it",
     "crates/pe_image/src/image.rt": "tests the flags of the CLI header (II.25.3.3.1)",
-    "crates/record_format/specs/Texts.antt": "makes the tokens of texts (III.4.16)",
-    "crates/user_strings/": "makes the tokens of texts (III.4.16)",
+    "crates/rules/specs/record_format/Texts.antt": "makes the tokens of texts (III.4.16)",
+    "crates/world_reader/(?:src|specs)/user_strings.*": "makes the tokens of texts (III.4.16)",
 }
 # The writer's oldest crates name tables and tokens by their numbers.
-OLD = re.compile(r"crates/written_\w+/")
-SKIPPED = re.compile(r"^crates/\w+_tests/|/tests(?:/|\.rt$)|/specs/(?:Sample|Examples)\.antt$")
+OLD = re.compile(r"crates/file_laws/\w+/written_\w+[/.]")
+SKIPPED = re.compile(r"^crates/\w+_tests/|/tests(?:/|\.rt$)|/(?:Sample|Examples)\.antt$")
 
 
 def plain(path, line):
@@ -62,7 +65,7 @@ def named_crates():
 
 def files():
     for path in sorted(glob.glob("crates/*/src/**/*.rt", recursive=True) + glob.glob("crates/*/specs/**/*.antt", recursive=True)):
-        excepted = any(path == name or name.endswith("/") and path.startswith(name) for name in EXCEPTIONS)
+        excepted = any(re.fullmatch(name, path) for name in EXCEPTIONS)
         if not excepted and not OLD.match(path) and not SKIPPED.search(path):
             yield path
 
@@ -72,7 +75,8 @@ def main():
     found = 0
     named = named_crates()
     for path in files():
-        rules = RULES + [NAMED] if path.split("/")[1] in named else RULES
+        parts = re.split(r"[/.]", path)
+        rules = RULES + [NAMED] if parts[1] in named or parts[3] in NAMED_MODULES else RULES
         with open(path, encoding="utf-8") as lines:
             for number, line in enumerate(lines, 1):
                 for what, rule in rules:

@@ -10,6 +10,7 @@
     files.py text N OUT           the example with a text of N letters
     files.py body N OUT           a file whose entry is a `ret` and behind it N instructions that are never run
     files.py large OUT            an assembly of about 4 MB with about half a million instructions in 16000 methods
+    files.py flow OUT             a file whose entry has 10000 instructions and 20 locals, through which 50 texts go along branches
     files.py shared OUT           200000 rows of one signature of 1 MiB and 50000 methods of one body of 100 kB, both bad at their ends
 
 The same words give the same bytes each time.
@@ -365,7 +366,26 @@ def shared():
     return image(bodies, metadata, 0x06000001)
 
 
-FILES = {f.__name__: f for f in (hello, uncalled, mixed, mixed_left, calls, needed, large, shared)}
+def flow():
+    """Blocks of 40 instructions, each of which goes back to the one before it: 18 pairs of a load and a store, a text now and then."""
+    metadata, bodies = begin("Flow"), Bodies()
+    metadata.row(0x02, CLASS, "Program", "", (0x01, 1), 1, 1)
+    metadata.row(0x11, bytes([7, 20]) + bytes([STRING]) * 20)
+    code, starts = b"", [0]
+    for block in range(250):
+        for pair in range(18):
+            k = block * 18 + pair
+            load = load_text(metadata, "text %d" % (k // 6 % 50)) if k % 6 == 0 else bytes([0x11, k * 7 % 20])
+            code += load + bytes([0x13, (k * 3 + 1) % 20])  # `ldloc.s`, `stloc.s`
+        code += b"\0\0\x16\x3a"  # two `nop`, `ldc.i4.0`, `brtrue` to the block before
+        code += (starts[-2 if block else -1] - len(code) - 4).to_bytes(4, "little", signed=True)
+        starts.append(len(code))
+    metadata.row(0x06, bodies.add(fat(code + b"\x2a", slots=0x11000001)), 0, STATIC, "Main", static_signature(VOID), 1)
+    end(metadata, "Flow")
+    return image(bodies, metadata, 0x06000001)
+
+
+FILES = {f.__name__: f for f in (hello, uncalled, mixed, mixed_left, calls, needed, large, shared, flow)}
 
 
 def main(words):

@@ -1,3 +1,3 @@
-mod Places
-mod Whole
-mod CoreRows
+pub mod Places
+pub mod Whole
+pub mod CoreRows

@@ -1,1 +1,1 @@
-mod EntryType
+pub mod EntryType

@@ -1,4 +1,4 @@
-mod Alone
+pub mod Alone
 pub mod Lists
 pub mod Rules
 pub mod Within
