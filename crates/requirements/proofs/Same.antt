@@ -18,7 +18,7 @@ use Rattle.value_flow.specs.body_graph.Places.{ArePlaces, place_at}
 use Rattle.value_flow.specs.body_graph.Graphs.{depth_of}
 use Rattle.value_flow.specs.declared.flow.Flow.{Flow}
 use Rattle.value_flow.specs.Flows.{owner_of, Carries, is_carried}
-use Rattle.requirements.specs.site_rules.Values.{Flowed}
+use Rattle.site_kinds.specs.site_rules.Values.{Flowed}
 use Rattle.requirements.specs.Ties.{IsFlowed, IsFlowOn}
 
 same_truth : {P : Type 0} (b c : Bool) → b ≡ true ↔ P → c ≡ true ↔ P → b ≡ c

@@ -2,9 +2,9 @@
 use Rattle.std.specs.Prelude.{ℕ, List, ◌++◌}
 use Rattle.il_base.specs.declared.ids.MethodId.{MethodId}
 use Rattle.value_flow.specs.declared.flow_rules.called.Called.{Called}
-use Rattle.requirements.specs.declared.site_rules.site.Site.{Site}
-use Rattle.requirements.specs.site_rules.Values.{Flowed}
-use Rattle.requirements.specs.site_rules.Bodies.{of_arguments, of_member}
+use Rattle.site_kinds.specs.declared.site_rules.site.Site.{Site}
+use Rattle.site_kinds.specs.site_rules.Values.{Flowed}
+use Rattle.site_kinds.specs.site_rules.Bodies.{of_arguments, of_member}
 
 abbrev pub called_sites : Flowed → ℕ → MethodId → Called → List Site
 called_sites f offset m c = of_arguments f offset m c ++ of_member f offset m c

@@ -11,9 +11,9 @@ use Rattle.value_flow.specs.flow_rules.Steps.{offsets, place_in}
 use Rattle.value_flow.specs.body_graph.Graphs.{IsGraph}
 use Rattle.value_flow.specs.declared.flow.Flow.{Flow}
 use Rattle.value_flow.specs.Flows.{owner_of, Carries, IsFlow}
-use Rattle.requirements.specs.declared.site_rules.site.Site.{Site}
-use Rattle.requirements.specs.site_rules.Values.{Flowed}
-use Rattle.requirements.specs.site_rules.Bodies.{head_sites, sites_of_body}
+use Rattle.site_kinds.specs.declared.site_rules.site.Site.{Site}
+use Rattle.site_kinds.specs.site_rules.Values.{Flowed}
+use Rattle.site_kinds.specs.site_rules.Bodies.{head_sites, sites_of_body}
 
 -- a method of a world, where the evaluation stack has these depths, and what walks carry is carried
 pub record IsFlowed (recs : List AsmRec) (m : MethodId) (depths : List (Option ℕ)) (f : Flowed) : Type 0 where

@@ -8,14 +8,14 @@ ghost use Rattle.value_flow.specs.flow_rules.Counts.{one_if};
 ghost use Rattle.value_flow.specs.flow_rules.Moves.{fixed_in, token_in, named_use, named_field};
 ghost use Rattle.value_flow.specs.body_graph.Methods.{setting_in};
 ghost use Rattle.mark_parts.specs.mark_tables.Assemblies.{all_of};
-ghost use Rattle.requirements.specs.site_rules.Values.{place_of};
+ghost use Rattle.site_kinds.specs.site_rules.Values.{place_of};
 ghost use Rattle.requirements.specs.Bodies.{flowed, IsBody};
 
 use crate::generic_sites::links::{field_named, method_named};
-use crate::site_kinds::known::Annotated;
 use il_base::world_model::{FieldUse, MethodUse, token_of};
 use il_base::{MethodId, NoMemory, Operand, Place, TypeId, table};
 use rules::link_rules::RowAt;
+use site_kinds::known::Annotated;
 use value_flow::Flow;
 use value_flow::body_graph::methods::Method;
 

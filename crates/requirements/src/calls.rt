@@ -4,18 +4,18 @@ ghost use Rattle.std.specs.Prelude.{◌≡◌, ◌++◌, OnOk};
 ghost use Rattle.std.specs.List.{flat_map};
 ghost use Rattle.std.specs.Option.{option_copied};
 ghost use Rattle.rules.specs.link_rules.Cycles.{listed};
-ghost use Rattle.requirements.specs.site_rules.Bodies.{argument_site, arguments_from, of_arguments, of_member, call_sites, creation_call_sites};
+ghost use Rattle.site_kinds.specs.site_rules.Bodies.{argument_site, arguments_from, of_arguments, of_member, call_sites, creation_call_sites};
 ghost use Rattle.requirements.specs.Bodies.{flowed, IsBody};
 ghost use Rattle.requirements.specs.Calls.{called_sites};
 
 use crate::body::Body;
 use crate::generic_sites::asking::put_asking;
 use crate::reflected::put_member;
-use crate::site_kinds::annotated::parameter_kinds;
-use crate::site_rules::{Site, Target};
 use crate::values::value_from_top;
 use il_base::world_model::MethodUse;
 use il_base::{MethodId, NoMemory, Seq};
+use site_kinds::annotated::parameter_kinds;
+use site_kinds::site_rules::{Site, Target};
 use std::alloc::Global;
 use value_flow::body_graph::signatures::called_in;
 use value_flow::flow_rules::Called;
@@ -58,7 +58,7 @@ fn put_all(
 }
 
 /// Puts the sites of the arguments of a method at the end.
-#[tactic(auto, unfolding(crate::specs::site_rules::Bodies::of_arguments))]
+#[tactic(auto, unfolding(site_kinds::specs::site_rules::Bodies::of_arguments))]
 fn put_arguments(
     alloc: Global,
     body: &Body<'_, '_, '_, '_>,

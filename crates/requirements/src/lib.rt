@@ -2,7 +2,6 @@
 //! it (`mark_tables`), a method and the flow of its values go in; the sites come out, as `site_rules` lists them.
 #![tactic(auto)]
 
-pub mod annotation_flags;
 mod body;
 mod calls;
 pub mod generic_sites;
@@ -10,11 +9,9 @@ pub mod item_sites;
 mod methods;
 mod names;
 mod reflected;
-pub mod site_kinds;
-pub mod site_rules;
 mod uses;
 mod values;
 
 pub use crate::item_sites::types::type_sites;
-pub use crate::site_kinds::failing::fails;
 pub use methods::{plain_sites, sites};
+pub use site_kinds::failing::fails;

@@ -2,7 +2,7 @@
 
 ghost use Rattle.std.specs.Prelude.{◌≡◌, ◌++◌, IfOk, OnOk};
 ghost use Rattle.std.specs.List.{flat_map, list_all};
-ghost use Rattle.requirements.specs.site_rules.Values.{is_known_name, name_in, known_names};
+ghost use Rattle.site_kinds.specs.site_rules.Values.{is_known_name, name_in, known_names};
 
 use il_base::{NoMemory, Seq, Units};
 use std::alloc::Global;
@@ -70,7 +70,7 @@ fn all_known(sources: &[Source]) -> bool
 }
 
 /// The texts of a name, where each source is a known text or null.
-#[tactic(auto, unfolding(crate::specs::site_rules::Values::known_names))]
+#[tactic(auto, unfolding(site_kinds::specs::site_rules::Values::known_names))]
 pub(crate) fn known_names(alloc: Global, sources: &[Source]) -> Result<Option<Seq<Units>>, NoMemory>
     ensures { IfOk result (λ names. names ≡ known_names sources.now) }
 {

@@ -1,10 +1,10 @@
 //! Sites at the end of a list.
 
 ghost use Rattle.std.specs.Prelude.{◌≡◌, ◌++◌, ◌∷◌, [], IfOk, OnOk};
-ghost use Rattle.requirements.specs.site_rules.Values.{asking};
+ghost use Rattle.site_kinds.specs.site_rules.Values.{asking};
 
-use crate::site_rules::{Site, Target};
 use il_base::{NoMemory, Place, Seq};
+use site_kinds::site_rules::{Site, Target};
 use std::alloc::Global;
 use value_flow::flow_rules::Source;
 

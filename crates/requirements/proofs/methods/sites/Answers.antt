@@ -8,7 +8,7 @@ use Rattle.mark_parts.specs.mark_tables.Assemblies.{all_of}
 use Rattle.value_flow.specs.flow_rules.Methods.{setting_of}
 use Rattle.value_flow.specs.flow_rules.Moves.{sources_of}
 use Rattle.value_flow.specs.body_graph.Methods.{setting_in, IsHere}
-use Rattle.requirements.specs.site_rules.Bodies.{sites_of_body}
+use Rattle.site_kinds.specs.site_rules.Bodies.{sites_of_body}
 use Rattle.requirements.proofs.Homes.{same_assembly}
 use Rattle.requirements.proofs.Same.{owned_by, is_flowed, same_flow}
 use Rattle.requirements.proofs.methods.sites.Goals as goal

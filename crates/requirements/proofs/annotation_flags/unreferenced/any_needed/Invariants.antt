@@ -1,8 +1,0 @@
-use Rattle.std.proofs.Common.{◌≡◌, drop}
-use Rattle.std.specs.List.{list_any}
-use Rattle.attribute_values.specs.attribute_kinds.Sites.{rec_in}
-use Rattle.requirements.specs.annotation_flags.Unreferenced.{needed_at}
-use Rattle.requirements.proofs.annotation_flags.unreferenced.any_needed.Given as goal
-
-abbrev pub invariant-loop-k : goal.invariant-loop-k
-invariant-loop-k l = list_any (needed_at (rec_in l.site)) (drop l.k-index l.rows) ≡ list_any (needed_at (rec_in l.site)) l.rows

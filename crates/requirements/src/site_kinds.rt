@@ -1,8 +1,0 @@
-//! Which kinds of members annotations promise, which the members of reflection ask for, and when a source fails at a target. A world
-//! with what is made of it (`mark_tables`) goes in, and each answer is `site_rules`'.
-
-pub mod annotated;
-pub mod failing;
-pub mod known;
-pub mod reflection;
-pub mod texts;

@@ -1,0 +1,2 @@
+pub mod site_rules
+pub mod annotation_flags

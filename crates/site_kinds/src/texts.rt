@@ -1,0 +1,197 @@
+//! Slots of texts.
+
+ghost use Rattle.std.specs.Prelude.{◌≡◌, slice_get, IfOk};
+ghost use Rattle.std.specs.List.{list_any};
+ghost use Rattle.il_base.specs.world_model.Worlds.{known_then, sig_expr};
+ghost use Rattle.rules.specs.link_rules.Signatures.{names_at};
+ghost use Rattle.rules.specs.link_rules.Cycles.{listed};
+ghost use Rattle.rules.specs.mark_rules.Annotations.{good_expr};
+ghost use Rattle.mark_parts.specs.mark_tables.Assemblies.{recs_of, place_of, rec_of, all_of, IsAssembly};
+ghost use Rattle.site_kinds.specs.Known.{IsAnnotated};
+ghost use Rattle.site_kinds.specs.site_rules.Fails.{is_string, takes_string, parameter_type, return_type, field_is_string, is_text_slot};
+ghost use Rattle.site_kinds.specs.Signatures.{good_signature, signature_of, any_of};
+ghost use Rattle.rules.specs.declared.link_rules.member_type.MethodType.{MethodType};
+
+use crate::annotated::field_home;
+use crate::known::Annotated;
+use crate::site_rules::Target;
+use il_base::world_model::{FieldRow, Known, TypeExpr};
+use il_base::{FieldId, MethodId, NoMemory, element};
+use mark_parts::mark_tables::assembly::Assembly;
+use rules::link_rules::{MethodType, RowAt};
+use std::alloc::Global;
+use type_tables::member_search::method_types::open_type;
+use type_tables::methods::{method_home, method_type_at};
+
+/// Whether a type is `string`, modifiers aside.
+#[tactic(auto, unfolding(crate::specs::site_rules::Fails::is_string))]
+fn is_string(e: &TypeExpr) -> bool
+    ensures { result ≡ is_string e.now }
+{
+    match e {
+        TypeExpr::Prim(code) => *code == element::STRING,
+        TypeExpr::Def(_) => false,
+        TypeExpr::Inst(_, _) => false,
+        TypeExpr::Array(_) => false,
+        TypeExpr::ByRef(_) => false,
+        TypeExpr::Var(_) => false,
+        TypeExpr::MVar(_) => false,
+        TypeExpr::Mod { inner, .. } => is_string(inner.get()),
+    }
+}
+
+/// The signature of a method; None where it has no reading, or there is no such method.
+pub(crate) fn method_type(
+    alloc: Global,
+    annotated: &Annotated<'_>,
+    m: MethodId,
+) -> Result<Option<MethodType>, NoMemory>
+    requires { IsAnnotated annotated.now }
+    ensures { IfOk result (λ ty. ty ≡ signature_of (all_of annotated.now.marker.now) m) }
+{
+    let marker = annotated.marker;
+    let at = match method_home(marker.tables.world.recs.as_slice(), m) {
+        Err(error) => return Err(error),
+        Ok(None) => return Ok(None),
+        Ok(Some(at)) => at,
+    };
+    match method_type_at(alloc, &marker.tables, at) {
+        Err(error) => Err(error),
+        Ok(None) => Ok(None),
+        Ok(Some(Known::Bad(_))) => Ok(None),
+        Ok(Some(Known::Good(ty))) => Ok(Some(ty)),
+    }
+}
+
+fn parameter_is_string(ty: &MethodType, n: u32) -> bool
+    ensures { result ≡ list_any is_string (parameter_type n ty.now) }
+{
+    match ty.params.get(n as usize) {
+        None => false,
+        Some(param) => is_string(param),
+    }
+}
+
+fn any_parameter(ty: &Option<MethodType>, n: u32) -> bool
+    ensures { result ≡ any_of (λ (t : MethodType). list_any is_string (parameter_type n t)) ty.now }
+{
+    match ty {
+        None => false,
+        Some(ty) => parameter_is_string(ty, n),
+    }
+}
+
+/// Whether a parameter of a method, counted from 0 without `this`, is a text.
+fn takes_text(
+    alloc: Global,
+    annotated: &Annotated<'_>,
+    m: MethodId,
+    n: u32,
+) -> Result<bool, NoMemory>
+    requires { IsAnnotated annotated.now }
+    ensures { IfOk result (λ is. is ≡ takes_string (all_of annotated.now.marker.now) m (parameter_type n)) }
+{
+    let ty = method_type(alloc, annotated, m)?;
+    let is = any_parameter(&ty, n);
+    drop(ty);
+    Ok(is)
+}
+
+fn return_is_string(ty: &MethodType) -> bool
+    ensures { result ≡ list_any is_string (return_type ty.now) }
+{
+    is_string(&ty.ret)
+}
+
+fn any_return(ty: &Option<MethodType>) -> bool
+    ensures { result ≡ any_of (λ (t : MethodType). list_any is_string (return_type t)) ty.now }
+{
+    match ty {
+        None => false,
+        Some(ty) => return_is_string(ty),
+    }
+}
+
+/// Whether a method returns a text.
+fn returns_text(alloc: Global, annotated: &Annotated<'_>, m: MethodId) -> Result<bool, NoMemory>
+    requires { IsAnnotated annotated.now }
+    ensures { IfOk result (λ is. is ≡ takes_string (all_of annotated.now.marker.now) m return_type) }
+{
+    let ty = method_type(alloc, annotated, m)?;
+    let is = any_return(&ty);
+    drop(ty);
+    Ok(is)
+}
+
+fn is_string_of(ty: &Known<TypeExpr>) -> bool
+    ensures { result ≡ list_any is_string (good_expr ty.now) }
+{
+    match ty {
+        Known::Bad(_) => false,
+        Known::Good(ty) => is_string(ty),
+    }
+}
+
+fn row_is_text(alloc: Global, asm: &Assembly<'_>, f: &FieldRow) -> Result<bool, NoMemory>
+    requires { IsAssembly asm.now }
+    ensures { IfOk result (λ is. is ≡ list_any is_string (good_expr (known_then (sig_expr (names_at (recs_of asm.now) (place_of asm.now) (rec_of asm.now))) f.now.signature))) }
+{
+    match &f.signature {
+        Known::Bad(_) => Ok(false),
+        Known::Good(sig) => match open_type(alloc, &asm.scope, sig) {
+            Err(error) => Err(error),
+            Ok(ty) => {
+                let is = is_string_of(&ty);
+                drop(ty);
+                Ok(is)
+            }
+        },
+    }
+}
+
+fn field_at_is_text(alloc: Global, annotated: &Annotated<'_>, at: RowAt) -> Result<bool, NoMemory>
+    requires { IsAnnotated annotated.now }
+    ensures { IfOk result (λ is. is ≡ list_any (field_is_string (all_of annotated.now.marker.now) at) (listed (slice_get (all_of annotated.now.marker.now) at.asm))) }
+{
+    let Some(asm) = annotated.marker.assembly_at(at.asm) else {
+        return Ok(false);
+    };
+    let Some(f) = asm.scope.rec.field.get(at.row as usize) else {
+        return Ok(false);
+    };
+    row_is_text(alloc, &asm, f)
+}
+
+/// Whether a field is a text.
+#[tactic(auto, unfolding(crate::specs::site_rules::Fails::is_text_slot))]
+fn field_is_text(alloc: Global, annotated: &Annotated<'_>, f: FieldId) -> Result<bool, NoMemory>
+    requires { IsAnnotated annotated.now }
+    ensures { IfOk result (λ is. is ≡ is_text_slot (all_of annotated.now.marker.now) (Target.Field f)) }
+{
+    let marker = annotated.marker;
+    match field_home(marker.tables.world.recs.as_slice(), f) {
+        Err(error) => Err(error),
+        Ok(None) => Ok(false),
+        Ok(Some(at)) => field_at_is_text(alloc, annotated, at),
+    }
+}
+
+/// Whether a target is a slot of a text.
+#[tactic(auto, unfolding(crate::specs::site_rules::Fails::is_text_slot))]
+pub fn is_text_slot(alloc: Global, annotated: &Annotated<'_>, to: Target) -> Result<bool, NoMemory>
+    requires { IsAnnotated annotated.now }
+    ensures { IfOk result (λ is. is ≡ is_text_slot (all_of annotated.now.marker.now) to) }
+{
+    match to {
+        Target::Param(m, n) => takes_text(alloc, annotated, m, n),
+        Target::Return(m) => returns_text(alloc, annotated, m),
+        Target::Field(f) => field_is_text(alloc, annotated, f),
+        Target::This(_) => Ok(false),
+        Target::TypeArg(_, _) => Ok(false),
+        Target::MethodArg(_, _) => Ok(false),
+        Target::Name(_) => Ok(false),
+        Target::Unreferenced(_) => Ok(false),
+        Target::Override(_) => Ok(false),
+        Target::Reflection(_) => Ok(false),
+    }
+}
