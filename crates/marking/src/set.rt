@@ -6,8 +6,8 @@ ghost use Rattle.virtual_calls.specs.Slots.{AreSlots};
 ghost use Rattle.mark_numbers.specs.Starts.{AreNumbers};
 ghost use Rattle.marking.specs.Marks.{IsMarkedSet};
 
+use crate::marking_rules::by_numbers::MarkRules;
 use crate::marking_rules::laws::lists_bring;
-use crate::marking_rules::rules::MarkRules;
 use crate::starts::start_numbers;
 use base_laws::world_laws::laws::homes_told;
 use closure::queued_closure::least;

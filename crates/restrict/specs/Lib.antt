@@ -2,3 +2,13 @@ pub mod Made
 pub mod Plans
 pub mod Referring
 pub mod Rows
+pub mod met_parts
+pub mod met_order
+pub mod reference_types
+pub mod member_rows
+pub mod constructor_keys
+pub mod merged_attributes
+pub mod assembly_tokens
+pub mod output_references
+pub mod reference_tables
+pub mod output_tokens

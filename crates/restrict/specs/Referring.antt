@@ -2,9 +2,9 @@
 use Rattle.std.specs.Prelude.{◌≡◌, List, map}
 use Rattle.rules.specs.merge_rules.Refs.{Output}
 use Rattle.rules.specs.merge_rules.Attributes.{kept_attributes}
-use Rattle.member_rows.specs.declared.merged_attributes.attributes.Attribute.{Attribute}
-use Rattle.member_rows.specs.merged_attributes.Attributes.{told}
-use Rattle.output_references.specs.References.{AreReferencesOf}
+use Rattle.restrict.specs.declared.merged_attributes.attributes.Attribute.{Attribute}
+use Rattle.restrict.specs.merged_attributes.Attributes.{told}
+use Rattle.restrict.specs.output_references.References.{AreReferencesOf}
 use Rattle.restrict.specs.declared.referring.Referring.{Referring}
 
 -- the attributes that are written

@@ -14,7 +14,7 @@ use Rattle.token_keys.specs.world_keys.Keys.{IsWorldKeys}
 use Rattle.reference_rows.specs.key_tokens.Keys.{AreKeyTokens}
 use Rattle.reference_rows.specs.key_tokens.Laws.{AreKeysOf}
 use Rattle.merged_tables.specs.merged_members.Laws.{HaveTokens}
-use Rattle.output_references.specs.reference_tables.Tables.{AreTablesOf}
+use Rattle.restrict.specs.reference_tables.Tables.{AreTablesOf}
 use Rattle.merged_tables.specs.merged_types.Laws.{IsPlanOf}
 use Rattle.merged_tables.specs.Parts.{output_by}
 use Rattle.merged_tables.specs.Rows.{AreMergedTables}

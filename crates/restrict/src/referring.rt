@@ -10,12 +10,12 @@ ghost use Rattle.reference_rows.specs.reference_scopes.Scopes.{recs_of, IsScopes
 ghost use Rattle.merged_tables.specs.Parts.{output_by};
 ghost use Rattle.restrict.specs.Referring.{AreReferring};
 
+use crate::merged_attributes::laws::attributes_tell;
+use crate::merged_attributes::{Attribute, kept_attributes};
+use crate::output_references::{OutputReferences, output_mets, output_references};
 use il_base::NoMemory;
-use member_rows::merged_attributes::laws::attributes_tell;
-use member_rows::merged_attributes::{Attribute, kept_attributes};
 use merge_plan::KeptItems;
 use merge_plan::kept_tables::tables::KeptTables;
-use output_references::{OutputReferences, output_mets, output_references};
 use reference_rows::reference_scopes::scopes::Scopes;
 use resolver::type_links::TypeIndex;
 use std::alloc::Global;

@@ -38,8 +38,8 @@ use Rattle.trim_laws.specs.trim_behaves.Behaves.{TrimsBehave}
 use Rattle.trim_laws.specs.spelled_trims.Laws.{TrimIsSpelled}
 use Rattle.run_rules.specs.Runs.{FileRun, end_of, file_run, entry_of, world_run, run_of_files}
 use Rattle.run_rules.specs.Alike.{SameEnd, SameRun}
-use Rattle.program_trim.specs.declared.answers.ProgramTrim.{ProgramTrim}
-use Rattle.program_trim.specs.Trim.{IsKeptSet, LeftIsSpelled, TrimmedWorld}
+use Rattle.trim_core.specs.declared.program_trim.answers.ProgramTrim.{ProgramTrim}
+use Rattle.trim_core.specs.program_trim.Trim.{IsKeptSet, LeftIsSpelled, TrimmedWorld}
 use Rattle.trim_core.specs.Taken.{Bytes, IsTaken}
 use Rattle.trim_core.specs.Behaves.{most_bytes, Behaves}
 use Rattle.trim_core.specs.Told.{entry_row}

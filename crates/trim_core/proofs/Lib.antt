@@ -1,3 +1,4 @@
 pub mod FileLemmas
 pub mod Lines
 pub mod Behaving
+pub mod lemmas

@@ -6,8 +6,8 @@ use Rattle.rules.specs.link_rules.Linked.{world_of}
 use Rattle.inputs.specs.Files.{records}
 use Rattle.descriptor_file.specs.declared.root.Root.{Root}
 use Rattle.descriptor_roots.specs.Roots.{roots_of}
-use Rattle.program_trim.specs.declared.answers.TrimFault.TheVariants as fault
-use Rattle.program_trim.specs.Trim.{TrimmedWorld, TrimsWorld}
+use Rattle.trim_core.specs.declared.program_trim.answers.TrimFault.TheVariants as fault
+use Rattle.trim_core.specs.program_trim.Trim.{TrimmedWorld, TrimsWorld}
 use Rattle.trim_core.specs.declared.answers.Opts.{Opts}
 use Rattle.trim_core.specs.declared.answers.Refusal.{Refusal}
 use Rattle.trim_core.specs.declared.answers.Refusal.TheVariants.{Limit, Outside, Unresolved, Collision, NoMemory}

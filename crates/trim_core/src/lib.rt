@@ -6,6 +6,7 @@ mod answers;
 mod colliding;
 mod digits;
 mod program;
+pub mod program_trim;
 mod taking;
 mod trimming;
 

@@ -8,16 +8,16 @@ ghost use Rattle.trim_core.specs.Told.{entry_row};
 ghost use Rattle.il_base.specs.blob_grammar.Laws.{AreBytes};
 ghost use Rattle.trim_core.specs.Taken.{Bytes, IsTaken};
 ghost use Rattle.descriptor_roots.specs.Roots.{roots_of};
-ghost use Rattle.program_trim.specs.Trim.{LeftIsSpelled};
+ghost use Rattle.trim_core.specs.program_trim.Trim.{LeftIsSpelled};
 ghost use Rattle.trim_core.specs.Trim.{TrimsProgram, TrimsFiles, list_if};
 
 use crate::answers::{Opts, Refusal, Trimmed};
+use crate::program_trim::{ProgramTrim, TrimFault, trim_world};
 use crate::taking::{entry_row, inputs_of};
 use descriptor_file::Root;
 use il_base::world_model::World;
 use il_base::{Seq, Text};
 use input_laws::laws::files_told;
-use program_trim::{ProgramTrim, TrimFault, trim_world};
 use rules::link_rules::RowAt;
 use std::alloc::Global;
 use trim_laws::spelled_trims::laws::trim_is_spelled;

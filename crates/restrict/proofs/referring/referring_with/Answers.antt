@@ -4,9 +4,9 @@ use Rattle.mark_parts.specs.mark_tables.Assemblies.{all_of}
 use Rattle.rules.specs.merge_rules.Order.{Met, met_by_types}
 use Rattle.rules.specs.merge_rules.Attributes as rules
 use Rattle.merge_plan.specs.Kept.{kept_by}
-use Rattle.member_rows.specs.declared.merged_attributes.attributes.Attribute.{Attribute}
-use Rattle.member_rows.specs.merged_attributes.Attributes.{told, attributes_by, met_by}
-use Rattle.output_references.specs.References.{AreReferencesOf}
+use Rattle.restrict.specs.declared.merged_attributes.attributes.Attribute.{Attribute}
+use Rattle.restrict.specs.merged_attributes.Attributes.{told, attributes_by, met_by}
+use Rattle.restrict.specs.output_references.References.{AreReferencesOf}
 use Rattle.merged_tables.specs.Parts.{output_by}
 use Rattle.restrict.proofs.referring.referring_with.Goals as goal
 

@@ -1,6 +1,6 @@
 use Rattle.std.proofs.Common.{map, ap, ◌∙◌}
 use Rattle.rules.specs.merge_rules.Attributes.{kept_attributes}
-use Rattle.member_rows.specs.merged_attributes.Attributes.{row_by}
+use Rattle.restrict.specs.merged_attributes.Attributes.{row_by}
 use Rattle.restrict.specs.Rows.{output_from}
 use Rattle.restrict.proofs.rows.rows_of_attributes.Goals as goal
 

@@ -1,6 +1,6 @@
 use Rattle.std.proofs.Common.{List, sym, subst}
 use Rattle.merge_plan.specs.Kept.{kept_by}
-use Rattle.member_rows.specs.declared.merged_attributes.attributes.Attribute.{Attribute}
+use Rattle.restrict.specs.declared.merged_attributes.attributes.Attribute.{Attribute}
 use Rattle.merged_tables.specs.Parts.{output_by}
 use Rattle.restrict.specs.Referring.{AreAttributesOf}
 use Rattle.restrict.proofs.rows.rows_with.Goals as goal

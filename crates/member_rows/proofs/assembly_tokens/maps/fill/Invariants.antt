@@ -1,6 +1,0 @@
-use Rattle.token_keys.specs.type_numbers.Filled.{IsFilled}
-use Rattle.member_rows.specs.assembly_tokens.Tokens.{moved_by}
-use Rattle.member_rows.proofs.assembly_tokens.maps.fill.Given as goal
-
-abbrev pub invariant-loop-k : goal.invariant-loop-k
-invariant-loop-k l = IsFilled (moved_by l.stand l.moving) l.table l.k l.initial.map l.map

@@ -1,2 +1,0 @@
-pub mod merged_attributes
-pub mod assembly_tokens

@@ -1,6 +1,0 @@
-use Rattle.merged_tables.specs.merged_texts.Texts.{texts_in}
-use Rattle.output_references.specs.output_tokens.Tokens.{AreFirstTokens}
-use Rattle.output_references.proofs.output_tokens.tokens.all_tokens.Given as goal
-
-abbrev pub invariant-loop-k : goal.invariant-loop-k
-invariant-loop-k l = AreFirstTokens l.parts (texts_in l.texts) l.k l.all.items

@@ -1,0 +1,21 @@
+use Rattle.std.proofs.Common.{◌≡◌, ℕ, length, subst}
+use Rattle.std.specs.Prelude.{if◌then◌else◌}
+use Rattle.il_base.specs.declared.table.TheConstants.{FIELD, MEMBER_REF}
+use Rattle.merge_plan.specs.moved_parts.Moves.{new_token}
+use Rattle.token_keys.specs.type_numbers.Filled.{covers}
+use Rattle.restrict.specs.assembly_tokens.Tokens.{rec_of, field_by}
+use Rattle.restrict.proofs.lemmas.assembly_tokens.Whole.{whole_two}
+use Rattle.restrict.proofs.lemmas.assembly_tokens.Unmoved.{no_fields}
+use Rattle.restrict.proofs.assembly_tokens.maps.fields.Goals as goal
+
+pub returns : goal.returns
+returns c =
+    let moving = c.args.moving.now in
+    let rec = rec_of moving in
+    let f : ℕ → ℕ = field_by moving in
+    whole_two f (new_token c.new-map.result) c.new-map.ensures
+    (new_token c.fill.new.map) (covers FIELD (length rec.field))
+    (subst (λ (n : ℕ). (q : ℕ) → new_token c.fill.new.map q ≡ (if covers FIELD n q then f q else new_token c.new-map.result q)) c.len.ensures c.in_ok-fill.ensures)
+    (new_token c.fill-2.new.map) (covers MEMBER_REF (length rec.member_ref))
+    (subst (λ (n : ℕ). (q : ℕ) → new_token c.fill-2.new.map q ≡ (if covers MEMBER_REF n q then f q else new_token c.fill.new.map q)) c.len-2.ensures c.in_ok-fill-2.ensures)
+    (no_fields moving c.requires)

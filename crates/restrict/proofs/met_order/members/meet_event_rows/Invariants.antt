@@ -1,0 +1,9 @@
+use Rattle.std.proofs.Common.{◌≡◌, ◌++◌, drop}
+use Rattle.std.specs.List.{flat_map}
+use Rattle.mark_parts.specs.mark_tables.Assemblies.{all_of}
+use Rattle.rules.specs.merge_rules.Order.{met_event_row}
+use Rattle.restrict.proofs.met_order.members.meet_event_rows.Given as goal
+
+abbrev pub invariant-loop-at : goal.invariant-loop-at
+invariant-loop-at l =
+    l.mets ++ flat_map (met_event_row (all_of l.world.marker.now)) (drop l.at-index l.events) ≡ l.initial.mets ++ flat_map (met_event_row (all_of l.world.marker.now)) l.events

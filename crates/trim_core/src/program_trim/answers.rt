@@ -1,0 +1,38 @@
+//! What a trim of a world answers.
+
+ghost use Rattle.std.specs.Prelude.{◌≡◌};
+ghost use Rattle.trim_core.specs.declared.program_trim.answers.TrimFault.TheVariants as fault;
+
+use il_base::{NoMemory, Place, Text, TypeId};
+
+/// What a trim left.
+#[derive(Drop)]
+pub struct ProgramTrim {
+    /// The file that is written.
+    pub bytes: Text,
+    /// The keep list, in UTF-8.
+    pub kept: Text,
+}
+
+/// Why a trim left nothing.
+#[derive(Clone, Copy, Debug, PartialEq, Eq)]
+pub enum TrimFault {
+    /// What is needed has a form outside the profile, by its number in `il_base::outside`.
+    Outside { place: Place, what: u8 },
+    /// What is needed has a part that names nothing.
+    Unresolved { place: Place },
+    /// Two types that are needed, of different assemblies, have one full name, and the second can't be renamed.
+    Collision { first: TypeId, second: TypeId },
+    /// More than a limit allows: a limit's number in `il_base::limit`, and what was found.
+    Limit { which: u8, found: u64 },
+    /// The allocator refused.
+    NoMemory,
+}
+
+impl From<NoMemory> for TrimFault {
+    ghost from_gives = { λ _ e. e ≡ fault.NoMemory };
+
+    fn from(_error: NoMemory) -> TrimFault {
+        TrimFault::NoMemory
+    }
+}
