@@ -6,6 +6,8 @@
 #[cfg(test)]
 mod attributes;
 #[cfg(test)]
+mod coded_indices;
+#[cfg(test)]
 mod core_library;
 #[cfg(test)]
 mod descriptors;
@@ -29,3 +31,5 @@ mod type_references;
 mod values;
 #[cfg(test)]
 mod written_images;
+#[cfg(test)]
+mod written_metadata;

@@ -1,18 +1,15 @@
 //! The metadata of tables and user texts (II.24): cells that name items go in, and the metadata root with its five streams
 //! comes out, each item once in its heap. Which bytes these are is defined by `file_layout`'s `specs/Metadata`.
 
-mod heaps;
-mod metadata;
+pub mod heaps;
+pub mod metadata;
 mod numbers;
-mod pool;
+pub mod pool;
 mod pools;
 mod rows;
 mod streams;
-mod tables;
+pub mod tables;
 mod widths;
 
 pub use heaps::users;
 pub use streams::metadata_of;
-
-#[cfg(test)]
-mod tests;

@@ -3,7 +3,7 @@
 
 mod assemblies;
 mod cells;
-mod coded;
+pub mod coded;
 mod extras;
 mod members;
 mod placed;
@@ -13,6 +13,3 @@ mod tables;
 mod types;
 
 pub use tables::tables_of;
-
-#[cfg(test)]
-mod tests;

@@ -1,12 +1,11 @@
 //! Pieces of the metadata of a file that prints `Hi`, laid out as the .NET SDK does.
 
-use super::*;
-use crate::metadata_writer::heaps::strings;
-use crate::metadata_writer::metadata::{Streams, metadata};
-use crate::metadata_writer::pool::Pool;
-use crate::metadata_writer::tables::tables_stream;
 use il_base::world_model::UserText;
 use il_base::{NoMemory, Seq};
+use record_writer::metadata_writer::heaps::{strings, users};
+use record_writer::metadata_writer::metadata::{Streams, metadata};
+use record_writer::metadata_writer::pool::Pool;
+use record_writer::metadata_writer::tables::tables_stream;
 use std::alloc::Global;
 use std::test::Fail;
 

@@ -1,7 +1,7 @@
 //! Coded indices, as a file that prints `Hi` has them.
 
-use crate::row_writer::coded::coded;
 use il_base::cli_format::CodedIndex;
+use record_writer::row_writer::coded::coded;
 
 #[test]
 fn coded_indices_have_tags(rt: HostRuntime) {
