@@ -1,4 +1,4 @@
--- The laws of readers, at the readers of this crate.
+-- The laws of readers, at the readers of attribute values.
 use Rattle.std.proofs.Common.{◌≡◌, ℕ, List, Result, Ok, Err, refl, sym, ap, ◌∙◌}
 use Rattle.il_base.specs.blob_grammar.Reading as reading
 use Rattle.il_base.specs.blob_grammar.Reading.{Fault}

@@ -1,5 +1,5 @@
-//! What a linked world answers to the questions of the machine, as definitions in `specs/`: bodies with their references resolved,
-//! what types hold, initializers, virtual calls, members of the core library. The functions are laws that state examples.
+//! What a linked world answers to the questions of the machine, as definitions in `specs/view_rules/`: bodies with their references
+//! resolved, what types hold, initializers, virtual calls, members of the core library. The functions are laws that state examples.
 
 pub mod seen_flags;
 

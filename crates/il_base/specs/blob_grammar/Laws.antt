@@ -1,4 +1,4 @@
--- What the laws of this crate say of a grammar, of what its blobs give, and of the spelling that is written.
+-- What the laws of `blob_grammar` say of a grammar, of what its blobs give, and of the spelling that is written.
 use Rattle.std.specs.Prelude.{◌≡◌, ◌⊎◌, ℕ, suc, ◌<◌, ◌≤◌, List, [], ◌∷◌, ◌++◌, length, take, drop, slice_index, Result, Ok, Err}
 
 -- The bytes of a list are numbers below 256.

@@ -1,4 +1,4 @@
--- Reading a blob from left to right, with the first byte that no value allows. The laws of this crate tie it to the
+-- Reading a blob from left to right, with the first byte that no value allows. The laws of `blob_grammar` tie it to the
 -- grammar.
 use Rattle.std.specs.Prelude.{ℕ, zero, suc, ◌+◌, ◌-◌, ◌*◌, ◌/◌, ◌%◌, nat_lt, ◌==◌, Bool, true, false, List, [], ◌∷◌, length, drop, Option, Some, None, Result, Ok, Err, if◌then◌else◌}
 use Rattle.il_base.specs.Bytes.{compressed_at}
