@@ -28,7 +28,7 @@ mem_folder_state m = record {
   failed = m.failed;
 }
 
--- the files with these bytes under this name: in the place of the first file of the name, or behind the others
+-- the files with these bytes under this name: in the place of the first file of the name, or after the others
 abbrev pub put_file : List NamedFile → List ℕ → List ℕ → List NamedFile
 put_file [] name bytes = record { name = name; bytes = bytes } ∷ []
 put_file (f ∷ fs) name bytes =

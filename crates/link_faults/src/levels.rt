@@ -82,7 +82,7 @@ impl<'a> Search<'a> {
         }
     }
 
-    /// Ends with a node: the nodes that wait behind it have its level where it leads to no earlier one.
+    /// Ends with a node: the nodes that wait after it have its level where it leads to no earlier one.
     fn end(&mut self, node: u32) {
         if rank_of(&self.low, node as usize) < rank_of(&self.met, node as usize) {
             return;

@@ -21,7 +21,7 @@ abbrev pub contests_from : List AsmRec → List RowAt → List RowAt → List Co
 contests_from recs earlier [] = []
 contests_from recs earlier (at ∷ rest) = contests_of recs earlier at ++ contests_from recs (earlier ++ at ∷ []) rest
 
--- the new names of these types, behind those that there are
+-- the new names of these types, after those that there are
 abbrev pub names_by : List AsmRec → List RowAt → List NewName → List Contest → List NewName
 names_by recs kept names [] = names
 names_by recs kept names (c ∷ cs) =

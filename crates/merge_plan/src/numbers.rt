@@ -71,7 +71,7 @@ impl Numbers {
         self.places.get(&spot).copied()
     }
 
-    /// Where a run begins or ends that did so at a row, from 1, of an assembly: behind the rows that are before that row.
+    /// Where a run begins or ends that did so at a row, from 1, of an assembly: after the rows that are before that row.
     #[tactic(auto, unfolding(rules::specs::merge_rules::Rows::run_at))]
     pub fn run_at(&self, asm: u32, row: u32) -> Result<u32, NoMemory>
         ensures { IfOk result (λ r. r ≡ run_at self.now asm row) }

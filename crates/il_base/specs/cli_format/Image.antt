@@ -14,7 +14,7 @@ use Rattle.il_base.specs.cli_format.Demand.{Demand, demand, each_below, bad, num
 unfoldable pub signature_place : List ℕ → ℕ
 signature_place bs = number 4 bs 0x3c
 
--- the place of the optional header, behind the signature and the COFF header of 20 bytes
+-- the place of the optional header, after the signature and the COFF header of 20 bytes
 unfoldable pub optional_place : List ℕ → ℕ
 optional_place bs = signature_place bs + 24
 

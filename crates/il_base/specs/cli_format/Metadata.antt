@@ -41,7 +41,7 @@ root_demands bs base =
     ++ demand ((version_length bs % 4 == 0) && nat_le (version_length bs) 256) (bad_at base BAD_ROOT)
     ++ demand (nat_le (20 + version_length bs) (length bs)) (bad_at base BAD_ROOT)
 
--- the header of a stream lies in the metadata, its name has at most 32 bytes, and zeros stand behind them
+-- the header of a stream lies in the metadata, its name has at most 32 bytes, and zeros stand after them
 unfoldable pub header_fits : List ℕ → ℕ → Bool
 header_fits bs h =
     nat_le (h + header_size bs h) (length bs)
@@ -55,7 +55,7 @@ stream_fits bs s earlier =
     && agrees s earlier
     && not (name_number s.name == name_number Uncompressed)
 
--- a stream whose header is at a place, behind earlier ones
+-- a stream whose header is at a place, after earlier ones
 unfoldable pub stream_demands : List ℕ → ℕ → ℕ → List Stream → List (Demand TablesError)
 stream_demands bs base h earlier =
     demand (header_fits bs h) (bad_at (base + h) BAD_STREAM)

@@ -19,7 +19,7 @@ named name =
 
 -- ---- the root (II.24.2.1)
 
--- the bytes of the version text, with the zeros behind it
+-- the bytes of the version text, with the zeros after it
 unfoldable pub version_length : List ℕ → ℕ
 version_length bs = number 4 bs 12
 
@@ -36,7 +36,7 @@ streams_place bs = 20 + version_length bs
 unfoldable pub name_length : List ℕ → ℕ → ℕ
 name_length bs h = unwrap_or (position (λ b. b == 0) (take 33 (drop (h + 8) bs))) (length (take 33 (drop (h + 8) bs)))
 
--- the zeros behind the name
+-- the zeros after the name
 unfoldable pub padding_length : List ℕ → ℕ → ℕ
 padding_length bs h = 4 - name_length bs h % 4
 

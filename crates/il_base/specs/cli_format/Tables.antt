@@ -76,7 +76,7 @@ row_width ts t = widths ts (columns_of t)
 
 -- ---- places of tables, rows and cells
 
--- the tables stand behind the row counts, one behind the other
+-- the tables stand after the row counts, one after the other
 unfoldable pub table_place : List ℕ → ℕ → ℕ
 table_place ts zero = count_place ts 64
 table_place ts (suc t) = table_place ts t + rows_of ts t * row_width ts t

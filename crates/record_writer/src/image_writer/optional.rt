@@ -28,7 +28,7 @@ const COFF: [u8; 24] = [
     b'P', b'E', 0, 0, 0x4c, 0x01, 2, 0, 0, 0, 0, 0, 0, 0, 0, 0, 0, 0, 0, 0, 0xe0, 0, 0x02, 0x01,
 ];
 
-/// The data directories behind that of relocations: import addresses and the CLI header.
+/// The data directories after that of relocations: import addresses and the CLI header.
 const LAST_DIRECTORIES: [u8; 80] = [
     0, 0, 0, 0, 0, 0, 0, 0, 0, 0, 0, 0, 0, 0, 0, 0, 0, 0, 0, 0, 0, 0, 0, 0, 0, 0, 0, 0, 0, 0, 0, 0,
     0, 0, 0, 0, 0, 0, 0, 0, 0, 0, 0, 0, 0, 0, 0, 0, 0, 0x20, 0, 0, 8, 0, 0, 0, 0, 0, 0, 0, 0, 0, 0,

@@ -88,7 +88,7 @@ fn spec_type(
     }
 }
 
-/// Puts the links of an assembly's TypeRef rows behind these.
+/// Appends the links of an assembly's TypeRef rows to these.
 fn push_refs(
     alloc: Global,
     index: &TypeIndex<'_>,
@@ -107,7 +107,7 @@ fn push_refs(
     Ok(())
 }
 
-/// Puts the links of an assembly's TypeDef rows behind these.
+/// Appends the links of an assembly's TypeDef rows to these.
 fn push_defs(
     all: &[AsmRec],
     a: u32,
@@ -123,7 +123,7 @@ fn push_defs(
     Ok(())
 }
 
-/// Puts the links of an assembly's TypeSpec rows behind these, among which those of its other rows stand.
+/// Appends the links of an assembly's TypeSpec rows to these, among which those of its other rows stand.
 fn push_specs(
     alloc: Global,
     all: &[AsmRec],
@@ -142,7 +142,7 @@ fn push_specs(
     Ok(())
 }
 
-/// Puts the links of an assembly behind those of the assemblies before it.
+/// Appends the links of an assembly to those of the assemblies before it.
 fn push_links(
     alloc: Global,
     index: &TypeIndex<'_>,

@@ -47,7 +47,7 @@ pub(crate) fn type_rows<'a>(
     Ok(rows)
 }
 
-/// The number behind a row's.
+/// The number after a row's.
 fn next(at: u32) -> Result<u32, NoMemory>
     ensures { IfOk result (λ n. n ≡ at + 1) }
 {

@@ -6,7 +6,7 @@ use Rattle.il_base.specs.blob_grammar.Numbers.{shortest}
 use Rattle.rules.specs.file_layout.Bytes.{half, padded}
 use Rattle.rules.specs.file_layout.Interning.{place_among}
 
--- ---- `#Strings`: each text with a zero behind it
+-- ---- `#Strings`: each text with a zero after it
 
 abbrev pub string_item : List ℕ → List ℕ
 string_item text = text ++ 0 ∷ []
@@ -19,7 +19,7 @@ unfoldable pub string_place : List (List ℕ) → List ℕ → ℕ
 string_place texts [] = 0
 string_place texts (c ∷ cs) = place_among string_item 1 texts (c ∷ cs)
 
--- ---- `#Blob`: each blob behind its length
+-- ---- `#Blob`: each blob after its length
 
 abbrev pub blob_item : List ℕ → List ℕ
 blob_item blob = shortest (length blob) ++ blob
@@ -40,7 +40,7 @@ unfoldable pub guid_number : List (List ℕ) → List ℕ → ℕ
 guid_number guids [] = 0
 guid_number guids (b ∷ bs) = place_among (λ g. 0 ∷ []) 1 guids (b ∷ bs)
 
--- ---- `#US`: UTF-16 units behind their length, with a last byte that says whether one of them needs more than a plain look
+-- ---- `#US`: UTF-16 units after their length, with a last byte that says whether one of them needs more than a plain look
 
 -- a unit with a high byte, or of the characters 01 to 08, 0e to 1f, 27, 2d and 7f (II.24.2.4)
 unfoldable pub is_special : ℕ → Bool

@@ -1,4 +1,4 @@
--- The image (II.25): PE32 with two sections, `.text` at RVA 2000 and file 200, and `.reloc` behind it.
+-- The image (II.25): PE32 with two sections, `.text` at RVA 2000 and file 200, and `.reloc` after it.
 use Rattle.std.specs.Prelude.{ℕ, ◌+◌, ◌-◌, ◌*◌, ◌/◌, ◌%◌, List, ◌∷◌, ◌++◌, length, codes}
 use Rattle.rules.specs.file_layout.Bytes.{half, word, zeros, aligned, padded}
 
@@ -16,7 +16,7 @@ pub record Parts : Type 0 where
 abbrev pub text_rva : ℕ
 text_rva = 0x2000
 
--- behind the import addresses (8 bytes) and the CLI header (72)
+-- after the import addresses (8 bytes) and the CLI header (72)
 abbrev pub code_rva : ℕ
 code_rva = 0x2050
 
@@ -28,7 +28,7 @@ metadata_rva p = code_rva + length p.code
 abbrev pub imports_rva : Parts → ℕ
 imports_rva p = metadata_rva p + length p.metadata
 
--- behind the import directory of 40 bytes; then the lookup table of 8, hint and name of 14, the library's name of 12
+-- after the import directory of 40 bytes; then the lookup table of 8, hint and name of 14, the library's name of 12
 abbrev pub lookup_rva : Parts → ℕ
 lookup_rva p = imports_rva p + 40
 

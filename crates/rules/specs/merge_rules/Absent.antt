@@ -1,5 +1,5 @@
 -- References to types that name nothing (II.22.38). Attributes that are copied can have them. Each is known by the first TypeRef row
--- of the inputs that reads the same; as a type it has the place of that row behind the types of the world.
+-- of the inputs that reads the same; as a type it has the place of that row after the types of the world.
 use Rattle.std.specs.Prelude.{ℕ, zero, suc, ◌+◌, ◌-◌, List, [], length, Option, Some, None, slice_get, position, nat_le, ◌==◌, ◌&&◌, Bool, false, if◌then◌else◌}
 use Rattle.std.specs.Option.{option_map, option_and_then}
 use Rattle.il_base.specs.declared.ids.TypeId.{TypeId}
@@ -91,6 +91,6 @@ first_same recs at = position (reads_same recs (length (reference_rows recs)) at
 unfoldable pub absent_type : List AsmRec → RowAt → Option TypeId
 absent_type recs at = option_map (λ k. record { 0 = type_count recs + k }) (first_same recs at)
 
--- the row of a place behind the types of the world
+-- the row of a place after the types of the world
 unfoldable pub absent_row : List AsmRec → TypeId → Option RowAt
 absent_row recs t = if nat_le (type_count recs) t.0 then slice_get (reference_rows recs) (t.0 - type_count recs) else None

@@ -103,6 +103,6 @@ unfoldable pub kept_attributes : List AsmRec → Kept → List Attribute
 kept_attributes recs kept =
     by_key (λ (x : Attribute). coded_of HasCustomAttribute x.parent) (all_rows (λ rec. rec.custom_attribute) (attribute_in recs kept) recs)
 
--- what attributes meet, behind all types
+-- what attributes meet, after all types
 unfoldable pub met_by_attributes : List AsmRec → Kept → List Met
 met_by_attributes recs kept = map (λ (x : Attribute). met_method x.ctor) (kept_attributes recs kept)

@@ -47,7 +47,7 @@ LeavesMethods =
 abbrev pub LeavesEntry : Type 0
 LeavesEntry = Left (λ rec. rec.entry) 0x06000001
 
--- ---- references: Object stands behind the four types of the inputs
+-- ---- references: Object stands after the four types of the inputs
 
 abbrev pub object : TypeKey
 object = named (record { 0 = 4 })

@@ -37,8 +37,8 @@ use Rattle.rules.specs.merge_rules.Absent.{absent_type}
 
 -- ---- signatures over the types of the world
 
--- The type that a token of an assembly names, as a number: one more than its place among the types of the world, behind which are
--- the references that name nothing. A token without a row has 0.
+-- The type that a token of an assembly names, as a number: one more than its place among the types of the world. The references
+-- that name nothing come after these types. A token without a row has 0.
 abbrev pub number_of : List AsmRec → Known TypeExpr → ℕ
 number_of recs (Good e) = def_number (out-TypeExpr e)
   where

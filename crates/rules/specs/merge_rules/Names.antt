@@ -1,5 +1,5 @@
 -- New names of types. Kept top-level types of two assemblies can't both keep one full name: the later one is renamed `<ASM>NAME`, with the
--- name of its assembly in angle brackets, and a number behind that where this name is taken too. A type that is public or shown
+-- name of its assembly in angle brackets, and a number after that where this name is taken too. A type that is public or shown
 -- can't be renamed, so the first such type is a collision with the earlier type.
 use Rattle.std.specs.Prelude.{ℕ, zero, suc, ◌+◌, List, [], ◌∷◌, ◌++◌, length, codes, Option, Some, None, find, ◌==◌, ◌&&◌, ◌||◌, Bool, true, false, not, if◌then◌else◌}
 use Rattle.std.specs.List.{list_any, filter}
@@ -51,7 +51,7 @@ name_of recs at = flat (option_map (λ (t : TypeDefRow). t.name) (type_row_at re
 abbrev pub renamed : List AsmRec → RowAt → List ℕ
 renamed recs at = codes "<" ++ assembly_name recs at ++ codes ">" ++ name_of recs at
 
--- a name with a number behind it; 0 stands for none
+-- a name with a number after it; 0 stands for none
 abbrev pub numbered_name : List ℕ → ℕ → List ℕ
 numbered_name name zero = name
 numbered_name name (suc n) = name ++ decimal (suc n)

@@ -152,7 +152,7 @@ scope_type_by recs t (Some at) = option_and_then (outer_reference recs) (referen
 unfoldable pub scope_type : List AsmRec → TypeId → Option TypeId
 scope_type recs t = scope_type_by recs t (absent_row recs t)
 
--- a type behind its scopes, over at most n of them
+-- a type after its scopes, over at most n of them
 unfoldable pub with_scopes : List AsmRec → ℕ → TypeId → List TypeId
 with_scopes recs zero t = t ∷ []
 with_scopes recs (suc n) t = flat_map (with_scopes recs n) (listed (scope_type recs t)) ++ t ∷ []

@@ -69,7 +69,7 @@ bodies_of ms = map (λ (m : MethodDefRow). m.body) ms
 abbrev pub placed_methods : List MethodDefRow → List MethodDefRow
 placed_methods ms = with_rvas (rvas_behind [] (bodies_of ms)) ms
 
--- bytes of fields behind them, each at a multiple of 8 (II.22.18)
+-- bytes of fields after them, each at a multiple of 8 (II.22.18)
 abbrev pub bytes_length : Known (List ℕ) → ℕ
 bytes_length (Good bytes) = length bytes
 bytes_length (Bad why) = 0

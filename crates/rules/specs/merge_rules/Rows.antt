@@ -40,7 +40,7 @@ place_token table rows at = option_map (token_32 table) (new_row rows at)
 abbrev pub is_before : ℕ → ℕ → RowAt → Bool
 is_before a k at = nat_lt at.asm a || at.asm == a && nat_lt at.row k
 
--- where a run begins or ends, as rows are counted from 1: behind the kept rows that are before it
+-- where a run begins or ends, as rows are counted from 1: after the kept rows that are before it
 unfoldable pub run_at : List RowAt → ℕ → ℕ → ℕ
 run_at kept a row = suc (length (filter (is_before a (row - 1)) kept))
 

@@ -30,7 +30,7 @@ after m = assemblies (m.left ∷ [])
 abbrev pub output : Merge → Output
 output m = output_of (before m) m.kept
 
--- the names that only modifiers use (II.7.1.1), which stand behind the core library's own types in either world
+-- the names that only modifiers use (II.7.1.1), which stand after the core library's own types in either world
 abbrev pub names_before : Merge → List CoreTypeName
 names_before m = missing_names (m.inputs ++ core_record ∷ [])
 

@@ -1,5 +1,5 @@
--- New numbers of the rows of one kind, types, methods or fields. Kept rows of inputs are counted in their order, behind them the rows
--- of the core library that the output's world has too. Any other number goes behind all rows, so that no two numbers become one.
+-- New numbers of the rows of one kind, types, methods or fields. Kept rows of inputs are counted in their order, after them the rows
+-- of the core library that the output's world has too. Any other number goes after all rows, so that no two numbers become one.
 use Rattle.std.specs.Prelude.{◌≡◌, ◌<◌, ℕ, ◌+◌, ◌-◌, List, length, Option, Some, None, Bool, slice_get, nat_le, nat_lt, ◌&&◌, unwrap_or, if◌then◌else◌}
 use Rattle.std.specs.List.{list_any}
 use Rattle.std.specs.Option.{option_map, option_and_then}

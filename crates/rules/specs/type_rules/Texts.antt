@@ -1,5 +1,5 @@
--- A type's text: its namespace, a full stop and its name; a nested type's name alone, behind its encloser and `+`; arguments
--- in brackets behind a constructed type, `[]` behind an array's element, `&` behind what is referred to.
+-- A type's text: its namespace, a full stop and its name; a nested type's name alone, after its encloser and `+`; arguments
+-- in brackets after a constructed type, `[]` after an array's element, `&` after what is referred to.
 use Rattle.std.specs.Prelude.{ℕ, zero, suc, List, [], ◌∷◌, ◌++◌, length, codes, Option, Some, None, slice_get, Bool, true, false}
 use Rattle.std.specs.Fmt.{decimal}
 use Rattle.il_base.specs.declared.ids.TypeId.{TypeId}

@@ -87,7 +87,7 @@ pub record SameMethod (m' m : MethodDefRow) : Type 0 where
 
 -- ---- a type's row
 
--- whether a token is of a type that the table of the core library has; behind those are names that only modifiers use (II.7.1.1)
+-- whether a token is of a type that the table of the core library has; after those are names that only modifiers use (II.7.1.1)
 abbrev pub is_table_type : ℕ → Bool
 is_table_type token = list_any (λ n. nat_lt n (length TYPES)) (listed (index_in TYPE_DEF token))
 

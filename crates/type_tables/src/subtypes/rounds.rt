@@ -151,7 +151,7 @@ pub fn above(alloc: Global, tables: &Tables<'_>, ty: &TypeExpr) -> Result<Vec<Ty
     led_to(alloc, tables, Step::Up, rounds, ty)
 }
 
-/// An interface and all interfaces that its rows lead to, itself first, the nearest before those behind them.
+/// An interface and all interfaces that its rows lead to, itself first, nearer ones before farther ones.
 #[tactic(auto, unfolding(rules::specs::type_rules::Dispatch::implied))]
 pub fn implied(alloc: Global, tables: &Tables<'_>, ty: &TypeExpr) -> Result<Vec<TypeExpr>, NoMemory>
     requires { IsTables tables.now }
