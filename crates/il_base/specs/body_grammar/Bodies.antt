@@ -120,7 +120,7 @@ fat_clause_at at bs =
 abbrev pub clause_at : Bool → ℕ → List ℕ → Result Handler Fault
 clause_at fat at bs = if fat then fat_clause_at at bs else small_clause_at at bs
 
--- the clause that was read goes on, a fault ends with those before
+-- after a clause that was read come the others; a fault ends the list with the clauses before it
 abbrev pub clauses_then : List Handler → Result Handler Fault → (Handler → List Handler × Option Fault) → List Handler × Option Fault
 clauses_then before (Ok h) next = next h
 clauses_then before (Err f) next = (before, Some f)
@@ -135,8 +135,8 @@ abbrev pub unless : List Handler → Option Fault → Result (List Handler) Faul
 unless hs None = Ok hs
 unless hs (Some f) = Err f
 
--- The clauses that were read, the first of which stands at a place. The first that doesn't meet the rules comes before
--- a fault after them.
+-- The clauses that were read, the first of which stands at a place, where all meet the rules. The first clause that doesn't is the
+-- fault, before any fault in the bytes after them.
 abbrev pub accepted : ℕ → ℕ → Option ℕ → List Handler × Option Fault → Result (List Handler) Fault
 accepted at step None read = unless read.0 read.1
 accepted at step (Some i) read = Err (fault (at + i * step) BODY)

@@ -58,7 +58,7 @@ opcode_at place bs =
     if first == 254 then (need (number_at 1 bs 1) (fault place BODY) >>= λ second. Ok (65024 + second, 2))
     else Ok (first, 1)
 
--- its form and inline argument
+-- the form and the inline argument of an opcode
 unfoldable pub kind_at : ℕ → ℕ → Result (Form × Inline) Fault
 kind_at place op = need (kind_of op) (fault place (if is_float op then FLOAT else INSTRUCTION))
 

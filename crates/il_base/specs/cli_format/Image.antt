@@ -78,7 +78,7 @@ mapped bs rva len = option_and_then (place_in rva len) (section_of (sections_of 
 
 -- ---- the CLI header (II.25.3.3)
 
--- its place, 72 bytes from the RVA of directory 14
+-- the place of the CLI header, 72 bytes from the RVA of directory 14
 unfoldable pub cli_place : List ℕ → ℕ
 cli_place bs = unwrap_or (mapped bs (number 4 bs (directory_place bs)) 72) 0
 

@@ -41,7 +41,7 @@ pub enum Inline {
 pub struct Row {
     /// The first opcode of the run.
     pub from: u16,
-    /// The last.
+    /// The last opcode of the run.
     pub to: u16,
     pub form: Form,
     pub inline: Inline,

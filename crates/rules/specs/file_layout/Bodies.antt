@@ -21,7 +21,7 @@ unfoldable pub code_behind : List ℕ → List (Option (Known Body)) → List �
 code_behind before [] = before
 code_behind before (b ∷ bs) = code_behind (behind before b) bs
 
--- the address of a body after so many bytes, 0 for none; addresses have 32 bits
+-- the RVA of a body after so many bytes, 0 for none; RVAs have 32 bits
 abbrev pub rva_at : ℕ → Option (Known Body) → ℕ
 rva_at before None = 0
 rva_at before (Some (Good b)) = (code_rva + aligned 4 before) % 4294967296

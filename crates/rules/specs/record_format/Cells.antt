@@ -47,7 +47,7 @@ token_by _ n = n
 unfoldable pub token_in : List ℕ → ℕ → ℕ → ℕ → ℕ
 token_in m t c r = token_by (column_of t c) (number_in m t c r)
 
--- the rows of a table
+-- the number of rows of a table
 unfoldable pub count_of : List ℕ → ℕ → ℕ
 count_of m t = rows_of (tables_stream m) t
 

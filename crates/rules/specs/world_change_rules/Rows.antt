@@ -1,5 +1,5 @@
--- What kept rows of a world have in another with new numbers: the same names and flags, moved types, and of lists of rows those that
--- are kept. Nothing is asked of rows that aren't kept.
+-- The kept rows of a world in another world with new numbers: they have the same names and flags, moved types, and of lists of rows
+-- the kept ones. Nothing is required of rows that aren't kept.
 use Rattle.std.specs.Prelude.{◌≡◌, ℕ, suc, List, [], length, map, Some, None, slice_get, nat_lt, Bool, IsTrue, ◌==◌, if◌then◌else◌}
 use Rattle.std.specs.List.{list_any, flat_map, filter}
 use Rattle.std.specs.Option.{option_map}
