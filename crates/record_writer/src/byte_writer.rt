@@ -1,4 +1,4 @@
-//! Numbers, zeros and padding, appended to bytes. Which bytes these are is defined by `rules/specs/file_layout/Bytes`.
+//! Numbers, zeros and padding, appended to bytes. `rules/specs/file_layout/Bytes` defines them.
 
 mod bytes;
 

@@ -1,5 +1,5 @@
-//! Members of the types of several assemblies, by what their type tokens name: the definition and the base of a type,
-//! signatures with their types, a member by its name and signature in a type or in it and its bases.
+//! Members of the types of several assemblies, by the links of type tokens: the definition and the base of a type, signatures with
+//! their types, a member by its name and signature in a type or in it and its bases.
 
 pub mod bases;
 pub mod counted;

@@ -1,4 +1,4 @@
--- What the writer's data stands for in the layout.
+-- The writer's data as data of the layout.
 use Rattle.std.specs.Prelude.{◌+◌, ◌<◌, ◌^◌, length}
 use Rattle.record_writer.specs.declared.image_writer.sections.Parts.{Parts}
 use Rattle.rules.specs.file_layout.Image as image

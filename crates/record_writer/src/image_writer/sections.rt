@@ -13,7 +13,7 @@ use crate::image_writer::rvas::{
 use il_base::NoMemory;
 use std::alloc::Global;
 
-/// What an image is made of.
+/// The parts that an image is made of.
 #[derive(Drop)]
 pub struct Parts<'a> {
     /// The flags of the CLI header (II.25.3.3.1).

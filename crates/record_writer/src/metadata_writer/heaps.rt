@@ -97,8 +97,8 @@ pub fn guids(alloc: Global, items: &Pool) -> Result<Vec<u8>, NoMemory>
     Ok(bytes)
 }
 
-/// Whether a UTF-16 unit needs more than a plain look: it has a high byte, or is one of the characters 01 to 08, 0e to
-/// 1f, 27, 2d and 7f (II.24.2.4).
+/// Whether a UTF-16 unit is special: its high byte isn't zero, or it is one of the characters 01 to 08, 0e to 1f, 27, 2d and 7f
+/// (II.24.2.4).
 #[tactic(auto, unfolding(rules::specs::file_layout::Heaps::is_special))]
 fn is_special(unit: u16) -> bool
     ensures { result ≡ layout.is_special unit }

@@ -9,7 +9,7 @@ use il_base::{NoMemory, Seq};
 use rules::link_rules::CoreTypeName;
 use std::alloc::Global;
 
-/// The row past the last of so many.
+/// The row past the last of `count` rows.
 fn row_behind(count: usize) -> Result<u32, NoMemory>
     ensures { IfOk result (λ row. row ≡ count + 1) }
 {

@@ -162,8 +162,8 @@ fn push_links(
 }
 
 impl<'a> TypeIndex<'a> {
-    /// What each TypeRef, TypeDef and TypeSpec token of the assemblies names: the links of each assembly in order, and of
-    /// each those of its TypeRef, TypeDef and TypeSpec rows.
+    /// The links of the TypeRef, TypeDef and TypeSpec tokens of the assemblies, which say what each names. The assemblies come in
+    /// order, and in each the TypeRef, TypeDef and TypeSpec rows.
     pub fn type_links(&self, alloc: Global) -> Result<Vec<TypeLink>, NoMemory>
         requires { IsIndex self.now }
         ensures { IfOk result (λ links. AreTypeLinks self.now.all.now links.items) }
@@ -177,7 +177,7 @@ impl<'a> TypeIndex<'a> {
     }
 }
 
-/// What each type token of these assemblies names, of which the last is the core library. See `TypeIndex::type_links`.
+/// The links of the type tokens of these assemblies, of which the last is the core library. See `TypeIndex::type_links`.
 pub fn type_links(alloc: Global, all: &[AsmRec]) -> Result<Vec<TypeLink>, NoMemory>
     ensures { IfOk result (λ links. AreTypeLinks all.now links.items) }
 {
