@@ -4,7 +4,7 @@ ghost use Rattle.mark_numbers.specs.Numbers.{FactsFound, NumbersFound};
 
 use base_laws::world_laws::laws::homes_told;
 
-/// In a world that a link gave each fact that is there has a number of its own below the bound, and each number of a fact is
+/// A law, for a world that a link gave: each fact that is there has a number of its own below the bound, and each such number is
 /// that of a fact that is there.
 pub fn numbers_told()
     ensures facts { FactsFound }

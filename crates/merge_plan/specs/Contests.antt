@@ -1,4 +1,5 @@
--- Types whose full name an earlier one of another assembly has, in order; new names and the first collision by them.
+-- Contests: types with the full name of an earlier type of another assembly, in order; the new names and the first collision that
+-- they make.
 use Rattle.std.specs.Prelude.{◌||◌, Bool, List, [], ◌∷◌, ◌++◌, map, find, Option}
 use Rattle.std.specs.Option.{option_map}
 use Rattle.il_base.specs.declared.bits.Bits.{Bits}

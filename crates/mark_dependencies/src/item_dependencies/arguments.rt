@@ -1,4 +1,4 @@
-//! What the arguments of DynamicDependencyAttribute name.
+//! The dependencies that the arguments of DynamicDependencyAttribute name.
 
 ghost use Rattle.std.specs.Prelude.{◌≡◌, ◌∷◌, map, IfOk};
 ghost use Rattle.attr_blobs.specs.declared.value.Arg.{out-Arg};
@@ -12,7 +12,7 @@ use attribute_values::dependency_forms::dependency::{Dependency, Sought};
 use il_base::{NoMemory, Seq, Text};
 use std::alloc::Global;
 
-/// How many values the low 32 bits have.
+/// The number of values of the low 32 bits.
 const LOW_BITS: u64 = 0x1_0000_0000;
 
 /// A copy of a text, if there is one.
