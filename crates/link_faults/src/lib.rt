@@ -1,4 +1,4 @@
-//! The first demand of linking several assemblies that fails: the records of all assemblies and the links of their type tokens go
+//! The first demand of linking several assemblies that fails. The records of all assemblies and the links of their type tokens go
 //! in, and the first fault comes out, as `rules/specs/link_rules/Faults` defines it.
 #![tactic(auto)]
 

@@ -82,8 +82,8 @@ fn add_others(
     )
 }
 
-/// Adds the members of a type that kinds name: constructors of the type itself; methods, fields, properties and events
-/// of the type and its bases, the last two with all their accessors; nested types with all that they hold; interface rows.
+/// Adds the members of a type that kinds name. They are constructors of the type itself; methods, fields, properties and events of
+/// the type and its bases, the last two with all accessors; nested types with all that they hold; and interface rows.
 #[tactic(auto, unfolding(rules::specs::mark_rules::Members::members_by), using(crate::proofs::Lists::members_put))]
 pub fn add_members_by(
     alloc: Global,

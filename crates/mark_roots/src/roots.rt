@@ -71,7 +71,7 @@ fn add_required(
     }
 }
 
-/// Adds the facts that an element gives at the start: an assembly without a type is kept whole; a type is kept with the members
+/// Adds the facts that an element gives at the start. An assembly without a type is kept whole. A type is kept with the members
 /// that the element names, unless the element waits for the type.
 #[tactic(auto, unfolding(rules::specs::mark_rules::Roots::root_facts), using(crate::proofs::Lists::none_more))]
 pub fn add_root(

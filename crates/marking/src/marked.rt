@@ -78,8 +78,8 @@ impl Marked {
     }
 }
 
-/// The marked set of a program, from an entry method, by its row, and the elements of descriptors: for each item and type of the
-/// world whether the rules of marking derive its facts.
+/// The marked set of a program, from an entry method, by its row, and the elements of descriptors. It says for each item and type
+/// of the world whether the rules of marking derive its facts.
 pub fn mark<N: NamedRules>(
     alloc: Global,
     marker: &Marker<'_>,

@@ -118,7 +118,7 @@ fn trim_marked(
 ///
 /// `Outside` and `Unresolved` come exactly where a needed item is outside of the profile or names nothing, with the first place by
 /// assembly, token and offset. `Collision` comes exactly where no needed item has such a flaw, and a type that is public or shown
-/// has the full name of an earlier type of another assembly; it names the first such type. `Limit` 5 and 7 come exactly where the
+/// has the full name of an earlier type of another assembly. It names the first such type. `Limit` 5 and 7 come exactly where the
 /// trimmed file would have too many rows or bytes. `NoMemory` alone is free.
 pub fn trim_world(
     alloc: Global,

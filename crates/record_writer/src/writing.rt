@@ -141,8 +141,9 @@ fn write_rows(alloc: Global, rec: &AsmRec, out: &mut Vec<u8>) -> Result<(), Writ
 
 /// Appends the file of a record to the bytes: the one that `record_layout` lays it out in. After a refusal they are as before.
 ///
-/// `Limit` comes exactly where the file passes a limit, with the first one: 5 where a table has more than 1048576 rows, or where a
-/// run begins after the last of exactly 65535; 7 where `#US` would have more than 16777216 bytes, or the file more than
+/// `Limit` comes exactly where the file passes a limit, with the first one. It is 5 where a table has more than 1048576 rows, or
+/// where a run begins after the last of exactly 65535 rows. It is 7 where `#US` would have more than 16777216 bytes, or the file
+/// more than
 /// 268435456. The premise that each signature and body has a spelling is made only of a record whose tables don't have too many rows.
 #[tactic(auto, using(crate::proofs::Passed::rows_passed))]
 pub fn write(alloc: Global, rec: &AsmRec, out: &mut Vec<u8>) -> Result<(), WriteError>

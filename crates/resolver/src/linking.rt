@@ -34,9 +34,10 @@ fn world_with(alloc: Global, all: Seq<AsmRec>, types: Vec<TypeLink>) -> Result<W
 
 /// The world that these assemblies make with the core library. The first of them is the primary.
 ///
-/// `Bad` comes exactly where a demand of linking fails, and names the first: a duplicate name of an assembly, a type on a cycle of
-/// bases, of interfaces or of value types in fields, an encloser on a cycle, a duplicate member. `NoMemory` alone is free; it comes
-/// too where a world has more rows of a kind than 4294967295. After a refusal the records are gone.
+/// `Bad` comes exactly where a demand of linking fails, and names the first. The demands are, in order: no duplicate name of an
+/// assembly, no type on a cycle of bases, of interfaces or of value types in fields, no encloser on a cycle, no duplicate member.
+/// `NoMemory` alone is free; it comes too where a world has more rows of a kind than 4294967295. After a refusal the records are
+/// gone.
 pub fn link(alloc: Global, recs: Seq<AsmRec>) -> Result<World, LinkError>
     ensures { Links recs result }
 {

@@ -45,8 +45,8 @@ short_fault files descriptors =
     (option_map roots_refusal (descriptor_fault (records files) descriptors)))
 
 -- The first refusal, in this order: the limits on files, the limit on the length of a named descriptor, the demands on each file,
--- those of linking, the entry point, and the descriptors, of which those that files have embedded come first. (`input_fault` checks
--- limits again, of which none is passed.)
+-- those of linking, the entry point, the descriptors. Embedded descriptors come before named ones. (`input_fault` checks limits
+-- again, of which none is passed.)
 unfoldable pub trim_fault : List (List ℕ) → List (List ℕ) → Option Refusal
 trim_fault files descriptors = or_refusal (option_map input_refusal (limit_fault files)) (short_fault files descriptors)
 

@@ -1,5 +1,5 @@
--- The types that references name (II.22.38, II.22.14): a TypeRef row goes by its scope, an assembly by its simple name, a type by
--- its namespace, name and encloser, or through the assemblies that forward it. Assemblies and rows are counted from 0; the last
+-- The types that references name (II.22.38, II.22.14). A TypeRef row goes by its scope, an assembly by its simple name. A type goes
+-- by its namespace, name and encloser, or through the assemblies that forward it. Assemblies and rows are counted from 0; the last
 -- assembly is the core library.
 use Rattle.std.specs.Prelude.{ℕ, zero, suc, ◌-◌, List, [], ◌∷◌, length, Option, Some, None, slice_get, position, nat_le, ◌==◌, ◌&&◌, Bool, true, false, if◌then◌else◌}
 use Rattle.std.specs.Option.{option_map, option_and_then}

@@ -1,5 +1,5 @@
 -- TypeRef rows that name nothing (II.22.38), which copied attributes can have. Each is identified by the first TypeRef row of the
--- inputs with the same names and scopes; as a type it has the place of that row after the types of the world.
+-- inputs with the same names and scopes. As a type it has the place of that row after the types of the world.
 use Rattle.std.specs.Prelude.{ℕ, zero, suc, ◌+◌, ◌-◌, List, [], length, Option, Some, None, slice_get, position, nat_le, ◌==◌, ◌&&◌, Bool, false, if◌then◌else◌}
 use Rattle.std.specs.Option.{option_map, option_and_then}
 use Rattle.il_base.specs.declared.ids.TypeId.{TypeId}
