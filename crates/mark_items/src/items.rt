@@ -79,7 +79,7 @@ fn add_waiting<N: NamedRules>(
     named.add_waiting(alloc, item, facts)
 }
 
-/// Adds the needs of attributes, dependencies and descriptors of a marked item.
+/// Adds the needs of a marked item by its attributes, its dependencies and descriptors.
 #[tactic(auto, using(crate::proofs::Lists::three_put))]
 fn add_named<N: NamedRules>(
     alloc: Global,
@@ -96,7 +96,7 @@ fn add_named<N: NamedRules>(
     add_waiting(alloc, marker, named, item, facts)
 }
 
-/// Adds the needs of the row of a marked item and what the item shows, with what stands between these.
+/// Adds the needs of a marked item: those of its row, of its attributes, dependencies and descriptors, and the types that it shows.
 #[tactic(auto, using(crate::proofs::Lists::all_put))]
 pub fn add_item_needs<N: NamedRules>(
     alloc: Global,
