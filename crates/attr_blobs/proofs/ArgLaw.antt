@@ -55,7 +55,7 @@ no_room_keeps enums kind (ParamKind-F.Enum name size) e = enum_keeps enums zero 
 no_room_keeps enums kind ParamKind-F.Boxed e = never_keeps (λ v. no_room_boxed zero kind v e refl) (λ bs. refl)
 no_room_keeps enums kind (ParamKind-F.List inner) e = never_keeps (λ v. no_room_list zero kind v inner e refl) (λ bs. refl)
 
--- ---- arguments one behind another
+-- ---- arguments one after another
 
 module _ (enums : List EnumSize) (room : ℕ) (kind : ParamKind) (one_keeps : Keeps (HasValues room kind) (arg_at enums room kind) (IsArg enums room kind)) where
   abbrev one : Reader Arg
@@ -64,7 +64,7 @@ module _ (enums : List EnumSize) (room : ℕ) (kind : ParamKind) (one_keeps : Ke
   abbrev Row : ℕ → List Arg → List ℕ → Type 0
   Row n xs bs = (length xs ≡ n) × AreArgs enums room kind xs bs
 
-  -- the elements behind a first one
+  -- the elements after a first one
   abbrev Behind : ℕ → Arg → List Arg → List ℕ → Type 0
   Behind n x xs bs = (tail : List Arg) × (xs ≡ x ∷ tail) × Row n tail bs
 
@@ -89,7 +89,7 @@ module _ (enums : List EnumSize) (room : ℕ) (kind : ParamKind) (one_keeps : Ke
       wider_keeps whole
       (then_keeps one (IsArg enums room kind) (λ x bs. args_at one n bs >>= λ xs. Ok (x ∷ xs.0, xs.1)) (Behind n) (λ x. HasValues room kind) one_keeps tail (λ v x front h. v) (λ v x front h. behind_some v n x))
 
-  -- what stands behind a vector's count
+  -- what stands after a vector's count
   abbrev Counted : ℕ → Arg → List ℕ → Type 0
   Counted n y bs = ((n ≡ 4294967295) × (y ≡ a.List None) × (bs ≡ [])) ⊎ ((xs : List Arg) × (y ≡ a.List (Some xs)) × (n ≡ 4294967295 → ⊥) × Row n xs bs)
 

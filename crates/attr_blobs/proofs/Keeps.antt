@@ -57,7 +57,7 @@ made_keeps {B = B} r R f S to k = record {
   law = λ p. made_told r R f S to (k.law p);
 }
 
--- one reader behind another
+-- one reader after another
 pub then_keeps : {A B : Type 0} {P : Type 0} (r : Reader A) (R : A → List ℕ → Type 0) (q : A → Reader B) (Q : A → B → List ℕ → Type 0) (V : A → Type 0)
     → Keeps P r R → ((x : A) → Keeps (V x) (q x) (Q x)) → (P → (x : A) (front : List ℕ) → R x front → V x) → (P → (x : A) (front : List ℕ) → R x front → Inhabited (Q x))
     → Keeps P (λ bs. r bs >>= λ x. q x.0 x.1) (Then R Q)

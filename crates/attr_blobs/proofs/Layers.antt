@@ -85,7 +85,7 @@ extends_more old middle more new h e = record { more = h.more ++ more; is_behind
 pub extends_on : (old middle new : List ℕ) → Extends old middle → Extends middle new → Extends old new
 extends_on old middle new h k = extends_more old middle k.more new h k.is_behind
 
--- two pieces, one behind the other
+-- two pieces, one after the other
 pub both : {E : Type 0} (r : Result Unit E) (out middle new a b : List ℕ) → middle ≡ out ++ a → OnOk r (new ≡ middle ++ b) → OnOk r (new ≡ out ++ (a ++ b))
 both (Ok x) out middle new a b e h = h ∙ ap (λ (l : List ℕ). l ++ b) e ∙ append_assoc out a b
 both (Err x) out middle new a b e h = h

@@ -9,7 +9,7 @@ use Rattle.attr_blobs.specs.declared.mark.Mark.{Mark}
 use Rattle.attr_blobs.specs.TypeNames.{mark, marks, begins_taken, begins_pair, is_sign, letter_of, text_of, in_front, cut, parts, longer, texts_of, with_text, filled, cut_by, is_blank, without_front, without_end, opens_other, assembly_of, named, name_of}
 use Rattle.attr_blobs.specs.declared.name.NameRead.TheVariants.{Other}
 
--- a text, and what stands behind it
+-- a text, and what stands after it
 abbrev pub behind_text : List ℕ → Option (List ℕ) → Option (List ℕ)
 behind_text text None = None
 behind_text text (Some rest) = Some (text ++ rest)
@@ -21,7 +21,7 @@ from n xs = take (length xs - n) (drop n xs)
 pub from_is : {A : Type 0} (n : ℕ) (xs : List A) → from n xs ≡ drop n xs
 from_is n xs = take_rest xs n
 
--- a loop that puts one more element behind what it has
+-- a loop that puts one more element after what it has
 pub step : {A B : Type 0} (f : List A → List B) (done new : List B) (b : B) (xs rest : List A) (all : List B) → f xs ≡ b ∷ f rest → new ≡ done ++ b ∷ [] → done ++ f xs ≡ all → new ++ f rest ≡ all
 step f done new b xs rest all e n h = ap (λ v. v ++ f rest) n ∙ append_assoc done (b ∷ []) (f rest) ∙ ap (λ v. done ++ v) (sym e) ∙ h
 
@@ -200,7 +200,7 @@ pub end_empty : (xs all : List Mark) (n : ℕ) → n ≡ 0 → without_end (take
 unfolding without_end
 end_empty xs all n e h = subst (λ (v : ℕ). without_end (take v xs) ≡ all) e h
 
--- the parts behind a `+`
+-- the parts after a `+`
 abbrev pub parts_behind : Option (List Mark) → List (List Mark)
 parts_behind None = []
 parts_behind (Some ms) = parts ms
@@ -212,7 +212,7 @@ parts_cut (m ∷ ms) =
     let G : Bool → Type 0 = λ b. (if b then [] ∷ parts ms else longer m (parts ms)) ≡ (cut_by b m ms (cut 43 ms)).0 ∷ parts_behind (cut_by b m ms (cut 43 ms)).1 in
     elim (is_sign 43 m) as G [ true ↦ refl | false ↦ rw (parts_cut ms) refl ]
 
--- names, and what stands behind them
+-- names, and what stands after them
 abbrev pub behind_path : List (List ℕ) → Option (List (List ℕ)) → Option (List (List ℕ))
 behind_path path None = None
 behind_path path (Some rest) = Some (path ++ rest)

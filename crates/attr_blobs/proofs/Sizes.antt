@@ -9,7 +9,7 @@ use Rattle.attr_blobs.specs.declared.value.EnumSize.{EnumSize}
 use Rattle.attr_blobs.specs.TypeNames.{name_of}
 use Rattle.attr_blobs.specs.Values.{names, size_of_named, name_of_text}
 
--- the element at a place, and what stands behind it
+-- the element at a place, and what stands after it
 pub at_drop : {A : Type 0} (xs : List A) (i : ℕ) (x : A) → i < length xs → x ≡ get_or xs i x → drop i xs ≡ x ∷ drop (i + 1) xs
 at_drop xs i x h e = rw add-one (drop-cons xs i x h ∙ ap (λ v. v ∷ drop (suc i) xs) (sym e))
 

@@ -21,7 +21,7 @@ pub record Ends (e : Expect) (bs : List ℕ) : Type 0 where
   pub is_tail : IsTail e.more e.low e.high tail
   pub is_text : IsUtf8 rest
 
--- one byte, by what is expected behind it
+-- one byte, by what is expected after it
 data Step (e : Expect) (n b : ℕ) : Option Expect → Type 0 where
   begins : (next : Expect) → e.more ≡ 0 → Lead b next → next.more ≤ n → Step e n b (Some next)
   goes : (more : ℕ) → e.more ≡ suc more → e.low ≤ b → b ≤ e.high → Step e n b (Some (expect more 128 191))
@@ -47,7 +47,7 @@ step e n b =
 
 -- ---- bytes that are read
 
--- the bytes behind a text were found
+-- the bytes after a text were found
 pub record Passed (n : ℕ) (e : Expect) (bs rest : List ℕ) : Type 0 where
   pub behind : rest ≡ drop n bs
   pub long : length (take n bs) ≡ n

@@ -1,4 +1,4 @@
--- The laws of readers, at the readers of this crate.
+-- The laws of readers, at the readers of attribute values.
 use Rattle.std.proofs.Common.{◌≡◌, ℕ, List, Result, Ok, Err, refl, sym, ap, ◌∙◌}
 use Rattle.il_base.specs.blob_grammar.Reading as reading
 use Rattle.il_base.specs.blob_grammar.Reading.{Fault}
@@ -31,7 +31,7 @@ told_err {A = A} (Err l) left what e =
     let same : (l, 5) ≡ (left, what) = err_is {A = A} (l, 5) (left, what) e in
     (ap (λ (p : ℕ × ℕ). Err p.0) same, sym (ap (λ (p : ℕ × ℕ). p.1) same))
 
--- one reader behind another
+-- one reader after another
 pub then_told : {A B : Type 0} (r : Reader A) (R : A → List ℕ → Type 0) (q : A → Reader B) (Q : A → B → List ℕ → Type 0)
     → Law (tell r) R → ((x : A) → Law (tell (q x)) (Q x)) → ((x : A) → Inhabited (Q x)) → Law (tell (λ bs. r bs >>= λ x. q x.0 x.1)) (Then R Q)
 then_told r R q Q law laws some =

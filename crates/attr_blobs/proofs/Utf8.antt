@@ -5,14 +5,14 @@ use Rattle.std.proofs.lemmas.Bool.{cond_both, cases_lt, lt-ltb, le-ltb, leb-true
 use Rattle.attr_blobs.specs.declared.text.Expect.{Expect}
 use Rattle.attr_blobs.specs.Texts.{expect, between, behind_first}
 
--- the bytes of a character behind its first: how many, and between which bounds the next one is
+-- the bytes of a character after its first: how many, and between which bounds the next one is
 abbrev pub IsTail : ℕ → ℕ → ℕ → List ℕ → Type 0
 IsTail zero low high [] = Unit {0}
 IsTail zero low high (b ∷ bs) = ⊥
 IsTail (suc more) low high [] = ⊥
 IsTail (suc more) low high (b ∷ bs) = (low ≤ b) × (b ≤ high) × IsTail more 128 191 bs
 
--- a first byte of a character, and what is expected behind it
+-- a first byte of a character, and what is expected after it
 pub data Lead : ℕ → Expect → Type 0 where
   one : (b : ℕ) → b < 128 → Lead b (expect 0 128 191)
   two : (b : ℕ) → 194 ≤ b → b ≤ 223 → Lead b (expect 1 128 191)
@@ -134,7 +134,7 @@ spells_four b t u v h k l m n o p q low high =
     let c : ℕ = (b - 240) * 262144 + (t - 128) * 4096 + (u - 128) * 64 + (v - 128) in
     (c, scalar_high c (omega arith) (omega arith), encoded_four c b t u v (omega arith) (omega arith) (omega arith) (omega arith) (omega arith))
 
--- a first byte and what is expected behind it spell a character
+-- a first byte and what is expected after it spell a character
 pub spells : (b : ℕ) (e : Expect) → Lead b e → (tail : List ℕ) → IsTail e.more e.low e.high tail → Spells (b ∷ tail)
 spells _ _ (one b h) [] i = spells_one b h
 spells _ _ (one b h) (t ∷ ts) i = absurd i
@@ -174,7 +174,7 @@ spells _ _ four_high (t ∷ u ∷ v ∷ []) i =
     let j = i.2 in let l = j.2 in spells_four 244 t u v (omega arith) (omega arith) i.0 (omega arith) j.0 j.1 l.0 l.1 (omega arith) (omega arith)
 spells _ _ four_high (t ∷ u ∷ v ∷ w ∷ ws) i = let j = i.2 in let l = j.2 in absurd l.2
 
--- ---- a character's bytes are a first byte and what is expected behind it
+-- ---- a character's bytes are a first byte and what is expected after it
 
 pub record Begun (c : ℕ) : Type 0 where
   pub byte : ℕ

@@ -144,7 +144,7 @@ module _ (enums : List EnumSize) where
       (then_keeps (named_at enums) (IsNamed enums) (λ x bs. nameds_at (named_at enums) n bs >>= λ xs. Ok (x ∷ xs.0, xs.1)) (Behind_named n) (λ x. Unit {0})
       (always named_law) tail (λ p x front h. tt) (λ p x front h. behind_named_some n x))
 
--- ---- what stands behind the prolog
+-- ---- what stands after the prolog
 
 abbrev pub value_of : List Arg → List NamedArg → AttrValue
 value_of fixed ns = record { fixed = fixed; named = ns }

@@ -37,7 +37,7 @@ Follows (Err attr_error.NoMemory) enums kinds bytes = Unit {0}
 Follows (Err (attr_error.Bad at)) enums kinds bytes =
     ((x : AttrValue) → IsAttribute enums kinds x bytes → ⊥) × (All (HasValues levels) kinds → IsToldBad (IsAttribute enums kinds) bytes at)
 
--- Behind the old bytes stands a spelling of a value, for each list of enums with which it has one.
+-- After the old bytes stands a spelling of a value, for each list of enums with which it has one.
 abbrev pub Spells : List ParamKind → AttrValue → List ℕ → List ℕ → Type 0
 Spells kinds x old new = (enums : List EnumSize) → IsSpelled (IsAttribute enums kinds) x → (more : List ℕ) × (new ≡ old ++ more) × IsAttribute enums kinds x more
 

@@ -47,7 +47,7 @@ mutual
     vector : (room : ℕ) (kind : ParamKind) (xs : List Arg) (bs : List ℕ) → length xs < 4294967295 → AreArgs enums room kind xs bs
         → IsArg enums (suc room) (k.List kind) (a.List (Some xs)) (little_bytes 4 (length xs) ++ bs)
 
-  -- arguments of one kind, one behind another
+  -- arguments of one kind, one after another
   pub data AreArgs (enums : List EnumSize) : ℕ → ParamKind → List Arg → List ℕ → Type 0 where
     none : (room : ℕ) (kind : ParamKind) → AreArgs enums room kind [] []
     more : (room : ℕ) (kind : ParamKind) (x : Arg) (xs : List Arg) (front bs : List ℕ) → IsArg enums room kind x front → AreArgs enums room kind xs bs
@@ -72,7 +72,7 @@ pub data AreNamed (enums : List EnumSize) : List NamedArg → List ℕ → Type 
   no_named : AreNamed enums [] []
   more_named : (x : NamedArg) (xs : List NamedArg) (front bs : List ℕ) → IsNamed enums x front → AreNamed enums xs bs → AreNamed enums (x ∷ xs) (front ++ bs)
 
--- the whole value behind its prolog 01 00: the constructor's arguments, the count of named arguments, and these
+-- the whole value after its prolog 01 00: the constructor's arguments, the count of named arguments, and these
 pub data IsAttribute (enums : List EnumSize) (kinds : List ParamKind) : AttrValue → List ℕ → Type 0 where
   attribute : (fixed : List Arg) (ns : List NamedArg) (fs bs : List ℕ) → AreFixed enums kinds fixed fs → length ns < 65536 → AreNamed enums ns bs
       → IsAttribute enums kinds (record { fixed = fixed; named = ns }) (1 ∷ 0 ∷ (fs ++ little_bytes 2 (length ns) ++ bs))

@@ -10,7 +10,7 @@ use Rattle.attr_blobs.specs.declared.text.Width.TheVariants.{One, Two, Four, Eig
 abbrev pub Read : Type 0 → Type 0
 Read A = Result A ℕ
 
--- A reader gives a value and the bytes behind it.
+-- A reader gives a value and the bytes after it.
 abbrev pub Reader : Type 0 → Type 0
 Reader A = List ℕ → Read (A × List ℕ)
 
@@ -57,7 +57,7 @@ expect more low high = record { more = more; low = low; high = high }
 abbrev pub between : ℕ → ℕ → ℕ → Bool
 between low high b = nat_le low b && nat_le b high
 
--- behind a character's first byte
+-- after a character's first byte
 abbrev pub behind_first : ℕ → Option Expect
 behind_first b =
     if nat_lt b 128 then Some (expect 0 128 191)
@@ -75,7 +75,7 @@ abbrev pub within_text : ℕ → Option Expect → Option Expect
 within_text left None = None
 within_text left (Some e) = if nat_le e.more left then Some e else None
 
--- behind one more byte, where the text has so many bytes left behind it
+-- after one more byte, where the text has so many bytes left after it
 abbrev pub expected : Expect → ℕ → ℕ → Option Expect
 expected e left b =
     if e.more == 0 then within_text left (behind_first b)
@@ -87,7 +87,7 @@ abbrev pub go_on : {A : Type 0} → List ℕ → (Expect → Read A) → Option 
 go_on bs f None = bad bs
 go_on bs f (Some e) = f e
 
--- the bytes behind a text of so many bytes
+-- the bytes after a text of so many bytes
 unfoldable pub behind_text : ℕ → Expect → List ℕ → Read (List ℕ)
 behind_text zero e bs = Ok bs
 behind_text (suc n) e [] = cut

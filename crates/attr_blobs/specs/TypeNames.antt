@@ -1,4 +1,4 @@
--- Type names in texts: `Outer+Inner, Assembly, and what else stands behind`.
+-- Type names in texts: `Outer+Inner, Assembly, and what else stands after`.
 use Rattle.std.specs.Prelude.{ℕ, Bool, true, false, not, ◌&&◌, ◌||◌, ◌==◌, List, [], ◌∷◌, ◌++◌, Option, Some, None, if◌then◌else◌, encode_utf8}
 use Rattle.std.specs.Option.{option_map}
 use Rattle.std.specs.List.{list_any}
@@ -16,7 +16,7 @@ abbrev pub is_letter : ℕ → Option ℕ → Bool
 is_letter code None = false
 is_letter code (Some c) = c == code
 
--- a `\` with a character behind it
+-- a `\` with a character after it
 abbrev pub begins_taken : List (Option ℕ) → Bool
 begins_taken [] = false
 begins_taken (c ∷ []) = false
@@ -35,7 +35,7 @@ abbrev pub cut_by : Bool → Mark → List Mark → List Mark × Option (List Ma
 cut_by true m ms rest = ([], Some ms)
 cut_by false m ms rest = (m ∷ rest.0, rest.1)
 
--- what stands before the first sign of this kind, and what behind it, if there is one
+-- what stands before the first sign of this kind, and what after it, if there is one
 unfoldable pub cut : ℕ → List Mark → List Mark × Option (List Mark)
 cut code [] = ([], None)
 cut code (m ∷ ms) = cut_by (is_sign code m) m ms (cut code ms)
@@ -95,7 +95,7 @@ unfoldable pub without_end : List Mark → List Mark
 without_end [] = []
 without_end (m ∷ ms) = unless_blank m (without_end ms)
 
--- the assembly's name behind the first comma, up to the next one, without the blanks at its ends
+-- the assembly's name after the first comma, up to the next one, without the blanks at its ends
 abbrev pub assembly_of : Option (List Mark) → Option (Option (List ℕ))
 assembly_of None = Some None
 assembly_of (Some ms) = option_map (λ t. Some t) (filled (text_of (without_end (without_front (cut 44 ms).0))))

@@ -87,7 +87,7 @@ kind_at enums room [] = cut
 kind_at enums zero (b ∷ bs) = leaf_kind_by enums b bs
 kind_at enums (suc room) (b ∷ bs) = kind_by enums (kind_at enums room) b bs
 
--- arguments one behind another
+-- arguments one after another
 unfoldable pub args_at : Reader Arg → ℕ → Reader (List Arg)
 args_at one zero bs = Ok ([], bs)
 args_at one (suc n) bs = do
@@ -147,7 +147,7 @@ fixed_at enums (kind ∷ kinds) bs = do
   xs ← fixed_at enums kinds x.1
   Ok (x.0 ∷ xs.0, xs.1)
 
--- a named argument behind its first byte: kind, name and value
+-- a named argument after its first byte: kind, name and value
 abbrev pub named_by : List EnumSize → Bool → Reader NamedArg
 named_by enums field bs = do
   kind ← kind_at enums levels bs

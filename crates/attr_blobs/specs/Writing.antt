@@ -52,7 +52,7 @@ element_in kind other = kind
 abbrev pub element_of : ParamKind → ParamKind
 element_of kind = element_in kind (out-ParamKind kind)
 
--- The elements of a vector behind their count, at most 2^32 - 2: no blob says more.
+-- The elements of a vector after their count, at most 2^32 - 2: no blob says more.
 abbrev pub list_bytes : Option (List (List ℕ)) → List ℕ
 list_bytes None = 255 ∷ 255 ∷ 255 ∷ 255 ∷ []
 list_bytes (Some elements) = little_bytes 4 (min (length elements) 4294967294) ++ concat elements
@@ -83,6 +83,6 @@ fixed_bytes (kind ∷ kinds) (arg ∷ args) = arg_bytes arg kind ++ fixed_bytes 
 abbrev pub named_bytes : NamedArg → List ℕ
 named_bytes n = (if n.field then 83 else 84) ∷ (kind_bytes n.kind ++ text_bytes n.name ++ arg_bytes n.value n.kind)
 
--- The named arguments stand behind their count, at most 2^16 - 1: no blob says more.
+-- The named arguments stand after their count, at most 2^16 - 1: no blob says more.
 abbrev pub attribute_bytes : List ParamKind → AttrValue → List ℕ
 attribute_bytes kinds v = 1 ∷ 0 ∷ (fixed_bytes kinds v.fixed ++ little_bytes 2 (min (length v.named) 65535) ++ flat_map named_bytes v.named)

@@ -12,7 +12,7 @@ use il_base::{Boxed, Seq};
 use std::alloc::Global;
 
 /// The argument of a kind in front (II.23.3, FixedArg), where at most `room` constructs may open, and the bytes
-/// behind it.
+/// after it.
 #[cycle(args)]
 #[tactic(auto, unfolding(crate::specs::Values::arg_at))]
 pub fn arg_of<'a>(
@@ -82,7 +82,7 @@ fn list_of<'a>(
     Ok((Arg::List(Some(args)), rest))
 }
 
-// So many arguments, one behind another.
+// So many arguments, one after another.
 #[cycle(args)]
 fn args_of<'a>(
     alloc: Global,

@@ -35,7 +35,7 @@ pub fn width_of_enum(size: u8) -> Width
     }
 }
 
-/// The kind in front (II.23.3, FieldOrPropType), where at most `room` constructs may open, and the bytes behind it.
+/// The kind in front (II.23.3, FieldOrPropType), where at most `room` constructs may open, and the bytes after it.
 #[cycle(kinds)]
 #[tactic(auto, unfolding(crate::specs::Values::kind_at))]
 pub fn kind_of<'a>(

@@ -133,7 +133,7 @@ pub fn is_sign(code: char, mark: &Mark) -> bool
     !mark.taken && is_letter(code, mark.letter)
 }
 
-/// What stands before the first sign of this kind, and what behind it, if there is one.
+/// What stands before the first sign of this kind, and what after it, if there is one.
 pub fn cut(marks: &[Mark], code: char) -> (&[Mark], Option<&[Mark]>)
     ensures front { result.0.now ≡ (cut code marks.now).0 }
     ensures behind { option_map (λ r. r.now) result.1 ≡ (cut code marks.now).1 }

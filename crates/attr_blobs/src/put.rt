@@ -8,7 +8,7 @@ ghost use Rattle.attr_blobs.specs.Answers.{Extends};
 use crate::text::Width;
 use il_base::{NoMemory, Text};
 
-/// Puts the shortest spelling of a number behind the bytes (II.23.2).
+/// Appends the shortest spelling of a number to the bytes (II.23.2).
 #[tactic(auto, unfolding(il_base::specs::blob_grammar::Numbers::shortest))]
 pub fn put_length(n: u32, out: &mut Vec<u8>) -> Result<(), NoMemory>
     requires { n < 536870912 }
@@ -30,7 +30,7 @@ pub fn put_length(n: u32, out: &mut Vec<u8>) -> Result<(), NoMemory>
     Ok(())
 }
 
-/// Puts a number of so many bytes behind the bytes, the lowest first.
+/// Appends a number of so many bytes to the bytes, the lowest first.
 pub fn put_sized(width: Width, n: u64, out: &mut Vec<u8>) -> Result<(), NoMemory>
     ensures ok { OnOk result (out.new.items ≡ out.old.items ++ little_bytes (bytes_of width) n) }
     ensures err { OnErr result (out.new.items ≡ out.old.items) }
@@ -45,7 +45,7 @@ pub fn put_sized(width: Width, n: u64, out: &mut Vec<u8>) -> Result<(), NoMemory
     Ok(())
 }
 
-/// Puts a text behind the bytes: its length, and its bytes.
+/// Appends a text to the bytes: its length, and its bytes.
 #[tactic(auto, unfolding(crate::specs::Writing::text_bytes))]
 pub fn put_text(text: &[u8], out: &mut Vec<u8>) -> Result<(), NoMemory>
     ensures ok { OnOk result (out.new.items ≡ out.old.items ++ text_bytes text.now) }
@@ -57,7 +57,7 @@ pub fn put_text(text: &[u8], out: &mut Vec<u8>) -> Result<(), NoMemory>
     Ok(())
 }
 
-/// Puts a text or null behind the bytes.
+/// Appends a text or null to the bytes.
 pub fn put_text_or_null(text: &Option<Text>, out: &mut Vec<u8>) -> Result<(), NoMemory>
     ensures ok { OnOk result (out.new.items ≡ out.old.items ++ text_or_null_bytes text.now) }
     ensures err { OnErr result (Extends out.old.items out.new.items) }

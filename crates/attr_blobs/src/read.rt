@@ -79,7 +79,7 @@ fn value_of<'a>(
     Ok((AttrValue { fixed, named }, rest))
 }
 
-// The bytes behind 01 00.
+// The bytes after 01 00.
 #[tactic(auto, unfolding(crate::specs::Values::prolog_at))]
 fn prolog_of(bytes: &[u8]) -> Result<&[u8], Unread>
     ensures { Gives (λ r. r.now) result (prolog_at bytes.now) }
@@ -114,7 +114,7 @@ fn fixed_of<'a>(
     Ok((args, rest))
 }
 
-// So many named arguments, one behind another.
+// So many named arguments, one after another.
 fn nameds_of<'a>(
     alloc: Global,
     enums: &[EnumSize],

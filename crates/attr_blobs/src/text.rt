@@ -15,7 +15,7 @@ pub enum Width {
     Eight,
 }
 
-/// What is expected behind a byte of UTF-8.
+/// What is expected after a byte of UTF-8.
 #[derive(Clone, Copy)]
 pub struct Expect {
     /// How many more bytes the character has.
@@ -27,7 +27,7 @@ pub struct Expect {
 
 pub const CUT: Unread = Unread::Bad { left: 0 };
 
-/// The number in front, the lowest byte first, and the bytes behind it.
+/// The number in front, the lowest byte first, and the bytes after it.
 #[tactic(auto, unfolding(crate::specs::Texts::sized_at))]
 pub fn sized_of(width: Width, bytes: &[u8]) -> Result<(u64, &[u8]), Unread>
     ensures { Gives (λ x. (x.0, x.1.now)) result (sized_at (bytes_of width) bytes.now) }
@@ -52,7 +52,7 @@ pub fn sized_of(width: Width, bytes: &[u8]) -> Result<(u64, &[u8]), Unread>
     }
 }
 
-/// The compressed number in front (II.23.2), and the bytes behind it.
+/// The compressed number in front (II.23.2), and the bytes after it.
 #[tactic(auto, unfolding(crate::specs::Texts::length_at))]
 pub fn length_of(bytes: &[u8]) -> Result<(u32, &[u8]), Unread>
     ensures { Gives (λ x. (x.0, x.1.now)) result (length_at bytes.now) }
@@ -99,7 +99,7 @@ fn within_text(left: u32, next: Option<Expect>) -> Option<Expect>
     }
 }
 
-// What is expected behind one more byte, where the text has `left` bytes behind it.
+// What is expected after one more byte, where the text has `left` bytes after it.
 fn expected(now: Expect, left: u32, byte: u8) -> Option<Expect>
     ensures { result ≡ expected now left byte }
 {
@@ -112,7 +112,7 @@ fn expected(now: Expect, left: u32, byte: u8) -> Option<Expect>
     None
 }
 
-// The bytes behind a text of `size` bytes.
+// The bytes after a text of `size` bytes.
 fn behind_text(size: u32, bytes: &[u8]) -> Result<&[u8], Unread>
     ensures gives { Gives (λ r. r.now) result (behind_text size (expect 0 128 191) bytes.now) }
     ensures rest { IfOk result (λ r. r.now ≡ drop size bytes.now) }
@@ -137,7 +137,7 @@ fn behind_text(size: u32, bytes: &[u8]) -> Result<&[u8], Unread>
     Ok(rest)
 }
 
-/// The text in front: its length in bytes, and its bytes in UTF-8. Then the bytes behind it.
+/// The text in front: its length in bytes, and its bytes in UTF-8. Then the bytes after it.
 #[tactic(auto, unfolding(crate::specs::Texts::text_at))]
 pub fn text_of(alloc: Global, bytes: &[u8]) -> Result<(Text, &[u8]), Unread>
     ensures { Gives (λ x. (x.0, x.1.now)) result (text_at bytes.now) }
@@ -148,7 +148,7 @@ pub fn text_of(alloc: Global, bytes: &[u8]) -> Result<(Text, &[u8]), Unread>
     Ok((text, rest))
 }
 
-/// The text in front, or None for null, and the bytes behind it.
+/// The text in front, or None for null, and the bytes after it.
 #[tactic(auto, unfolding(crate::specs::Texts::text_or_null_at))]
 pub fn text_or_null_of(alloc: Global, bytes: &[u8]) -> Result<(Option<Text>, &[u8]), Unread>
     ensures { Gives (λ x. (x.0, x.1.now)) result (text_or_null_at bytes.now) }

@@ -12,7 +12,7 @@ use crate::text::Width;
 use crate::value::{Arg, AttrValue, NamedArg};
 use il_base::{NoMemory, Seq};
 
-/// Puts the spelling of a kind behind the bytes (II.23.3, FieldOrPropType).
+/// Appends the spelling of a kind to the bytes (II.23.3, FieldOrPropType).
 #[cycle(kinds)]
 #[tactic(auto, using(crate::proofs::Layers::extends_behind, crate::proofs::Layers::extends_same))]
 fn put_kind(kind: &ParamKind, out: &mut Vec<u8>) -> Result<(), NoMemory>
@@ -41,7 +41,7 @@ fn put_kind(kind: &ParamKind, out: &mut Vec<u8>) -> Result<(), NoMemory>
     }
 }
 
-// Puts the kind of an enum behind the bytes.
+// Appends the kind of an enum to the bytes.
 #[tactic(auto, using(crate::proofs::Layers::extends_behind, crate::proofs::Layers::extends_same))]
 fn put_enum(name: &[u8], out: &mut Vec<u8>) -> Result<(), NoMemory>
     ensures ok { OnOk result (out.new.items ≡ out.old.items ++ 85 ∷ text_bytes name.now) }
@@ -51,7 +51,7 @@ fn put_enum(name: &[u8], out: &mut Vec<u8>) -> Result<(), NoMemory>
     put_text(name, out)
 }
 
-// Puts the kind of a vector behind the bytes.
+// Appends the kind of a vector to the bytes.
 #[cycle(kinds)]
 #[tactic(auto, using(crate::proofs::Layers::extends_behind, crate::proofs::Layers::extends_same))]
 fn put_list(inner: &ParamKind, out: &mut Vec<u8>) -> Result<(), NoMemory>
@@ -82,7 +82,7 @@ fn element_of(kind: &ParamKind) -> &ParamKind
     }
 }
 
-/// Puts the spelling of an argument of a kind behind the bytes (II.23.3, FixedArg).
+/// Appends the spelling of an argument of a kind to the bytes (II.23.3, FixedArg).
 #[cycle(writing)]
 #[tactic(auto, using(crate::proofs::Layers::extends_behind, crate::proofs::Layers::extends_same))]
 fn put_arg(arg: &Arg, kind: &ParamKind, out: &mut Vec<u8>) -> Result<(), NoMemory>
@@ -110,7 +110,7 @@ fn put_arg(arg: &Arg, kind: &ParamKind, out: &mut Vec<u8>) -> Result<(), NoMemor
     }
 }
 
-// Puts the spellings of arguments of a kind behind the bytes.
+// Appends the spellings of arguments of a kind to the bytes.
 #[cycle(writing)]
 fn put_args(args: &[Arg], kind: &ParamKind, out: &mut Vec<u8>) -> Result<(), NoMemory>
     ensures ok { OnOk result (out.new.items ≡ out.old.items ++ flat_map (λ a. arg_bytes a kind.now) args.now) }
@@ -124,7 +124,7 @@ fn put_args(args: &[Arg], kind: &ParamKind, out: &mut Vec<u8>) -> Result<(), NoM
     Ok(())
 }
 
-/// Puts the shortest spelling of a custom attribute's value behind the bytes (II.23.3), for the parameters of its
+/// Appends the shortest spelling of a custom attribute's value to the bytes (II.23.3), for the parameters of its
 /// constructor.
 pub fn write_attribute(
     value: &AttrValue,
@@ -153,7 +153,7 @@ fn put_attribute(
     put_nameds(value.named.as_slice(), out)
 }
 
-// Puts the spellings of arguments of these kinds behind the bytes, as many as there are of both.
+// Appends the spellings of arguments of these kinds to the bytes, as many as there are of both.
 fn put_fixed(params: &[ParamKind], args: &[Arg], out: &mut Vec<u8>) -> Result<(), NoMemory>
     ensures ok { OnOk result (out.new.items ≡ out.old.items ++ fixed_bytes params.now args.now) }
     ensures err { OnErr result (Extends out.old.items out.new.items) }

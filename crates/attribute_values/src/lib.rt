@@ -1,6 +1,5 @@
-//! The values of custom attributes (II.23.3). What goes in is an assembly of a world, with what is made of the world once, and a
-//! row of CustomAttribute; what comes out is its value, or that it has no reading, as `value_of` of `rules/specs/mark_rules/Attributes`
-//! has it.
+//! The values of custom attributes (II.23.3). In go an assembly of a world, with the tables of the world, and a row of
+//! CustomAttribute; out comes its value, or that it has no reading, as `value_of` of `rules/specs/mark_rules/Attributes` has it.
 #![tactic(auto)]
 
 pub mod attribute_kinds;

@@ -1,4 +1,4 @@
--- A program with what is made of its world.
+-- A program with its tables.
 use Rattle.std.specs.Prelude.{List, Bool}
 use Rattle.il_base.specs.declared.ids.Item.{Item}
 use Rattle.il_base.specs.declared.world_model.record.AsmRec.{AsmRec}

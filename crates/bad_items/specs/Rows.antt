@@ -1,4 +1,4 @@
--- What is wrong with what is marked, piece by piece.
+-- The flaws of marked items, in pieces.
 use Rattle.std.specs.Prelude.{ℕ, suc, List, [], ◌∷◌, ◌++◌, Bool, Option, Some, None, ◌&&◌, ◌||◌, nat_lt, nat_eq}
 use Rattle.std.specs.List.{flat_map}
 use Rattle.il_base.specs.declared.ids.Item.{Item}

@@ -1,5 +1,5 @@
-//! The first bad item of a program. What goes in is a world with what is made of it once, its marked set and its entry; what
-//! comes out is the least flaw of what is marked, by assembly, token, offset and kind, as `rules/specs/mark_rules/BadItems` has it.
+//! The first bad item of a program. In go a world with its tables, its marked set and its entry; out comes the least flaw of what
+//! is marked, by assembly, token, offset and kind, as `rules/specs/mark_rules/BadItems` has it.
 #![tactic(auto)]
 
 pub mod attribute_flaws;

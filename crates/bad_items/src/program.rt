@@ -3,7 +3,7 @@ use attribute_values::tables::AttributeTables;
 use mark_parts::mark_tables::marker::Marker;
 use marking::Marked;
 
-/// The world of a program with what is made of it once, and what is marked.
+/// The world of a program with its tables, and what is marked.
 #[derive(Clone, Copy)]
 pub struct Program<'a> {
     pub marker: &'a Marker<'a>,

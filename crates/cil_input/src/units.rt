@@ -20,7 +20,7 @@ const LOW: u32 = 0xdc00;
 
 const HALF: u32 = 0x400;
 
-/// Puts the one or two units of a character behind others.
+/// Appends the one or two units of a character to others.
 fn push_character(units: &mut Vec<u16>, code: u32) -> Result<(), NoMemory>
     requires { code < 0x110000 }
     ensures { OnOk result (units.new.items ≡ units.old.items ++ encode_utf16 code) }
@@ -35,7 +35,7 @@ fn push_character(units: &mut Vec<u16>, code: u32) -> Result<(), NoMemory>
     Ok(())
 }
 
-/// Puts the units of the character that begins with a byte behind others. Gives how many bytes it has after its first.
+/// Appends the units of the character that begins with a byte to others. Gives how many bytes it has after its first.
 fn push_at(units: &mut Vec<u16>, b: u8, rest: &[u8]) -> Result<usize, NoMemory>
     ensures more { IfOk result (λ n. n ≡ more_bytes (char_at b rest.now)) }
     ensures units { OnOk result (units.new.items ≡ units.old.items ++ units_before (char_at b rest.now)) }

@@ -1,6 +1,6 @@
-//! The names of methods with their parameters, as documentation writes them: `M(System.Int32,N.C[],System.String@)`. What goes in
-//! is the names of a world's types (`type_names`), a name and a signature with types; what comes out is a text, or None, as
-//! `doc_text` and `doc_name` of `rules/specs/mark_rules/Dependencies` have it.
+//! The names of methods with their parameters, as documentation writes them: `M(System.Int32,N.C[],System.String@)`. In go the
+//! names of a world's types (`type_names`), a name and a signature with types; out comes a text, or None, as `doc_text` and
+//! `doc_name` of `rules/specs/mark_rules/Dependencies` have it.
 
 mod names;
 mod types;

@@ -8,7 +8,7 @@ use Rattle.exec_command.specs.declared.input.InputFault.{InputFault}
 use Rattle.exec_command.specs.declared.input.InputFault.TheVariants.{Failed, TooLong, NoMemory}
 use Rattle.exec_command.specs.Input.{TakesSome}
 
--- what a read got was put behind what came before
+-- what a read got was put after what came before
 pub record Got (n : ℕ) (old new : List ℕ) (was now : SourceState) : Type 0 where
   pub more : List ℕ
   pub count : length more ≡ n

@@ -24,8 +24,8 @@ pub(crate) enum InputFault {
     NoMemory,
 }
 
-/// One read, which asks for no more than one byte behind the longest input, and gives the number of bytes that it got: 0 at the
-/// end of the input. They are put behind those that came before.
+/// One read, which asks for no more than one byte past the longest input, and gives the number of bytes that it got: 0 at the
+/// end of the input. They are put after those that came before.
 fn turn<I: Source>(
     input: &mut I,
     buffer: &mut [u8],

@@ -104,7 +104,7 @@ fn caught(code: &mut Seq<Instr>) -> Result<(), NoMemory> {
     ret(code, 25)
 }
 
-/// `if (p == null) p = null; throw p;`, and a `nop` behind it
+/// `if (p == null) p = null; throw p;`, and a `nop` after it
 fn branches(code: &mut Seq<Instr>) -> Result<(), NoMemory> {
     ldarg(code, 0)?;
     branch(code, 1, Form::BrIf, opcode::BRTRUE_S, 6)?;

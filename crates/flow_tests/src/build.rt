@@ -14,7 +14,7 @@ use std::alloc::Global;
 
 /// The TypeRef row of System.Object.
 pub const OBJECT: u32 = 0x0100_0001;
-/// The TypeDef row of the class C, behind `<Module>` and P.
+/// The TypeDef row of the class C, after `<Module>` and P.
 pub const CLASS_C: u32 = 0x0200_0003;
 /// The MemberRef row of the constructor of System.Exception.
 pub const EXCEPTION: u32 = 0x0a00_0001;
@@ -203,7 +203,7 @@ fn fill(rec: &mut AsmRec, alloc: Global) -> Result<(), NoMemory> {
     push_bodies(rec, alloc)
 }
 
-/// Puts an assembly behind others, by what fills its record.
+/// Appends an assembly to others, by what fills its record.
 fn push_filled<F: FnOnce(&mut AsmRec, Global) -> Result<(), NoMemory>>(
     recs: &mut Seq<AsmRec>,
     alloc: Global,

@@ -95,7 +95,7 @@ fn wrong_in(
     Ok(first_wrong(&flow, rows))
 }
 
-/// The handler sees the local as it is before each instruction of the block and after it, and behind a store only what was stored.
+/// The handler sees the local as it is before each instruction of the block and after it, and after a store only what was stored.
 #[test]
 fn from_a_try_block_into_its_handler(rt: HostRuntime) -> Result<(), Fail> {
     let alloc = rt.alloc();
@@ -118,7 +118,7 @@ fn from_a_try_block_into_its_handler(rt: HostRuntime) -> Result<(), Fail> {
     Ok(())
 }
 
-/// A conditional branch goes on both ways; nothing goes on behind `throw`.
+/// A conditional branch goes on both ways; nothing goes on after `throw`.
 #[test]
 fn along_branches(rt: HostRuntime) -> Result<(), Fail> {
     let alloc = rt.alloc();
@@ -135,7 +135,7 @@ fn along_branches(rt: HostRuntime) -> Result<(), Fail> {
     Ok(())
 }
 
-/// A `switch` goes to each target and to the next instruction; nothing goes on behind `ret`.
+/// A `switch` goes to each target and to the next instruction; nothing goes on after `ret`.
 #[test]
 fn along_a_switch(rt: HostRuntime) -> Result<(), Fail> {
     let alloc = rt.alloc();

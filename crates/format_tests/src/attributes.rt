@@ -114,7 +114,7 @@ fn rewritten(alloc: Global, bytes: &[u8], kind: ParamKind) -> Result<Vec<u8>, At
     }
 }
 
-// `RuntimeCompatibility(WrapNonExceptionThrows = true)`, as csc writes it into each assembly, behind a text.
+// `RuntimeCompatibility(WrapNonExceptionThrows = true)`, as csc writes it into each assembly, after a text.
 const COMPATIBLE: &[u8; 32] = b"\x01\x00\x01t\x01\x00\x54\x02\x16WrapNonExceptionThrows\x01";
 
 #[test]

@@ -164,7 +164,7 @@ fn other_blobs(rt: HostRuntime) -> Result<(), Fail> {
     Ok(())
 }
 
-// A float, a byte behind the end, an end too early, a tag that names no table, and one level too many.
+// A float, a byte after the end, an end too early, a tag that names no table, and one level too many.
 #[test]
 fn bad_blobs(rt: HostRuntime) {
     let alloc = rt.alloc();

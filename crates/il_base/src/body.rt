@@ -39,7 +39,7 @@ pub enum Form {
     Prefix,
 }
 
-/// What stands behind an opcode, or what a short opcode stands for.
+/// What stands after an opcode, or what a short opcode stands for.
 #[derive(Drop)]
 pub enum Operand {
     None,

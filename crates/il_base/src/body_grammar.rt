@@ -1,5 +1,5 @@
-//! The grammars of blobs and method bodies: which bytes spell which value, and where bytes that spell none go wrong.
-//! The definitions stand in `specs`; here is the data that they and the readers share.
+//! The grammar of method bodies (II.25.4): which bytes spell which body, and where bytes that spell none go wrong.
+//! The definitions stand in `specs/body_grammar/`; here is the data that they and the readers share.
 
 mod body;
 mod body_laws;

@@ -1,5 +1,5 @@
 //! What a file of the CLI demands (ECMA-335 II.22 to II.25): its demands in order with their refusals, the places of
-//! its sections, streams, tables, rows, cells and heap items. Bytes go in; the definitions of `specs` are the result.
+//! its sections, streams, tables, rows, cells and heap items. Bytes go in; the definitions of `specs/cli_format/` are the result.
 
 mod coded;
 mod column;

@@ -1,5 +1,5 @@
 //! The core library as a record: the types and members that stand in for it, as data, and the record whose rows they
-//! are. `core` gives that record, `specs/Record` defines it.
+//! are. `core` gives that record, `specs/core_table/Record` defines it.
 
 mod forms;
 mod kinds;

@@ -1,4 +1,4 @@
-/// An assembly of a world: inputs in word order from 0, then the core assembly.
+/// An assembly of a world: the inputs in the order of the command line from 0, then the core library.
 #[derive(Clone, Copy, Debug, PartialEq, Eq)]
 pub struct AsmId(pub u32);
 
@@ -42,7 +42,7 @@ pub enum Item {
 /// A place in an assembly's code or metadata.
 #[derive(Clone, Copy, Debug, PartialEq, Eq)]
 pub struct Place {
-    /// The assembly, counted from 0 in word order.
+    /// The assembly, counted from 0 in the order of the command line.
     pub asm: u32,
     /// A metadata token (II.22): the table's number in the high byte, the row from 1 below it.
     pub token: u32,
@@ -55,6 +55,6 @@ pub struct Place {
 pub struct BadAt {
     /// A file offset in bytes.
     pub offset: u32,
-    /// The demand that fails.
+    /// The demand that fails, by its number in `reason`.
     pub why: u8,
 }

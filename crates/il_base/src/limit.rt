@@ -1,4 +1,4 @@
-//! Limits, by number: what `limit` answers.
+//! The numbers of limits, which the answer `limit` gives.
 
 /// Files: at most 64.
 pub const FILES: u8 = 1;

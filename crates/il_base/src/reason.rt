@@ -1,24 +1,24 @@
 //! Why a file has no record, or why assemblies don't link: the demand that fails first.
 
-/// Its DOS header, PE signature or magic is missing (II.25.2).
+/// The file's DOS header, PE signature or magic is missing (II.25.2).
 pub const NOT_PE: u8 = 1;
 
-/// It has no CLI header (II.25.2.3.3, II.25.3.3).
+/// The file has no CLI header (II.25.2.3.3, II.25.3.3).
 pub const NO_CLI: u8 = 2;
 
 /// `COMIMAGE_FLAGS_ILONLY` is not set (II.25.3.3.1).
 pub const NOT_IL_ONLY: u8 = 3;
 
-/// It has native code (II.25.3.3).
+/// The file has native code (II.25.3.3).
 pub const NATIVE: u8 = 4;
 
-/// It ends too early.
+/// The file ends too early.
 pub const TRUNCATED: u8 = 5;
 
 /// A directory lies outside of the sections (II.25.3).
 pub const BAD_RVA: u8 = 6;
 
-/// the metadata root has another form (II.24.2.1).
+/// The metadata root has another form (II.24.2.1).
 pub const BAD_ROOT: u8 = 7;
 
 /// A stream header or the `#~` stream has another form (II.24.2.2, II.24.2.6).

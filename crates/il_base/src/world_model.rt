@@ -1,5 +1,5 @@
 //! The data of a world: assemblies as records of their tables, and what references name once they are resolved.
-//! `specs/` defines what tokens and signatures name in a world, type expressions' substitution, levels and equality, and
+//! `specs/world_model/` defines what tokens and signatures name in a world, type expressions' substitution, levels and equality, and
 //! what the rows of a record keep.
 
 mod assemblies;

@@ -62,7 +62,7 @@ in_rest y ys x (k, lt, e) = (suc k, omega arith, e)
 pub in_none : {A : Type 0} (x : A) → Contains [] x → ⊥
 in_none x (k, lt, e) = omega arith
 
--- ---- what a look-up gives behind the end
+-- ---- what a look-up gives after the end
 
 abbrev pub no_block : Block
 no_block = record { range = record { from = 0; to = 0 }; handler = record { from = 0; to = 0 }; clause = 0; is_try = false; shares = false }

@@ -35,7 +35,7 @@ numbers_more f blocks n place b old new e moved are =
           ];
     }
 
--- those that end behind a later place
+-- those that end after a later place
 pub numbers_later : (f : Block → ℕ) (blocks : List Block) (n place later : ℕ) (pairs : List (ℕ × ℕ)) → place ≤ later → AreNumbers f blocks n place pairs → AreNumbers f blocks n later pairs
 numbers_later f blocks n place later pairs le are = record {
   all = λ q a lt e l. are.all q a lt e (omega arith);

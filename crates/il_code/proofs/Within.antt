@@ -60,7 +60,7 @@ module _ (blocks : List Block) (run at : ℕ) (c b : Block) (r : Around) (ordere
   b_same : IsSame b c
   b_same = is.one at b c below (omega arith) f e
 
-  -- a block that has begun and ends behind
+  -- a block that has begun and ends after
   stands_live : Stands b r → (q : ℕ) (a : Block) → q < run → slice_get blocks q ≡ Some a → b.range.from < a.range.to → StandsIn a b
   stands_live s q a lt g l =
       let bb = bounded at b f in

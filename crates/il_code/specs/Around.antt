@@ -17,7 +17,7 @@ by_end b = most - b.range.to
 abbrev pub by_clause : Block → ℕ
 by_clause b = if b.is_try then most - b.clause else 0
 
--- the greatest number that f gives of the first n blocks which end behind a place, or 0
+-- the greatest number that f gives of the first n blocks which end after a place, or 0
 pub record IsGreatest (f : Block → ℕ) (blocks : List Block) (n place g : ℕ) : Type 0 where
   pub bound : (q : ℕ) (a : Block) → q < n → slice_get blocks q ≡ Some a → place < a.range.to → f a ≤ g
   pub is : (g ≡ 0) ⊎ ((q : ℕ) × (a : Block) × (q < n) × (slice_get blocks q ≡ Some a) × (place < a.range.to) × (f a ≡ g))
@@ -28,7 +28,7 @@ pub record IsAround (blocks : List Block) (n place : ℕ) (r : Around) : Type 0 
   pub to : IsGreatest by_end blocks n place (most - r.to)
   pub clause : IsGreatest by_clause blocks n place (most - r.clause)
 
--- Pairs of the number that f gives of a block and of the block's end: of the first n blocks, all that end behind a place.
+-- Pairs of the number that f gives of a block and of the block's end: of the first n blocks, all that end after a place.
 pub record AreNumbers (f : Block → ℕ) (blocks : List Block) (n place : ℕ) (pairs : List (ℕ × ℕ)) : Type 0 where
   pub all : (q : ℕ) (a : Block) → q < n → slice_get blocks q ≡ Some a → place < a.range.to → Contains pairs (f a, a.range.to)
   pub only : (x : ℕ × ℕ) → Contains pairs x → (q : ℕ) × (a : Block) × (q < n) × (slice_get blocks q ≡ Some a) × (x ≡ (f a, a.range.to))

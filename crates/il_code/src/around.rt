@@ -8,7 +8,7 @@ use crate::tops::Tops;
 use il_base::NoMemory;
 use std::alloc::Global;
 
-/// What is around a place, of the blocks that have begun and end behind it.
+/// What is around a place, of the blocks that have begun and end after it.
 #[derive(Clone, Copy)]
 pub struct Around {
     /// The greatest of their first bytes, or 0.

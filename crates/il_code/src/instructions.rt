@@ -97,7 +97,7 @@ fn switch(alloc: Global, next: u32, bytes: &[u8]) -> Result<Option<(Operand, usi
     Ok(Some((Operand::Targets(targets), size)))
 }
 
-/// The operand of an opcode that ends at `next`, and how many of the bytes behind it are its own.
+/// The operand of an opcode that ends at `next`, and how many of the bytes after it are its own.
 #[tactic(auto, unfolding(il_base::specs::body_grammar::Instructions::operand_at))]
 fn operand(
     alloc: Global,

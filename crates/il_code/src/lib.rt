@@ -1,5 +1,5 @@
 //! Method bodies: bytes go in, and a `Body` or the first fault comes out; a `Body` goes in, and its bytes come out.
-//! The results are those of the grammar of bodies, `body_grammar`'s `specs/Bodies`.
+//! The results are those of the grammar of bodies, `il_base/specs/body_grammar/Bodies`.
 #![tactic(auto)]
 
 mod around;

@@ -42,7 +42,7 @@ fn header_size(tiny: bool) -> u32
     if tiny { 1 } else { 12 }
 }
 
-/// The bytes of the code behind a header, as far as they are there.
+/// The bytes of the code after a header, as far as they are there.
 fn code_bytes(h: Header, bytes: &[u8]) -> &[u8]
     requires { grammar.header_size h.tiny ≤ length bytes.now }
     ensures { result.now ≡ take h.size (drop (grammar.header_size h.tiny) bytes.now) }
@@ -101,7 +101,7 @@ fn body(alloc: Global, bytes: &[u8]) -> Result<ReadBody, BodyError>
     Ok(body)
 }
 
-/// The method body at the front of the bytes (II.25.4), and how many bytes it takes; others may stand behind it.
+/// The method body at the front of the bytes (II.25.4), and how many bytes it takes; others may stand after it.
 ///
 /// `BodyError::Bad` comes exactly where no body is spelled there, with the first fault; `BodyError::NoMemory` where
 /// the allocator refuses.

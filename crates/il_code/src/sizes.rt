@@ -19,7 +19,7 @@ fn inline_of(opcode: u16) -> Inline
     }
 }
 
-/// How many bytes an operand takes behind its opcode, modulo 2^32.
+/// How many bytes an operand takes after its opcode, modulo 2^32.
 fn operand_size(inline: Inline, operand: &Operand) -> u64
     ensures exact { result ≡ operand_size inline operand.now }
     ensures small { result < 2 ^ 35 }

@@ -5,7 +5,7 @@ use il_base::body_grammar::{BODY, FILTER, FLOAT, INSTRUCTION};
 use il_base::{Form, Handler, Instr, NoMemory, Operand};
 use std::test::Fail;
 
-/// The body of a program that writes a text: `ldstr 70000001`, `call 0a000001`, `ret`, and two bytes behind it.
+/// The body of a program that writes a text: `ldstr 70000001`, `call 0a000001`, `ret`, and two bytes after it.
 const PRINTS: [u8; 14] = [
     0x2e, 0x72, 0x01, 0x00, 0x00, 0x70, 0x28, 0x01, 0x00, 0x00, 0x0a, 0x2a, 0xff, 0x41,
 ];
@@ -139,7 +139,7 @@ fn judged(rt: &HostRuntime, all: &[Handler]) -> Result<Option<usize>, NoMemory> 
 
 #[test]
 fn nested_clauses(rt: HostRuntime) -> Result<(), Fail> {
-    // three levels, a sibling behind them, and two catch clauses that share a try block inside a handler
+    // three levels, a sibling after them, and two catch clauses that share a try block inside a handler
     let good = [
         clause(2, [2, 3, 3, 4]),
         clause(2, [1, 5, 5, 6]),
@@ -192,7 +192,7 @@ fn broken_rules(rt: HostRuntime) -> Result<(), Fail> {
     Ok(())
 }
 
-/// So many clauses of four bytes each, one behind another, of which the last two cross.
+/// So many clauses of four bytes each, one after another, of which the last two cross.
 fn crossing_at_the_end(rt: &HostRuntime, count: u32) -> Result<Vec<Handler>, NoMemory>
     requires { count < 2 ^ 20 }
 {

@@ -32,7 +32,7 @@ impl Tops {
         Ok(())
     }
 
-    /// The greatest number whose block ends behind a place, or 0. Numbers of blocks that end at the place or before it
+    /// The greatest number whose block ends after a place, or 0. Numbers of blocks that end at the place or before it
     /// may go.
     pub fn greatest(&mut self, place: u64) -> u64
         ensures kept { (x : ℕ × ℕ) → Contains (heap_items self.old.heap) x → place < x.1 → Contains (heap_items self.new.heap) x }

@@ -167,7 +167,7 @@ fn flags(sects: bool, init: bool) -> u8
     }
 }
 
-/// Puts a header, by whether a handler section stands behind the code and by the size of the code.
+/// Puts a header, by whether a handler section stands after the code and by the size of the code.
 #[tactic(auto, unfolding(il_base::specs::body_grammar::BodySpelling::header_bytes))]
 fn put_header(out: &mut Vec<u8>, b: &Body, sects: bool, size: usize) -> Result<(), NoMemory>
     requires { size < 2 ^ 32 }
@@ -265,7 +265,7 @@ fn put_section_head(out: &mut Vec<u8>, fat: bool, count: usize) -> Result<(), No
     Ok(())
 }
 
-/// Puts a handler section behind a code that ends at a place.
+/// Appends a handler section to a code that ends at a place.
 fn put_section(out: &mut Vec<u8>, b: &Body, place: usize) -> Result<(), NoMemory>
     requires place { place < 2 ^ 33 }
     requires count { length b.now.handlers < 2 ^ 32 }
@@ -291,7 +291,7 @@ fn put_body(out: &mut Vec<u8>, b: &Body, code: &[u8]) -> Result<(), NoMemory>
     Ok(())
 }
 
-/// Writes a body behind what stands in `out`, by its header form, its opcodes and its form of handler clauses. What
+/// Writes a body after what stands in `out`, by its header form, its opcodes and its form of handler clauses. What
 /// needn't stand does not: a small handler section without clauses is left out, and bytes that aren't looked at are 0.
 ///
 /// Where the allocator refuses, `out` is as before.

@@ -1,4 +1,4 @@
--- What calls on a folder do to what is told of it: the bytes under each name, and its faults.
+-- The effects of calls on the known state of a folder: the bytes under each name, and its faults.
 use Rattle.std.specs.Prelude.{◌≡◌, ◌≢◌, ℕ, List, take, Option, Some, None, Result, Ok, Err, ⊤, ◌⊎◌}
 use Rattle.il_outside.specs.declared.folder.FolderError.{FolderError}
 use Rattle.il_outside.specs.declared.folder.FolderError.TheVariants.{Failed, NoMemory}
@@ -8,7 +8,7 @@ use Rattle.il_outside.specs.Faults.{Rose}
 abbrev pub Files : Type 0
 Files = List ℕ → Option (List ℕ)
 
--- What is told of a folder. Names are the bytes of their texts.
+-- The known state of a folder. Names are the bytes of their texts.
 pub record FolderState : Type 0 where
   -- None where the folder doesn't tell what it holds
   pub files : Option Files
@@ -28,7 +28,7 @@ OnFailed (Err NoMemory) P Q = Q
 abbrev pub SameFiles : Files → Files → Type 0
 SameFiles old new = (name : List ℕ) → new name ≡ old name
 
--- they hold the same under every other name
+-- two folders hold the same under every other name
 abbrev pub SameOthers : Files → Files → List ℕ → Type 0
 SameOthers old new name = (other : List ℕ) → other ≢ name → new other ≡ old other
 
@@ -36,13 +36,13 @@ SameOthers old new name = (other : List ℕ) → other ≢ name → new other �
 abbrev pub LeavesPrefix : Files → Files → List ℕ → List ℕ → Type 0
 LeavesPrefix old new name bytes = (new name ≡ old name) ⊎ ((n : ℕ) × (new name ≡ Some (take n bytes)))
 
--- what is told stays as it was
+-- the known files stay as they were
 abbrev pub KeepsFiles : Option Files → Option Files → Type 0
 KeepsFiles None new = ⊤
 KeepsFiles (Some f) None = ⊥
 KeepsFiles (Some f) (Some g) = SameFiles f g
 
--- these bytes are told under this name
+-- the known files have these bytes under this name
 abbrev pub Tells : Option Files → List ℕ → List ℕ → Type 0
 Tells None name bytes = ⊤
 Tells (Some f) name bytes = f name ≡ Some bytes

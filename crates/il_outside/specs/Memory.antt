@@ -19,7 +19,7 @@ is_named name f = bytes_eq f.name name
 abbrev pub file_in : List NamedFile → List ℕ → Option (List ℕ)
 file_in files name = option_map (λ f. f.bytes) (find (is_named name) files)
 
--- what is told of a folder in memory
+-- the known state of a folder in memory
 abbrev pub mem_folder_state : MemFolder → FolderState
 mem_folder_state m = record {
   files = Some (λ name. file_in m.files.items name);
@@ -28,7 +28,7 @@ mem_folder_state m = record {
   failed = m.failed;
 }
 
--- the files with these bytes under this name: in the place of the first file of the name, or behind the others
+-- the files with these bytes under this name: in the place of the first file of the name, or after the others
 abbrev pub put_file : List NamedFile → List ℕ → List ℕ → List NamedFile
 put_file [] name bytes = record { name = name; bytes = bytes } ∷ []
 put_file (f ∷ fs) name bytes =
@@ -53,10 +53,10 @@ AnswersWrite old new kept name bytes (Ok x) = (kept ≡ None) × (new ≡ put_fi
 AnswersWrite old new kept name bytes (Err Failed) = (k : ℕ) × (kept ≡ Some k) × (new ≡ put_file old name (take k bytes))
 AnswersWrite old new kept name bytes (Err NoMemory) = new ≡ old
 
--- what is told of a source in memory
+-- the known state of a source in memory
 abbrev pub mem_source_state : MemSource → SourceState
 mem_source_state s = record { left = Some (drop s.at s.bytes); faults = s.faults }
 
--- what is told of a sink in memory
+-- the known state of a sink in memory
 abbrev pub mem_sink_state : MemSink → SinkState
 mem_sink_state s = record { held = Some s.held.items; faults = s.faults }

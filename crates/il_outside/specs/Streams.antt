@@ -1,18 +1,18 @@
--- What reads from a source and writes to a sink do to what is told of them.
+-- The effects of reads from a source, and of writes to a sink, on their known states.
 use Rattle.std.specs.Prelude.{◌≡◌, ℕ, List, take, Option, Result, Ok, Err}
 use Rattle.std.specs.Io.KnownBytes.{Appends}
 use Rattle.il_outside.specs.declared.sink.SinkError.{SinkError}
 use Rattle.il_outside.specs.declared.sink.SinkError.TheVariants.{Failed, NoMemory}
 use Rattle.il_outside.specs.Faults.{Rose}
 
--- What is told of a source.
+-- The known state of a source.
 pub record SourceState : Type 0 where
   -- the bytes that are left, None where the source doesn't tell them
   pub left : Option (List ℕ)
   -- how many calls failed
   pub faults : ℕ
 
--- What is told of a sink.
+-- The known state of a sink.
 pub record SinkState : Type 0 where
   -- the bytes that it took, None where the sink doesn't tell them
   pub held : Option (List ℕ)

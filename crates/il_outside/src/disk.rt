@@ -9,7 +9,7 @@ use std::io;
 use std::io::{ErrorKind, Read};
 use std::rt::Files;
 
-// Behind the longest file that any call takes, 2^28 bytes, there is one byte more, so that a longer file shows.
+// One byte more than the longest file that any call takes, 2^28 bytes, so that a longer file shows.
 const MOST_BYTES: u64 = 268_435_457;
 
 /// The files of the disk, which tell nothing of what they hold. Names are paths.

@@ -186,7 +186,7 @@ fn front(bytes: &[u8], n: usize) -> &[u8]
     if n < bytes.len() { &bytes[..n] } else { bytes }
 }
 
-// Puts the bytes under the name, in the place of the first file of the name or behind the others.
+// Puts the bytes under the name, in the place of the first file of the name or after the others.
 fn put(files: &mut Vec<NamedFile>, name: &[u8], bytes: &[u8]) -> Result<(), NoMemory>
     ensures ok { OnOk result (files.new.items ≡ put_file files.old.items name.now bytes.now) }
     ensures err { OnErr result (files.new.items ≡ files.old.items) }

@@ -4,7 +4,7 @@ use crate::sink::{Sink, SinkError};
 use crate::source::{Failed, Source};
 use std::io::{Read, Write};
 
-/// A reader, as standard input, of which nothing is told but how often it failed.
+/// A reader, as standard input, of which nothing is known but how often it failed.
 #[derive(Drop)]
 pub struct StdSource<R> {
     reader: R,
@@ -36,7 +36,7 @@ impl<R: Read> Source for StdSource<R> {
     }
 }
 
-/// A writer, as standard output, of which nothing is told but how often it failed.
+/// A writer, as standard output, of which nothing is known but how often it failed.
 #[derive(Drop)]
 pub struct StdSink<W> {
     writer: W,

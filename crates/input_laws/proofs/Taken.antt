@@ -42,7 +42,7 @@ module _ (law : (bs : List ℕ) (rec : AsmRec) → HasRecord bs rec → IsRecord
       law f rec (record { meets = all_read i (first_fault (record_demands f)) (no_first (unread_as i (first_fault (record_demands f))) (record_fault (suc i) fs) e); is = sym same })
   each_record i (f ∷ fs) e (suc a) rec is = each_record (suc i) fs (no_later (unread_as i (first_fault (record_demands f))) (record_fault (suc i) fs) e) a rec is
 
-  -- behind the limits
+  -- after the limits
   read_all : (files : List (List ℕ)) → input_fault files ≡ None → record_fault 0 files ≡ None
   read_all files e =
       no_first (record_fault 0 files) (or_fault (linking_fault files) (entry_fault (records files)))

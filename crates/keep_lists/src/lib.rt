@@ -1,5 +1,5 @@
-//! The keep list: a line for each kept type, field, method, property and event of the inputs. What goes in is a world with what is
-//! made of it (`mark_tables`) and the kept items; what comes out is `keep_list` of `rules/specs/mark_rules/KeepList` in UTF-8.
+//! The keep list: a line for each kept type, field, method, property and event of the inputs. In go a world with its tables
+//! (`mark_tables`) and the kept items; out comes `keep_list` of `rules/specs/mark_rules/KeepList` in UTF-8.
 #![tactic(auto)]
 
 mod chain;

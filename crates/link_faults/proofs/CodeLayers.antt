@@ -49,7 +49,7 @@ code_mod required by e = ap (fold-TypeExpr (List ℕ) code_layer) (sym (expr.rol
 -- the numbers of a type, one level at a time
 pub ruleset coding = (code_prim, code_def, code_inst, code_array, code_by_ref, code_var, code_mvar, code_mod)
 
--- ---- added behind what was there
+-- ---- added after what was there
 
 pub behind : (code front one rest new all : List ℕ) → one ≡ code ++ front → new ≡ one ++ rest → all ≡ front ++ rest → new ≡ code ++ all
 behind code front one rest new all e f g = f ∙ ap (λ (xs : List ℕ). xs ++ rest) e ∙ append_assoc code front rest ∙ ap (λ (xs : List ℕ). code ++ xs) (sym g)

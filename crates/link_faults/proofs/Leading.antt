@@ -25,7 +25,7 @@ module _ {A : Type 0} (same : A → A → Bool) where
   new_behind xs y true = ([], sym (append-nil xs))
   new_behind xs y false = (y ∷ [], refl)
 
-  -- what is added stands behind what was there
+  -- what is added stands after what was there
   behind : (xs ys : List A) → (more : List A) × (add_all same xs ys ≡ xs ++ more)
   behind xs [] = ([], sym (append-nil xs))
   behind xs (y ∷ ys) =

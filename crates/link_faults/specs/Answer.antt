@@ -1,4 +1,4 @@
--- What an answer says of the first fault.
+-- The answer of a call that looks for the first fault.
 use Rattle.std.specs.Prelude.{◌≡◌, Option, Some, None, Result, Ok, Err}
 use Rattle.rules.specs.declared.link_rules.link_error.LinkError.{LinkError}
 use Rattle.rules.specs.declared.link_rules.link_error.LinkError.TheVariants as fault

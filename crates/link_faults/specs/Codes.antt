@@ -1,4 +1,4 @@
--- What types and members are known by, as lists of numbers: two are the same where their lists are.
+-- The keys of types and members, as lists of numbers: two are the same where their lists are.
 use Rattle.std.specs.Prelude.{ℕ, List, [], ◌∷◌, ◌++◌, length, Bool, true, false}
 use Rattle.std.specs.List.{flat_map}
 use Rattle.il_base.specs.declared.world_model.expr.TypeExpr.{TypeExpr, fold-TypeExpr}
@@ -11,7 +11,7 @@ abbrev pub bit : Bool → ℕ
 bit true = 1
 bit false = 0
 
--- one level of a type: a number for its kind, and what it holds; arguments are counted
+-- one level of a type: a number for its kind, its own numbers with a count of arguments, and the lists of the types that it holds
 abbrev pub code_layer : TypeExpr-F (List ℕ) → List ℕ
 code_layer (TypeExpr-F.Prim n) = 0 ∷ n ∷ []
 code_layer (TypeExpr-F.Def t) = 1 ∷ t.0 ∷ []

@@ -1,4 +1,4 @@
--- What rows are known by, as lists of numbers, with the links of type tokens in place of the tables.
+-- The keys of rows, as lists of numbers, by the links of type tokens.
 use Rattle.std.specs.Prelude.{ℕ, suc, List, ◌∷◌, ◌++◌, length, map, Option, Some, None, if◌then◌else◌}
 use Rattle.std.specs.List.{flat_map, position_from}
 use Rattle.std.specs.Option.{option_map}
@@ -31,7 +31,7 @@ code_of_type around t = with_text t.namespace (with_text t.name around)
 abbrev pub type_codes : AsmRec → List (Option (List ℕ))
 type_codes rec = numbered (λ k t. Some (code_of_type (listed (encloser rec k)) t)) 0 rec.type_def
 
--- ---- members: one without an owner or a good signature is compared with nothing, and so is one that is compiler-controlled
+-- ---- members: one without an owner or a good signature, or a compiler-controlled one, has no key
 
 abbrev pub code_of_member : List ℕ → Option ℕ → Option (List ℕ) → Option (List ℕ)
 code_of_member name None code = None
@@ -56,7 +56,7 @@ field_codes all links a rec = numbered (λ k f. code_of_field all links a (owner
 abbrev pub codes_of_types : List AsmRec → List TypeLink → ℕ → List Sig → Option (List ℕ)
 codes_of_types all links a types = option_map (flat_map type_code) (good (all_known (map (sig_expr (names_by all links a)) types)))
 
--- by the numbers of the return and of the parameters
+-- the key of a method's signature, by those of its return and of its parameters
 abbrev pub code_of_parts : MethodSig → Option (List ℕ) → Option (List ℕ) → Option (List ℕ)
 code_of_parts s None params = None
 code_of_parts s (Some ret) None = None

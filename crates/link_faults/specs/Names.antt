@@ -1,4 +1,4 @@
--- Names of assemblies that are taken, with a test for those that were met.
+-- The first duplicate name of an assembly, with a test for the names that were met.
 use Rattle.std.specs.Prelude.{ℕ, suc, List, [], ◌∷◌, Bool, true, ◌||◌, Option, Some, None, if◌then◌else◌}
 use Rattle.il_base.specs.declared.world_model.record.AsmRec.{AsmRec}
 use Rattle.il_base.specs.world_model.Core.{same_name, is_core_name}

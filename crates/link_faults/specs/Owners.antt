@@ -19,7 +19,7 @@ end_in member.Method t = t.method_list_end
 abbrev pub owns : Member → ℕ → TypeDefRow → Bool
 owns kind row t = is_in_run (first_in kind t) (end_in kind t) row
 
--- these types, of which the first has the number i, own the rows so
+-- `owners` gives each row the first of these types whose run holds it; the types are numbered from i
 pub record OwnsFrom (kind : Member) (i : ℕ) (types : List TypeDefRow) (rows : ℕ) (owners : List (Option ℕ)) : Type 0 where
   pub one_each : length owners ≡ rows
   pub each : (k : ℕ) → k < rows → slice_index_or owners k None ≡ position_from (owns kind (suc k)) i types

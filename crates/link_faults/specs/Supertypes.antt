@@ -1,4 +1,4 @@
--- The bases and the interfaces of types, by their ids, with the links of type tokens in place of the tables.
+-- The bases and the interfaces of types, as ids, by the links of type tokens.
 use Rattle.std.specs.Prelude.{ℕ, suc, ◌-◌, List, [], ◌∷◌, ◌++◌, Option, Some, None, slice_get, slice_set, unwrap_or, nat_lt, ◌==◌, ◌||◌, Bool, false, if◌then◌else◌}
 use Rattle.std.specs.List.{flat_map}
 use Rattle.std.specs.Option.{option_and_then}
@@ -32,7 +32,7 @@ all_bases all links = links_from (λ a (rec : AsmRec). numbered (bases_of all li
 abbrev pub interface_flag : ℕ → TypeDefRow → Bool
 interface_flag k t = is_interface_row t
 
--- which types are interfaces, in the order of ids
+-- a flag for each type, in the order of ids: whether it is an interface
 abbrev pub interface_flags : List AsmRec → List Bool
 interface_flags all = links_from (λ a (rec : AsmRec). numbered interface_flag 0 rec.type_def) 0 all
 
@@ -50,7 +50,7 @@ interfaces_by all links flags a token row = if is_row_of token row then listed (
 abbrev pub place_of : ℕ → Option ℕ
 place_of token = if nat_lt token FIRST_TYPE_DEF then None else Some (token - FIRST_TYPE_DEF)
 
--- a graph in which a node leads to one more
+-- a graph with one more edge
 abbrev pub led_on : List (List ℕ) → Option ℕ → Option ℕ → List (List ℕ)
 led_on graph None to = graph
 led_on graph (Some node) None = graph
@@ -59,7 +59,7 @@ led_on graph (Some node) (Some to) = slice_set graph node (next_in graph node ++
 abbrev pub nothing_of : ℕ → TypeDefRow → List ℕ
 nothing_of k t = []
 
--- by these rows of InterfaceImpl
+-- the interfaces of a type, by these rows of InterfaceImpl
 abbrev pub interfaces_of : List AsmRec → List TypeLink → List Bool → ℕ → List InterfaceImplRow → ℕ → TypeDefRow → List ℕ
 interfaces_of all links flags a rows k t = flat_map (interfaces_by all links flags a (token_of TYPE_DEF (suc k))) rows
 

@@ -1,4 +1,4 @@
--- The definitions that types and tokens lead to, by their ids, with the links of type tokens in place of the tables.
+-- The definitions of types and of the types that tokens name, as ids, by the links of type tokens.
 use Rattle.std.specs.Prelude.{ℕ, ◌+◌, List, Option, Some, None, nat_lt, if◌then◌else◌}
 use Rattle.std.specs.Option.{option_and_then}
 use Rattle.il_base.specs.declared.ids.TypeId.{TypeId}
@@ -27,6 +27,6 @@ target_of all e = option_and_then (id_below (type_count all)) (owner_of all e)
 abbrev pub target_at : List AsmRec → List TypeLink → ℕ → ℕ → Option ℕ
 target_at all links a token = option_and_then (target_of all) (linked all links a token)
 
--- only where the token names a class or an interface
+-- the id of the definition that a token names, where it names a class or an interface
 abbrev pub named_target_at : List AsmRec → List TypeLink → ℕ → ℕ → Option ℕ
 named_target_at all links a token = option_and_then (target_of all) (only_named (linked all links a token))

@@ -1,4 +1,4 @@
--- The graphs over the types of a world, and the types that they speak of.
+-- The graphs over the types of a world.
 use Rattle.std.specs.Prelude.{◌≡◌, ℕ, List, Some, slice_get}
 use Rattle.il_base.specs.declared.world_model.record.AsmRec.{AsmRec}
 use Rattle.il_base.specs.declared.world_model.world.TypeLink.{TypeLink}
@@ -12,7 +12,7 @@ use Rattle.link_faults.specs.declared.cycles.Graphs.{Graphs}
 use Rattle.link_faults.specs.declared.cycles.GraphLevels.{GraphLevels}
 use Rattle.link_faults.specs.Graphs.{AreLevels}
 
--- what links tell
+-- the links name the same types as the rules do
 pub record Tells (all : List AsmRec) (links : List TypeLink) : Type 0 where
   pub tokens : TellTokens all links
   pub signatures : TellSignatures all links

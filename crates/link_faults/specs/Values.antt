@@ -1,4 +1,4 @@
--- Value types in the fields of value types, by their ids, with the links of type tokens in place of the tables.
+-- Value types in the fields of value types, as ids, by the links of type tokens.
 use Rattle.std.specs.Prelude.{ℕ, suc, ◌-◌, List, [], ◌∷◌, ◌++◌, length, Option, Some, None, slice_get, unwrap_or, nat_eq, ◌&&◌, ◌||◌, Bool, false, not, if◌then◌else◌}
 use Rattle.std.specs.List.{flat_map}
 use Rattle.il_base.specs.declared.world_model.known.Known.{Known}
@@ -37,7 +37,7 @@ abbrev pub is_value : List AsmRec → List TypeLink → ℕ → ℕ → TypeDefR
 is_value all links a k t =
     (is_core_type all VALUE_TYPE (base_target all links a t) && not (is_enum_itself all a k)) || is_core_type all ENUM (base_target all links a t)
 
--- in the order of ids
+-- a flag for each type, in the order of ids: whether it is a value type
 abbrev pub all_values : List AsmRec → List TypeLink → List Bool
 all_values all links = links_from (λ a (rec : AsmRec). numbered (is_value all links a) 0 rec.type_def) 0 all
 

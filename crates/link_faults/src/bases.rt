@@ -1,4 +1,4 @@
-//! What each type leads to by its base.
+//! The graph of bases: an edge from each type to its base.
 
 ghost use Rattle.std.specs.Prelude.{◌≡◌, IfOk};
 ghost use Rattle.rules.specs.link_rules.Members.{is_interface_row};
@@ -33,7 +33,7 @@ pub(crate) fn base_target(
     scope.named_target_at(asm, row.extends)
 }
 
-/// What each type of an assembly leads to by its base.
+/// The edges from the types of an assembly to their bases.
 fn bases_of(
     alloc: Global,
     scope: &Scope<'_>,
@@ -51,7 +51,7 @@ fn bases_of(
     Ok(graph)
 }
 
-/// What each type leads to by its base, in the order of ids.
+/// The graph of bases, with the types in the order of ids.
 pub(crate) fn all_bases(alloc: Global, scope: &Scope<'_>) -> Result<Vec<Seq<u32>>, NoMemory>
     ensures { IfOk result (λ graph. graph.items ≡ all_bases scope.now.all.now scope.now.links.now) }
 {

@@ -1,4 +1,4 @@
-//! What types and members are known by, as lists of numbers.
+//! The keys of types and members, as lists of numbers.
 
 ghost use Rattle.std.specs.Prelude.{◌≡◌, ◌∷◌, ◌++◌, [], IfOk, OnOk};
 ghost use Rattle.std.specs.List.{flat_map};

@@ -22,14 +22,14 @@ use il_base::{NoMemory, Seq, reason, table};
 use rules::link_rules::LinkError;
 use std::alloc::Global;
 
-/// What each type leads to, in the order of ids.
+/// The three graphs over types, in the order of ids.
 #[derive(Drop)]
 struct Graphs {
-    /// Its base.
+    /// An edge to each type's base.
     bases: Vec<Seq<u32>>,
-    /// Its interfaces.
+    /// Edges to each type's interfaces.
     interfaces: Vec<Seq<u32>>,
-    /// The value types in the instance fields of a value type.
+    /// Edges to the value types in the instance fields of each value type.
     held: Vec<Seq<u32>>,
 }
 
@@ -57,7 +57,7 @@ impl Graphs {
         })
     }
 
-    /// Whether no type is on a cycle: true only where none is.
+    /// A fast check that no type is on a cycle: true only where none is.
     fn are_acyclic(&self, alloc: Global) -> Result<bool, NoMemory>
         ensures bases { IfOk result (λ yes. OnTrue yes (IsAcyclic self.now.bases.items)) }
         ensures interfaces { IfOk result (λ yes. OnTrue yes (IsAcyclic self.now.interfaces.items)) }
@@ -115,7 +115,7 @@ impl Graphs {
         is_on_cycle(alloc, &self.held, levels.held.as_slice(), scope.types, id.0)
     }
 
-    /// The first type of an assembly that is on a cycle, looked for one by one.
+    /// The first type of an assembly that is on a cycle, checked one by one.
     fn first_cyclic_in(
         &self,
         alloc: Global,
@@ -138,7 +138,7 @@ impl Graphs {
         Ok(None)
     }
 
-    /// The first type of these assemblies that is on a cycle, looked for one by one.
+    /// The first type of these assemblies that is on a cycle, checked one by one.
     #[tactic(auto, unfolding(rules::specs::link_rules::Faults::cyclic_types))]
     fn first_cyclic(
         &self,

@@ -1,4 +1,4 @@
-//! Types, fields and methods that are there twice.
+//! Duplicate types, fields and methods.
 
 ghost use Rattle.std.specs.Prelude.{◌≡◌, ◌≤◌, length, take, bytes_eq, IfOk};
 ghost use Rattle.rules.specs.link_rules.Faults.{first_of, first_repeat, repeated_row, repeated_type, repeated_field, repeated_method, repeated_in, duplicate_member};
@@ -16,7 +16,7 @@ use il_base::{AsmId, NoMemory, Seq, reason, table};
 use rules::link_rules::LinkError;
 use std::alloc::Global;
 
-/// The fault of the first row whose numbers an earlier one has.
+/// The fault of the first row with the key of an earlier one.
 fn repeated_row(
     alloc: Global,
     file: usize,
@@ -75,7 +75,7 @@ fn repeated_method(
     Ok(found)
 }
 
-/// The first type of an assembly that is there twice, else the first such field, else the first such method.
+/// The first duplicate type of an assembly, else its first duplicate field, else its first duplicate method.
 fn repeated_in(
     alloc: Global,
     scope: &Scope<'_>,
@@ -98,7 +98,7 @@ fn repeated_in(
     repeated_method(alloc, scope, AsmId(asm), rec)
 }
 
-/// The first type, field or method that is there twice in one of these assemblies.
+/// The first duplicate type, field or method in one of these assemblies.
 #[tactic(auto, unfolding(rules::specs::link_rules::Faults::duplicate_member))]
 fn first_duplicate(
     alloc: Global,
@@ -119,7 +119,7 @@ fn first_duplicate(
     Ok(None)
 }
 
-/// The first type, field or method that is there twice in one of the first assemblies, `inputs` of them: types by
+/// The first duplicate type, field or method in one of the first assemblies, `inputs` of them: types by
 /// namespace, name and encloser (II.22.37), members by type, name and signature (II.22.15, II.22.26). `links` are the links
 /// of the type tokens of all assemblies.
 pub fn duplicate_member(

@@ -43,8 +43,8 @@ fn first_fault(
 /// library. `links` are the links of the type tokens of all assemblies, in order, and of each those of its TypeRef, TypeDef
 /// and TypeSpec rows.
 ///
-/// The error is the first fault: names of assemblies come first, then cycles of types, cycles of enclosers, and members
-/// that are there twice; each kind is looked for in all assemblies in order.
+/// The error is the first fault: names of assemblies come first, then cycles of types, cycles of enclosers, and duplicate members;
+/// each kind is searched for in all assemblies in order.
 pub fn link_fault(
     alloc: Global,
     all: &[AsmRec],

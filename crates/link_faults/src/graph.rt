@@ -1,4 +1,4 @@
-//! What a node of a graph leads to, step by step. A graph has a list for each node, counted from 0: the nodes that it leads to.
+//! The nodes reachable in a graph. A graph has a list for each node, counted from 0: the nodes to which an edge leads from it.
 
 ghost use Rattle.std.specs.Prelude.{◌≡◌, ◌≤◌, [], ◌∷◌, ◌++◌, drop, length, nat_eq, IfOk, OnOk};
 ghost use Rattle.std.specs.List.{flat_map, list_any};
@@ -8,7 +8,7 @@ ghost use Rattle.link_faults.specs.Graphs.{next_in, marked, AreMarked};
 use il_base::{NoMemory, Seq};
 use std::alloc::Global;
 
-/// What a node leads to; nothing where there is no such node.
+/// The nodes to which an edge leads from a node; none where there is no such node.
 pub(crate) fn next_in(graph: &[Seq<u32>], node: u32) -> &[u32]
     ensures { result.now ≡ next_in graph.now node }
 {
@@ -18,7 +18,7 @@ pub(crate) fn next_in(graph: &[Seq<u32>], node: u32) -> &[u32]
     }
 }
 
-/// The list of this node, or of none.
+/// A list of this node, or an empty one.
 pub(crate) fn list_of(alloc: Global, node: Option<u32>) -> Result<Seq<u32>, NoMemory>
     ensures { IfOk result (λ nodes. nodes ≡ listed node) }
 {
@@ -43,7 +43,7 @@ struct Found {
     marks: Vec<bool>,
 }
 
-/// No node of a graph of this many.
+/// Nothing found yet, in a graph of this many nodes.
 fn none_found(alloc: Global, graph: usize) -> Result<Found, NoMemory>
     ensures empty { IfOk result (λ found. found.nodes ≡ []) }
     ensures marked { IfOk result (λ found. AreMarked found.marks.items found.nodes) }
@@ -55,7 +55,7 @@ fn none_found(alloc: Global, graph: usize) -> Result<Found, NoMemory>
     })
 }
 
-/// Whether a node was found. One that isn't of the graph is looked for.
+/// Whether a node was found. One that isn't in the graph is searched in the list.
 fn was_found(marks: &[bool], nodes: &[u32], node: u32) -> bool
     requires { AreMarked marks.now nodes.now }
     ensures { result ≡ list_any (nat_eq node) nodes.now }
@@ -109,7 +109,7 @@ fn add_all(found: &mut Found, nodes: &[u32]) -> Result<(), NoMemory>
     Ok(())
 }
 
-/// What some nodes lead to in one step, one after the other.
+/// The nodes to which an edge leads from some nodes, those of each node in order.
 fn led_by(alloc: Global, graph: &[Seq<u32>], nodes: &[u32]) -> Result<Seq<u32>, NoMemory>
     ensures { IfOk result (λ led. led ≡ flat_map (next_in graph.now) nodes.now) }
 {
@@ -120,7 +120,7 @@ fn led_by(alloc: Global, graph: &[Seq<u32>], nodes: &[u32]) -> Result<Seq<u32>, 
     Ok(led)
 }
 
-/// Puts what the nodes from a place on lead to at the end, where it wasn't found before.
+/// Adds the nodes to which an edge leads from those at `start` and after it, where they weren't found before.
 fn add_round(
     alloc: Global,
     graph: &[Seq<u32>],
@@ -136,7 +136,7 @@ fn add_round(
     add_all(found, led.as_slice())
 }
 
-/// These nodes as they are.
+/// The nodes that a search begins with, as found.
 fn found_first(alloc: Global, graph: usize, nodes: &[u32]) -> Result<Found, NoMemory>
     ensures added { IfOk result (λ found. found.nodes ≡ nodes.now) }
     ensures marked { IfOk result (λ found. AreMarked found.marks.items found.nodes) }
@@ -148,8 +148,8 @@ fn found_first(alloc: Global, graph: usize, nodes: &[u32]) -> Result<Found, NoMe
     Ok(found)
 }
 
-/// What some nodes lead to in at most `steps` steps, themselves among it. A step looks only at the nodes that the last one
-/// found, and the search ends as soon as a step finds nothing new.
+/// All nodes reachable in at most `steps` edges, `nodes` included. A round goes only from the nodes that the last one found, and
+/// the search ends as soon as a round finds nothing new.
 fn led_to(alloc: Global, graph: &[Seq<u32>], steps: usize, nodes: &[u32]) -> Result<Found, NoMemory>
     ensures found { IfOk result (λ found. found.nodes ≡ led_to nat_eq (next_in graph.now) steps nodes.now) }
     ensures marked { IfOk result (λ found. AreMarked found.marks.items found.nodes) }
@@ -167,7 +167,7 @@ fn led_to(alloc: Global, graph: &[Seq<u32>], steps: usize, nodes: &[u32]) -> Res
     Ok(found)
 }
 
-/// Whether a node leads to itself over at most `steps` further nodes.
+/// Whether a node is on a cycle that has at most `steps` further nodes.
 #[tactic(auto, unfolding(rules::specs::link_rules::Cycles::is_on_cycle))]
 pub(crate) fn leads_to_itself(
     alloc: Global,

@@ -23,8 +23,8 @@ pub(crate) fn has_flag(flags: &[bool], id: TypeId) -> bool
     }
 }
 
-/// Adds the value types in a type: it is one, or an argument of one has some. Elements of arrays and arguments of classes
-/// don't count.
+/// Adds the value types in a type: the type itself where it is one, and those in the arguments of a value type. Elements of arrays
+/// and arguments of classes don't count.
 #[cycle(holding)]
 #[tactic(auto, using(crate::proofs::HeldLayers::holding))]
 fn add_held(values: &[bool], ty: &TypeExpr, held: &mut Seq<u32>) -> Result<(), NoMemory>

@@ -1,4 +1,4 @@
-//! What each type leads to by the interfaces that its rows name (II.22.23).
+//! The graph of interfaces: edges from each type to the interfaces that its InterfaceImpl rows name (II.22.23).
 
 ghost use Rattle.std.specs.Prelude.{◌≡◌, [], ◌∷◌, ◌++◌, slice_set, IfOk, OnOk};
 ghost use Rattle.rules.specs.link_rules.Faults.{numbered};
@@ -12,7 +12,7 @@ use il_base::world_model::{AsmRec, FIRST_TYPE_DEF, InterfaceImplRow};
 use il_base::{AsmId, NoMemory, Seq, TypeId};
 use std::alloc::Global;
 
-/// Adds which types of an assembly are interfaces.
+/// Adds a flag for each type of an assembly: whether it is an interface.
 fn add_flags(rec: &AsmRec, flags: &mut Vec<bool>) -> Result<(), NoMemory>
     ensures { OnOk result (flags.new.items ≡ flags.old.items ++ numbered interface_flag 0 rec.now.type_def) }
 {
@@ -22,7 +22,7 @@ fn add_flags(rec: &AsmRec, flags: &mut Vec<bool>) -> Result<(), NoMemory>
     Ok(())
 }
 
-/// Which types are interfaces, in the order of ids.
+/// A flag for each type, in the order of ids: whether it is an interface.
 pub(crate) fn interface_flags(alloc: Global, scope: &Scope<'_>) -> Result<Vec<bool>, NoMemory>
     ensures { IfOk result (λ flags. flags.items ≡ interface_flags scope.now.all.now) }
 {
@@ -54,7 +54,7 @@ fn interface_at(
     }
 }
 
-/// Lets a node lead to one more, if there is such a node.
+/// Adds an edge from a node, if there is such a node.
 fn lead_on(graph: &mut Vec<Seq<u32>>, node: u32, to: u32) -> Result<(), NoMemory>
     ensures { OnOk result (graph.new.items ≡ slice_set graph.old.items node (next_in graph.old.items node ++ to ∷ [])) }
 {
@@ -71,7 +71,7 @@ fn place_of(token: u32) -> Option<u32>
     token.checked_sub(FIRST_TYPE_DEF)
 }
 
-/// Lets the type of a row of InterfaceImpl lead to the interface.
+/// Adds the edge of an InterfaceImpl row, from its type to its interface.
 fn lead_to_interface(
     scope: &Scope<'_>,
     flags: &[bool],
@@ -90,7 +90,7 @@ fn lead_to_interface(
     }
 }
 
-/// A node for each type of an assembly, which leads to nothing.
+/// A node without edges for each type of an assembly.
 fn nothing_of(alloc: Global, rec: &AsmRec) -> Result<Vec<Seq<u32>>, NoMemory>
     ensures { IfOk result (λ graph. graph.items ≡ numbered nothing_of 0 rec.now.type_def) }
 {
@@ -101,7 +101,7 @@ fn nothing_of(alloc: Global, rec: &AsmRec) -> Result<Vec<Seq<u32>>, NoMemory>
     Ok(graph)
 }
 
-/// What each type of an assembly leads to by its interfaces, in the order of their rows.
+/// The edges from the types of an assembly to their interfaces, in the order of rows.
 fn interfaces_of(
     alloc: Global,
     scope: &Scope<'_>,
@@ -118,7 +118,7 @@ fn interfaces_of(
     Ok(graph)
 }
 
-/// What each type leads to by its interfaces, in the order of ids; `flags` say which types are interfaces.
+/// The graph of interfaces, with the types in the order of ids; `flags` says which types are interfaces.
 pub(crate) fn all_interfaces(
     alloc: Global,
     scope: &Scope<'_>,

@@ -1,5 +1,5 @@
-//! Levels of the nodes of a graph: numbers such that no node leads to one of a greater level. A node that leads to smaller
-//! levels alone is on no cycle, so that only the others are searched from.
+//! Levels of the nodes of a graph: numbers such that no edge leads to a greater level. A node whose edges all lead to smaller
+//! levels is on no cycle, so searches begin only at the others.
 
 ghost use Rattle.std.specs.Prelude.{◌≡◌, nat_eq, IfOk};
 ghost use Rattle.std.specs.List.{list_all};
@@ -15,21 +15,21 @@ use std::alloc::Global;
 #[derive(Drop)]
 struct Search<'a> {
     graph: &'a [Seq<u32>],
-    /// When each node was met, from 1; 0 before.
+    /// The number of each node in the order in which nodes are met, from 1; 0 before it is met.
     met: Vec<u32>,
-    /// Of the nodes without a level that each node is known to lead to, when the earliest was met.
+    /// For each node the least number, in `met`, of the nodes without a level that are known to be reachable from it.
     low: Vec<u32>,
     /// The component of each node, from 1; 0 before it is known.
     levels: Vec<u32>,
     /// The nodes that were met and have no level.
     waiting: Vec<u32>,
-    /// The nodes whose search has begun, each with how many of the nodes that it leads to were looked at.
+    /// The nodes whose search has begun, each with the number of its edges that were followed.
     open: Vec<(u32, usize)>,
     last_met: u32,
     last_level: u32,
 }
 
-/// The node at a place among those that a node leads to.
+/// The node to which the edge at this place leads from a node.
 fn led_at(graph: &[Seq<u32>], node: u32, at: usize) -> Option<u32> {
     match next_in(graph, node).get(at) {
         Some(led) => Some(*led),
@@ -73,7 +73,7 @@ impl<'a> Search<'a> {
         Ok(())
     }
 
-    /// A node leads to another that was met: it leads to what that one leads to.
+    /// Follows an edge to a node that was met: what is reachable from that node is reachable from this one.
     fn learn(&mut self, node: u32, led: u32) {
         let low = rank_of(&self.low, led as usize);
         let has_level = rank_of(&self.levels, led as usize) > 0;
@@ -82,7 +82,7 @@ impl<'a> Search<'a> {
         }
     }
 
-    /// Ends with a node: the nodes that wait behind it have its level where it leads to no earlier one.
+    /// Ends with a node: where no earlier node is reachable from it, it and the nodes that wait after it are a component.
     fn end(&mut self, node: u32) {
         if rank_of(&self.low, node as usize) < rank_of(&self.met, node as usize) {
             return;
@@ -99,7 +99,7 @@ impl<'a> Search<'a> {
         }
     }
 
-    /// Goes on with an open node: to the next one that it leads to, or to its end.
+    /// Goes on with an open node: along its next edge, or to its end.
     fn go_on(&mut self, node: u32, looked: usize) -> Result<(), NoMemory> {
         if looked > 0 {
             if let Some(led) = led_at(self.graph, node, looked - 1) {
@@ -115,7 +115,7 @@ impl<'a> Search<'a> {
     }
 }
 
-/// The strongly connected component of each node, counted from 1: those that it leads to come before it.
+/// The number of each node's strongly connected component, from 1; edges lead only to components of the same or a smaller number.
 fn components(alloc: Global, graph: &[Seq<u32>]) -> Result<Vec<u32>, NoMemory> {
     let mut search = Search::new(alloc, graph)?;
     for node in 0..u32::try_from(graph.len()).map_err(|_| NoMemory)? {
@@ -140,7 +140,7 @@ fn are_within(levels: &[u32], level: u32, nodes: &[u32]) -> bool
         .all(|node| rank_of(levels, *node as usize) <= level)
 }
 
-/// Whether no node leads to one of a greater level.
+/// Whether no edge leads to a greater level.
 fn never_up(levels: &[u32], graph: &[Seq<u32>]) -> bool
     ensures { result ≡ never_up levels.now 0 graph.now }
 {
@@ -152,7 +152,7 @@ fn never_up(levels: &[u32], graph: &[Seq<u32>]) -> bool
     true
 }
 
-/// Levels of the nodes; none, which is as if each node's were 0, where what was found are no levels.
+/// Levels of the nodes. Where the search gave no levels, the list is empty, as if each level were 0.
 #[tactic(auto, using(crate::proofs::Leveled::no_levels))]
 pub(crate) fn levels_of(alloc: Global, graph: &[Seq<u32>]) -> Result<Vec<u32>, NoMemory>
     ensures { IfOk result (λ levels. AreLevels levels.items graph.now) }
@@ -164,14 +164,14 @@ pub(crate) fn levels_of(alloc: Global, graph: &[Seq<u32>]) -> Result<Vec<u32>, N
     Ok(Vec::new(alloc))
 }
 
-/// Whether a node leads to smaller levels alone.
+/// Whether all edges of a node lead to smaller levels.
 fn leads_down(levels: &[u32], graph: &[Seq<u32>], node: u32) -> bool
     ensures { result ≡ list_all (is_lower levels.now (rank_of levels.now node)) (next_in graph.now node) }
 {
     are_lower(levels, rank_of(levels, node as usize), next_in(graph, node))
 }
 
-/// Whether a node leads to itself over at most `steps` further nodes, by the graph's levels.
+/// Whether a node is on a cycle that has at most `steps` further nodes, by the graph's levels.
 #[tactic(auto, using(crate::proofs::Leveled::free))]
 pub(crate) fn is_on_cycle(
     alloc: Global,

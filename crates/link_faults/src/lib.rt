@@ -1,5 +1,5 @@
-//! Which demand of linking several assemblies fails first: the records of all assemblies and what their type tokens name go
-//! in, and the first fault comes out, as `link_rules` defines it (`Faults`).
+//! The first demand of linking several assemblies that fails. The records of all assemblies and the links of their type tokens go
+//! in, and the first fault comes out, as `rules/specs/link_rules/Faults` defines it.
 #![tactic(auto)]
 
 mod bases;

@@ -1,4 +1,4 @@
-//! What the fields and methods of an assembly are known by: type, name and signature.
+//! The keys of the fields and methods of an assembly, as numbers: type, name and signature.
 
 ghost use Rattle.std.specs.Prelude.{◌≡◌, ◌<◌, length, slice_index_or, None, IfOk};
 ghost use Rattle.std.specs.Option.{option_map};
@@ -22,7 +22,7 @@ fn is_compiler_controlled(flags: u16) -> bool
     access_of(flags) == COMPILER_CONTROLLED
 }
 
-/// The numbers of a member of this type, name and signature, where it has all.
+/// The key of a member of this type, name and signature, where it has all three.
 fn code_of_member(
     alloc: Global,
     name: &[u8],

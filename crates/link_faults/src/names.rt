@@ -1,4 +1,4 @@
-//! Names of assemblies that are taken.
+//! Duplicate names of assemblies.
 
 ghost use Rattle.std.specs.Prelude.{◌≡◌, ◌||◌, Some, IfOk};
 ghost use Rattle.std.specs.HashSet.{contains_by};
@@ -37,7 +37,7 @@ fn name_taken(file: usize) -> Result<Option<LinkError>, NoMemory>
     }))
 }
 
-/// Whether a name is one of the core library's, or was met.
+/// Whether a name is one of the core library's, or was met before.
 fn is_taken(names: &HashSet<&[u8]>, name: &[u8]) -> bool
     ensures { result ≡ (is_core_name name.now || contains_by (λ k. same_name name.now k.now) names.now) }
 {

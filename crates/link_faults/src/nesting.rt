@@ -21,7 +21,7 @@ use std::alloc::Global;
 /// The greatest number of a row, from 1, in a token.
 const LAST_ROW: u32 = 0xff_ffff;
 
-/// Adds nodes that lead to nothing, until there are this many.
+/// Adds nodes without edges, until there are this many.
 #[tactic(auto, using(crate::proofs::Nexts::next_push))]
 fn grow(alloc: Global, graph: &mut Vec<Seq<u32>>, nodes: usize) -> Result<(), NoMemory>
     ensures same { OnOk result ((node : ℕ) → next_in graph.new.items node ≡ next_in graph.old.items node) }
@@ -33,7 +33,7 @@ fn grow(alloc: Global, graph: &mut Vec<Seq<u32>>, nodes: usize) -> Result<(), No
     Ok(())
 }
 
-/// Lets a node lead to this one, or to nothing, and to no other.
+/// Sets the edges of a node: one to this node, or none.
 #[tactic(auto, using(crate::proofs::Nexts::next_set))]
 fn lead(
     alloc: Global,
@@ -49,7 +49,8 @@ fn lead(
     Ok(())
 }
 
-/// What encloses each type, by rows of NestedClass (II.22.32): of two rows on one type the first counts.
+/// The graph of enclosers by rows of NestedClass (II.22.32), with an edge from each type to its encloser: of two rows on one type
+/// the first counts.
 fn enclosers_by(alloc: Global, rows: &[NestedClassRow]) -> Result<Vec<Seq<u32>>, NoMemory>
     ensures { IfOk result (λ graph. IsAround rows.now graph.items) }
 {
@@ -68,14 +69,14 @@ fn enclosers_by(alloc: Global, rows: &[NestedClassRow]) -> Result<Vec<Seq<u32>>,
     Ok(graph)
 }
 
-/// What encloses each type of an assembly.
+/// The graph of enclosers of an assembly.
 pub(crate) fn enclosers(alloc: Global, rec: &AsmRec) -> Result<Vec<Seq<u32>>, NoMemory>
     ensures { IfOk result (λ graph. IsAround rec.now.nested_class graph.items) }
 {
     enclosers_by(alloc, rec.nested_class.as_slice())
 }
 
-/// The type that encloses this one, if one does. For a row that no token can name there is no memory.
+/// The type that encloses this one, if one does. A row that no token can name is answered with want of memory.
 pub(crate) fn encloser<'a>(
     rec: &AsmRec,
     graph: &'a [Seq<u32>],
@@ -114,7 +115,7 @@ fn is_cyclic_around(
     }
 }
 
-/// The first row of NestedClass of an assembly whose encloser is on a cycle, looked for one by one.
+/// The first row of NestedClass of an assembly whose encloser is on a cycle, checked one by one.
 fn cyclic_row(
     alloc: Global,
     file: usize,

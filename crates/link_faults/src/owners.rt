@@ -25,7 +25,7 @@ fn first_in(kind: Member, row: &TypeDefRow) -> u32
     }
 }
 
-/// The row behind the last of a type's run of members.
+/// The row past the last of a type's run of members.
 fn end_in(kind: Member, row: &TypeDefRow) -> u32
     ensures { result ≡ end_in kind row.now }
 {

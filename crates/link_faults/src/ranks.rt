@@ -1,4 +1,4 @@
-//! A fast check that no node of a graph is on a cycle: each leads to nodes of smaller ranks alone.
+//! A fast check that no node of a graph is on a cycle: all edges lead to smaller ranks.
 
 ghost use Rattle.std.specs.Prelude.{◌≡◌, IfOk};
 ghost use Rattle.std.specs.Bool.{OnTrue};
@@ -13,10 +13,10 @@ use std::alloc::Global;
 #[derive(Drop)]
 struct Search<'a> {
     graph: &'a [Seq<u32>],
-    /// A node has a rank from 1 as soon as all that it leads to was searched.
+    /// The rank of each node, from 1 as soon as all that is reachable from it was searched, else 0.
     ranks: Vec<u32>,
     met: Vec<bool>,
-    /// The nodes whose search has begun, each with how many of the nodes that it leads to were looked at.
+    /// The nodes whose search has begun, each with the number of its edges that were followed.
     open: Vec<(u32, usize)>,
     last: u32,
 }
@@ -45,7 +45,7 @@ impl<'a> Search<'a> {
         Ok(())
     }
 
-    /// Goes on with an open node: to the next one that it leads to, or to its rank.
+    /// Goes on with an open node: along its next edge, or to its rank.
     fn go_on(&mut self, node: u32, looked: usize) -> Result<(), NoMemory> {
         if let Some(led) = next_in(self.graph, node).get(looked) {
             self.open.push((node, looked.saturating_add(1)))?;
@@ -59,7 +59,7 @@ impl<'a> Search<'a> {
     }
 }
 
-/// Ranks of the nodes. Where no node is on a cycle, each has a greater rank than those that it leads to.
+/// Ranks of the nodes. Where no node is on a cycle, all edges lead to smaller ranks.
 fn ranks(alloc: Global, graph: &[Seq<u32>]) -> Result<Vec<u32>, NoMemory> {
     let mut search = Search::new(alloc, graph)?;
     for node in 0..u32::try_from(graph.len()).map_err(|_| NoMemory)? {
@@ -94,7 +94,7 @@ pub(crate) fn are_lower(ranks: &[u32], rank: u32, nodes: &[u32]) -> bool
         .all(|node| rank_of(ranks, *node as usize) < rank)
 }
 
-/// Whether each node leads to nodes of smaller ranks alone.
+/// Whether all edges of a graph lead to smaller ranks.
 fn goes_down(ranks: &[u32], graph: &[Seq<u32>]) -> bool
     ensures { result ≡ goes_down ranks.now 0 graph.now }
 {
@@ -106,7 +106,7 @@ fn goes_down(ranks: &[u32], graph: &[Seq<u32>]) -> bool
     true
 }
 
-/// Whether no node leads to itself: true only where none does.
+/// A fast check that no node is on a cycle: true only where none is.
 pub(crate) fn is_acyclic(alloc: Global, graph: &[Seq<u32>]) -> Result<bool, NoMemory>
     ensures { IfOk result (λ yes. OnTrue yes (IsAcyclic graph.now)) }
 {

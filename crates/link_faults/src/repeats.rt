@@ -1,4 +1,4 @@
-//! The first of some lists that an earlier one is the same as.
+//! The first of some lists that is the same as an earlier one.
 
 ghost use Rattle.std.specs.Prelude.{◌≡◌, bytes_eq, IfOk};
 ghost use Rattle.rules.specs.link_rules.Faults.{first_repeat};
@@ -7,7 +7,7 @@ use il_base::{NoMemory, Seq};
 use std::alloc::Global;
 use std::collections::HashSet;
 
-/// The place, from 0, of the first list that an earlier one is the same as. None is the same as nothing.
+/// The place, from 0, of the first list that is the same as an earlier one. None is the same as nothing.
 pub(crate) fn first_repeat(
     alloc: Global,
     codes: &[Option<Seq<u32>>],

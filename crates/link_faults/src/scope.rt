@@ -1,4 +1,4 @@
-//! The assemblies of a world, and what their type tokens name.
+//! The assemblies of a world, with the links of their type tokens.
 
 ghost use Rattle.std.specs.Prelude.{◌≡◌, IfOk};
 ghost use Rattle.rules.specs.link_rules.Members.{type_count};

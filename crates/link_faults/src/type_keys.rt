@@ -1,4 +1,4 @@
-//! What the types of an assembly are known by: namespace, name and encloser.
+//! The keys of the types of an assembly, as numbers: namespace, name and encloser.
 
 ghost use Rattle.std.specs.Prelude.{◌≡◌, IfOk};
 ghost use Rattle.link_faults.specs.Keys.{code_of_type, type_codes};
@@ -9,7 +9,7 @@ use il_base::world_model::{AsmRec, TypeDefRow};
 use il_base::{NoMemory, Seq};
 use std::alloc::Global;
 
-/// The numbers of a type that this type encloses, if one does.
+/// The key of a type with this encloser, or without one.
 fn code_of_type(alloc: Global, around: &[u32], row: &TypeDefRow) -> Result<Seq<u32>, NoMemory>
     ensures { IfOk result (λ code. code ≡ code_of_type around.now row.now) }
 {
@@ -20,7 +20,7 @@ fn code_of_type(alloc: Global, around: &[u32], row: &TypeDefRow) -> Result<Seq<u
     Ok(code)
 }
 
-/// The numbers of each type of an assembly.
+/// The key of each type of an assembly.
 pub(crate) fn type_codes(alloc: Global, rec: &AsmRec) -> Result<Vec<Option<Seq<u32>>>, NoMemory>
     ensures { IfOk result (λ codes. codes.items ≡ type_codes rec.now) }
 {

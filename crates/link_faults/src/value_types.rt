@@ -1,4 +1,4 @@
-//! Which types are value types (II.13).
+//! The value types of a world (II.13).
 
 ghost use Rattle.std.specs.Prelude.{◌≡◌, ◌≤◌, ◌++◌, IfOk, OnOk};
 ghost use Rattle.il_base.specs.declared.world_model.tokens.TheConstants.{FIRST_TYPE_DEF};
@@ -64,7 +64,7 @@ pub(crate) fn is_value(
     Ok((value && !is_enum_itself(scope.all, asm, at)) || enumeration)
 }
 
-/// Adds which types of an assembly are value types.
+/// Adds a flag for each type of an assembly: whether it is a value type.
 fn add_values(
     scope: &Scope<'_>,
     asm: AsmId,
@@ -80,7 +80,7 @@ fn add_values(
     Ok(())
 }
 
-/// Which types are value types, in the order of ids.
+/// A flag for each type, in the order of ids: whether it is a value type.
 pub(crate) fn all_values(alloc: Global, scope: &Scope<'_>) -> Result<Vec<bool>, NoMemory>
     ensures { IfOk result (λ values. values.items ≡ all_values scope.now.all.now scope.now.links.now) }
 {

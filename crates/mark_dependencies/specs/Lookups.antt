@@ -1,4 +1,4 @@
--- What is made of a world to look up what dependencies name.
+-- The tables of a world in which the names of dependencies are looked up.
 use Rattle.std.specs.Prelude.{◌≡◌, List, ◌∷◌, map}
 use Rattle.std.specs.List.{flat_map}
 use Rattle.il_base.specs.declared.ids.Item.{Item}
@@ -28,7 +28,7 @@ pub record IsLookup (l : Lookup) : Type 0 where
 abbrev pub field_owner : List AsmRec → RowAt → List RowAt
 field_owner recs at = flat_map (λ (rec : AsmRec). map (at_row at.asm) (listed (owner_of_field rec at.row))) (listed (rec_at recs at))
 
--- what a dependency marks, and what it marks of a type
+-- the facts that a dependency gives, and those that it gives of a type
 abbrev pub told_facts : List AsmRec → Item → RowAt → Dependency → List Fact
 told_facts recs i at d = dependency_facts recs i at (dependency_told d)
 

@@ -106,7 +106,7 @@ fn add_others(
     add_mapped(alloc, marker, name, t, facts)
 }
 
-/// Puts the members of a type itself that have this name at the end, of all kinds; a name with parameters is that of methods alone.
+/// Adds the members of a type itself that have this name, of all kinds; only methods go by a name with parameters.
 #[tactic(auto, unfolding(rules::specs::mark_rules::Dependencies::members_called), using(crate::proofs::Lists::two_put, crate::proofs::Lists::none_more))]
 pub(crate) fn add_called(
     alloc: Global,

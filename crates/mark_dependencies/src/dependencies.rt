@@ -1,4 +1,4 @@
-//! What a method or a field depends on.
+//! The types and members that a method or a field depends on.
 
 ghost use Rattle.std.specs.Prelude.{◌≡◌, ◌++◌, ◌∷◌, map, Some, OnOk};
 ghost use Rattle.std.specs.List.{flat_map};
@@ -22,7 +22,7 @@ use mark_parts::mark_facts::rows::row_of;
 use rules::link_rules::RowAt;
 use std::alloc::Global;
 
-/// Puts the members of a type that a dependency names at the end, by their name or their kinds.
+/// Adds the members of a type that a dependency names, by their name or their kinds.
 fn add_members(
     alloc: Global,
     lookup: &Lookup<'_, '_>,
@@ -56,7 +56,7 @@ fn add_type(
     add_members(alloc, lookup, d, t, facts)
 }
 
-/// Puts what a dependency of a method or a field marks at the end: the type, and the members that it names.
+/// Adds the facts that a dependency of a method or a field marks: the type, and the members that it names.
 fn add_dependency(
     alloc: Global,
     lookup: &Lookup<'_, '_>,
@@ -78,7 +78,7 @@ fn add_dependency(
     }
 }
 
-/// Puts what dependencies of a method or a field in a row mark at the end.
+/// Adds the facts that dependencies of a method or a field in a row mark.
 pub fn add_dependency_facts(
     alloc: Global,
     lookup: &Lookup<'_, '_>,
@@ -96,7 +96,7 @@ pub fn add_dependency_facts(
     Ok(())
 }
 
-/// Puts what a marked item needs by its dependencies at the end.
+/// Adds the needs of a marked item by its dependencies.
 pub fn add_dependency_needs(
     alloc: Global,
     lookup: &Lookup<'_, '_>,

@@ -1,5 +1,5 @@
-//! The dependencies that custom attributes give a method or a field. What goes in is a world with what its attributes are read by
-//! (`mark_tables`, `attribute_values`) and an item; what comes out are its dependencies (`dependency_forms`), as
+//! The dependencies that custom attributes give a method or a field. In go a world with what its attributes are read by
+//! (`mark_tables`, `attribute_values`) and an item; out come its dependencies (`dependency_forms`), as
 //! `rules/specs/mark_rules/Annotations` lists them.
 
 mod arguments;

@@ -61,7 +61,7 @@ fn add_marked(
     mark_items(items.as_slice(), facts)
 }
 
-/// Puts the members of a type that kinds name at the end, marked; where a constructor is among them, the type is instantiated.
+/// Adds the members of a type that kinds name, marked; where a constructor is among them, the type is instantiated.
 #[tactic(auto, using(crate::proofs::OfKinds::of_kinds))]
 pub(crate) fn add_of_kinds(
     alloc: Global,

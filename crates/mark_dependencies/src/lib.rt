@@ -1,5 +1,5 @@
-//! What the dependencies of methods and fields mark. What goes in is a world with what is made of it (`mark_tables`,
-//! `nested_types`, `type_names`), a method or a field and its dependencies (`dependency_forms`); what comes out are facts, as
+//! The facts that the dependencies of methods and fields give. In go a world with its tables (`mark_tables`, `nested_types`,
+//! `type_names`), a method or a field and its dependencies (`dependency_forms`); out come facts, as
 //! `rules/specs/mark_rules/Dependencies` lists them.
 #![tactic(auto)]
 

@@ -1,4 +1,4 @@
--- What a marked item needs by attributes, dependencies and descriptors.
+-- The needs of a marked item by attributes, dependencies and descriptors.
 use Rattle.std.specs.Prelude.{List, ◌++◌}
 use Rattle.il_base.specs.declared.ids.Item.{Item}
 use Rattle.il_base.specs.declared.world_model.record.AsmRec.{AsmRec}

@@ -1,4 +1,4 @@
-//! What a marked item needs.
+//! The needs of a marked item: the facts that follow from it.
 
 ghost use Rattle.std.specs.Prelude.{◌≡◌, ◌++◌, OnOk};
 ghost use Rattle.std.specs.List.{flat_map};
@@ -20,7 +20,7 @@ use mark_parts::mark_facts::rows::row_of;
 use mark_parts::mark_tables::marker::Marker;
 use std::alloc::Global;
 
-/// Puts what the row of a marked item needs at the end, where it is there.
+/// Adds the needs of the row of a marked item, where it is there.
 #[tactic(auto, using(crate::proofs::Lists::none_more))]
 fn add_row(
     alloc: Global,
@@ -37,7 +37,7 @@ fn add_row(
     add_row_needs(alloc, marker, item, at, facts)
 }
 
-/// Puts what the attributes of a marked item need at the end.
+/// Adds the needs of the attributes of a marked item.
 fn add_attributes<N: NamedRules>(
     alloc: Global,
     marker: &Marker<'_>,
@@ -51,7 +51,7 @@ fn add_attributes<N: NamedRules>(
     named.add_attributes(alloc, item, facts)
 }
 
-/// Puts what the dependencies of a marked item need at the end.
+/// Adds the needs of the dependencies of a marked item.
 fn add_dependencies<N: NamedRules>(
     alloc: Global,
     marker: &Marker<'_>,
@@ -65,7 +65,7 @@ fn add_dependencies<N: NamedRules>(
     named.add_dependencies(alloc, item, facts)
 }
 
-/// Puts what descriptors keep where an item is marked at the end.
+/// Adds the facts that descriptors give once an item is marked.
 fn add_waiting<N: NamedRules>(
     alloc: Global,
     marker: &Marker<'_>,
@@ -79,7 +79,7 @@ fn add_waiting<N: NamedRules>(
     named.add_waiting(alloc, item, facts)
 }
 
-/// Puts what attributes, dependencies and descriptors need of a marked item at the end.
+/// Adds the needs of a marked item by its attributes, its dependencies and descriptors.
 #[tactic(auto, using(crate::proofs::Lists::three_put))]
 fn add_named<N: NamedRules>(
     alloc: Global,
@@ -96,7 +96,7 @@ fn add_named<N: NamedRules>(
     add_waiting(alloc, marker, named, item, facts)
 }
 
-/// Puts what the row of a marked item needs and what the item shows at the end, with what stands between these.
+/// Adds the needs of a marked item: those of its row, of its attributes, dependencies and descriptors, and the types that it shows.
 #[tactic(auto, using(crate::proofs::Lists::all_put))]
 pub fn add_item_needs<N: NamedRules>(
     alloc: Global,

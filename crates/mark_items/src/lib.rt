@@ -1,5 +1,5 @@
-//! What one fact gives: the rules on rows, attributes, dependencies, descriptors and shown types together. What goes in is a
-//! world with what is made of it and a fact; what comes out are facts, as `one` of `rules/specs/mark_rules/Marking` lists them.
+//! The facts that follow from one fact: the rules on rows, attributes, dependencies, descriptors and shown types together. In go a
+//! world with its tables and a fact; out come facts, as `one` of `rules/specs/mark_rules/Marking` lists them.
 #![tactic(auto)]
 
 pub mod items;

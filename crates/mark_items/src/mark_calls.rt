@@ -1,6 +1,6 @@
-//! What virtual methods make necessary: the methods and declarations that a method overrides, and what a virtual call may
-//! run. What goes in is a world with what is made of it (`mark_tables`), the slots of its methods (`virtual_calls`) and rows;
-//! what comes out are facts, as the rules of `mark_rules` list them. `implied` has the interfaces that a type implies.
+//! The needs of virtual methods: the methods and declarations that a method overrides, and the methods that a virtual call may run. In
+//! go a world with its tables (`mark_tables`), the slots of its methods (`virtual_calls`) and rows; out come facts, as the rules of
+//! `mark_rules` list them. `implied` has the interfaces that a type implies.
 
 pub mod class_calls;
 pub mod declarations;

@@ -1,5 +1,5 @@
-//! What a marked type, field, interface row, property, event or method needs, and which types it shows. What goes in is a world
-//! with what is made of it (`mark_tables`) and a row; what comes out are facts, as the rules of `mark_rules` list them.
+//! The needs of a marked type, field, interface row, property, event or method, and the types that it shows. In go a world with its
+//! tables (`mark_tables`) and a row; out come facts, as the rules of `mark_rules` list them.
 
 pub mod code;
 pub mod forms;

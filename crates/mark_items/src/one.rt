@@ -1,4 +1,4 @@
-//! What one fact gives.
+//! The facts that follow from one fact.
 
 ghost use Rattle.std.specs.Prelude.{◌≡◌, ◌++◌, OnOk};
 ghost use Rattle.rules.specs.mark_rules.Marking.{one};
@@ -14,7 +14,7 @@ use mark_parts::mark_facts::facts::Facts;
 use mark_parts::mark_tables::marker::Marker;
 use std::alloc::Global;
 
-/// Puts what a fact gives alone at the end.
+/// Adds the facts that a fact gives alone.
 #[tactic(auto, unfolding(rules::specs::mark_rules::Marking::one), using(crate::proofs::Lists::none_more))]
 pub fn add_one<N: NamedRules>(
     alloc: Global,

@@ -9,7 +9,7 @@ use Rattle.rules.specs.mark_rules.Places.{type_item, method_item, field_item, pr
 use Rattle.rules.specs.mark_rules.Properties.{property_accessors, event_accessors}
 use Rattle.rules.specs.mark_rules.Members.{constructors_by, methods_by, fields_by, properties_by, events_by, nested_by, impls_by}
 
--- with accessors
+-- properties, each with its accessors
 abbrev pub property_items : List AsmRec → RowAt → List Item
 property_items recs p = prop_item recs p ∷ map (method_item recs) (property_accessors recs p)
 

@@ -1,4 +1,4 @@
--- Types that wait, of which the last comes first.
+-- Types that are still to be visited, the last one first.
 use Rattle.std.specs.Prelude.{ℕ, zero, suc, ◌+◌, List, [], ◌∷◌, ◌++◌}
 use Rattle.std.specs.List.{sum_by}
 use Rattle.il_base.specs.declared.ids.Item.{Item}
@@ -15,12 +15,12 @@ unfoldable pub pushed : ℕ → List RowAt → List Level
 pushed n [] = []
 pushed n (at ∷ ats) = pushed n ats ++ level n at ∷ []
 
--- all that they hold, with the types nested in them
+-- all that these types hold, with the types nested in them
 unfoldable pub left_items : List AsmRec → List Level → List Item
 left_items recs [] = []
 left_items recs (l ∷ ls) = left_items recs ls ++ whole_within recs l.levels l.at
 
--- how many types are visited for a type, at most so many levels
+-- the number of types that are visited for a type, at most so many levels deep
 unfoldable pub size_within : List AsmRec → ℕ → RowAt → ℕ
 size_within recs zero at = 1
 size_within recs (suc n) at = suc (sum_by (size_within recs n) (nested_in recs at))

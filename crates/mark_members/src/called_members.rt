@@ -1,5 +1,5 @@
-//! Members of a type by name, and the good signatures of methods. What goes in is a world and rows of its members; what comes out
-//! are those that have a name, as the definitions of `mark_rules` (`Roots`, `Dependencies`) look for them.
+//! Members of a type by name, and the good signatures of methods. In go a world and rows of its members; out come the members that
+//! have a name, as `Roots` and `Dependencies` of `rules/specs/mark_rules` have them.
 
 pub mod mapped;
 pub mod signatures;

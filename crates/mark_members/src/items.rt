@@ -19,7 +19,7 @@ use mark_parts::mark_tables::marker::Marker;
 use rules::link_rules::RowAt;
 use std::alloc::Global;
 
-/// Puts the item of a row at the end.
+/// Adds the item of a row.
 fn add_item(all: &[AsmRec], kind: Kind, at: RowAt, items: &mut Vec<Item>) -> Result<(), NoMemory>
     ensures { OnOk result (items.new.items ≡ items.old.items ++ item_at all.now kind at ∷ []) }
 {
@@ -28,7 +28,7 @@ fn add_item(all: &[AsmRec], kind: Kind, at: RowAt, items: &mut Vec<Item>) -> Res
     Ok(())
 }
 
-/// Puts the items of rows at the end.
+/// Adds the items of rows.
 pub fn add_items(
     all: &[AsmRec],
     kind: Kind,
@@ -43,7 +43,7 @@ pub fn add_items(
     Ok(())
 }
 
-/// Puts a property and its accessors at the end.
+/// Adds a property and its accessors.
 #[tactic(auto, using(crate::proofs::Lists::first_then))]
 fn add_property(
     alloc: Global,
@@ -60,7 +60,7 @@ fn add_property(
     add_items(all, Kind::Method, accessors.as_slice(), items)
 }
 
-/// Puts an event and its accessors at the end.
+/// Adds an event and its accessors.
 #[tactic(auto, using(crate::proofs::Lists::first_then))]
 fn add_event(
     alloc: Global,
@@ -77,7 +77,7 @@ fn add_event(
     add_items(all, Kind::Method, accessors.as_slice(), items)
 }
 
-/// Puts properties and their accessors at the end.
+/// Adds properties and their accessors.
 pub(crate) fn add_properties(
     alloc: Global,
     marker: &Marker<'_>,
@@ -93,7 +93,7 @@ pub(crate) fn add_properties(
     Ok(())
 }
 
-/// Puts events and their accessors at the end.
+/// Adds events and their accessors.
 pub(crate) fn add_events(
     alloc: Global,
     marker: &Marker<'_>,
@@ -109,7 +109,7 @@ pub(crate) fn add_events(
     Ok(())
 }
 
-/// Puts a type, its methods and its fields at the end.
+/// Adds a type, its methods and its fields.
 #[tactic(auto, using(crate::proofs::Lists::first_and_two))]
 fn add_simple(
     alloc: Global,
@@ -128,7 +128,7 @@ fn add_simple(
     add_items(all, Kind::Field, fields.as_slice(), items)
 }
 
-/// Puts all that a type holds at the end, itself first, with the accessors of its properties and events.
+/// Adds all that a type holds, itself first, with the accessors of its properties and events.
 #[tactic(auto, using(crate::proofs::Lists::three_put))]
 pub(crate) fn add_whole(
     alloc: Global,

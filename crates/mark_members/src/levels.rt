@@ -1,4 +1,4 @@
-//! A type with all types nested in it (II.22.32). The types that wait stand in a list, so that no chain of them is too deep.
+//! A type with all types nested in it (II.22.32). The types that are still to be visited stand in a list, so there is no recursion.
 
 ghost use Rattle.std.specs.Prelude.{◌≡◌, ◌++◌, ◌+◌, OnOk};
 ghost use Rattle.rules.specs.mark_rules.Members.{whole_within, whole_nested};
@@ -14,14 +14,14 @@ use rules::link_rules::RowAt;
 use std::alloc::Global;
 use type_tables::member_search::counted::sum;
 
-/// A type that waits, with how many levels of types it counts, its own first.
+/// A type that is still to be visited, with the number of levels of nested types to visit, its own first.
 #[derive(Clone, Copy)]
 struct Level {
     at: RowAt,
     levels: u32,
 }
 
-/// Puts types at the end of those that wait, the last one first.
+/// Adds types to those that are still to be visited, the last one first.
 fn push_levels(rows: Seq<RowAt>, levels: u32, waiting: &mut Seq<Level>) -> Result<(), NoMemory>
     ensures { OnOk result (waiting.new ≡ waiting.old ++ pushed levels rows) }
 {
@@ -34,7 +34,7 @@ fn push_levels(rows: Seq<RowAt>, levels: u32, waiting: &mut Seq<Level>) -> Resul
     }
 }
 
-/// Puts all that a type holds at the end, and the types that are nested in it at the end of those that wait.
+/// Adds all that a type holds, and adds the types nested in it to those that are still to be visited.
 #[tactic(auto, using(crate::proofs::Waiting::no_level, crate::proofs::Waiting::no_level_total))]
 fn add_level(
     alloc: Global,
@@ -58,7 +58,7 @@ fn add_level(
     Ok(())
 }
 
-/// Puts all that types hold at the end, with all types nested in them: those that wait, the last one first.
+/// Adds all that types hold, with all types nested in them: those that are still to be visited, the last one first.
 fn add_levels(
     alloc: Global,
     marker: &Marker<'_>,
@@ -79,7 +79,7 @@ fn add_levels(
     }
 }
 
-/// Puts all that a type holds at the end, with all types nested in it.
+/// Adds all that a type holds, with all types nested in it.
 pub(crate) fn add_whole_nested(
     alloc: Global,
     marker: &Marker<'_>,

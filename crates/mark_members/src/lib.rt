@@ -1,5 +1,5 @@
-//! The members of a type by their kinds, all kinds together, as items. What goes in is a world with what is made of it
-//! (`mark_tables`, `nested_types`), a row of a type and kinds (`rules::mark_rules::member_kinds`); what comes out is `members_by` of
+//! The members of a type by their kinds, all kinds together, as items. In go a world with its tables (`mark_tables`,
+//! `nested_types`), a row of a type and kinds (`rules::mark_rules::member_kinds`); out comes `members_by` of
 //! `rules/specs/mark_rules/Members`, in its order.
 #![tactic(auto)]
 

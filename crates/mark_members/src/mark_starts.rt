@@ -1,6 +1,6 @@
-//! What is marked before any rule is used, the types that descriptors name aside: the primary assembly, its `<Module>`, the entry
-//! method, and the assemblies that descriptors keep whole. What goes in is a world with what is made of it (`mark_tables`); what
-//! comes out are facts, as `rules/specs/mark_rules/Roots` lists them.
+//! The items that are marked before any rule is used, but for the types that descriptors name: the primary assembly, its
+//! `<Module>`, the entry method, and the assemblies that descriptors keep whole. In goes a world with its tables (`mark_tables`);
+//! out come facts, as `rules/specs/mark_rules/Roots` lists them.
 
 pub mod first;
 pub mod inputs;

@@ -1,5 +1,5 @@
-//! All that a type or an assembly has, as descriptors keep it. What goes in is a world with what is made of it (`mark_tables`)
-//! and a row or an assembly; what comes out are facts, as `rules/specs/mark_rules/Roots` lists them.
+//! All that a type or an assembly has, as descriptors keep it. In go a world with its tables (`mark_tables`) and a row or an
+//! assembly; out come facts, as `rules/specs/mark_rules/Roots` lists them.
 
 pub mod accessors;
 pub mod assemblies;

@@ -19,7 +19,7 @@ use mark_parts::mark_tables::marker::Marker;
 use rules::link_rules::RowAt;
 use std::alloc::Global;
 
-/// Puts the constructors, methods and fields that kinds name at the end.
+/// Adds the constructors, methods and fields that kinds name.
 #[tactic(auto, using(crate::proofs::Lists::methods_put))]
 fn add_methods_and_fields(
     alloc: Global,
@@ -40,7 +40,7 @@ fn add_methods_and_fields(
     add_items(all, Kind::Field, fields.as_slice(), items)
 }
 
-/// Puts the properties and events that kinds name at the end, with their accessors.
+/// Adds the properties and events that kinds name, with their accessors.
 #[tactic(auto, using(crate::proofs::Lists::two_put))]
 fn add_mapped(
     alloc: Global,
@@ -58,7 +58,7 @@ fn add_mapped(
     add_events(alloc, marker, events.as_slice(), items)
 }
 
-/// Puts the nested types and the interface rows that kinds name at the end.
+/// Adds the nested types and the interface rows that kinds name.
 #[tactic(auto, using(crate::proofs::Lists::two_put))]
 fn add_others(
     alloc: Global,
@@ -82,8 +82,8 @@ fn add_others(
     )
 }
 
-/// Puts the members of a type that kinds name at the end: constructors of the type itself; methods, fields, properties and events
-/// of the type and its bases, the last two with all their accessors; nested types with all that they hold; interface rows.
+/// Adds the members of a type that kinds name. They are constructors of the type itself; methods, fields, properties and events of
+/// the type and its bases, the last two with all accessors; nested types with all that they hold; and interface rows.
 #[tactic(auto, unfolding(rules::specs::mark_rules::Members::members_by), using(crate::proofs::Lists::members_put))]
 pub fn add_members_by(
     alloc: Global,

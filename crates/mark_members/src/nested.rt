@@ -64,7 +64,7 @@ fn counted(
     Ok(found)
 }
 
-/// Puts all that types hold at the end, with all types nested in them.
+/// Adds all that types hold, with all types nested in them.
 fn add_all_nested(
     alloc: Global,
     marker: &Marker<'_>,
@@ -82,7 +82,7 @@ fn add_all_nested(
     Ok(())
 }
 
-/// Puts the nested types of a type that kinds name at the end, with all that they hold.
+/// Adds the nested types of a type that kinds name, with all that they hold.
 #[tactic(auto, unfolding(rules::specs::mark_rules::Members::nested_by))]
 pub(crate) fn add_nested_by(
     alloc: Global,

@@ -57,9 +57,9 @@ fact_numbered w n =
     else if nat_lt n (before_reflected w.recs) then Some (shown (record { 0 = n - before_shown w.recs }))
     else of_home reflected (slice_get w.homes (n - before_reflected w.recs))
 
--- ---- what is so in each world that a link gave
+-- ---- laws of each world that a link gave
 
--- the fact with the number of a fact that is there is that fact, and the number is below the bound
+-- the number of a fact that is there is below the bound, and leads back to that fact
 abbrev pub FactsFound : Type 0
 FactsFound = (w : World) → IsWorld w → (f : Fact) → IsTrue (is_there w.recs f) → (fact_numbered w (number_of w.recs f) ≡ Some f) × (number_of w.recs f < universe w.recs)
 

@@ -4,8 +4,8 @@ ghost use Rattle.mark_numbers.specs.Numbers.{FactsFound, NumbersFound};
 
 use base_laws::world_laws::laws::homes_told;
 
-/// In a world that a link gave each fact that is there has a number of its own below the bound, and each number of a fact is
-/// that of a fact that is there.
+/// A law, for a world that a link gave: the facts that are there have distinct numbers below the bound, and a number leads only to
+/// a fact that is there and has it.
 pub fn numbers_told()
     ensures facts { FactsFound }
     ensures numbers { NumbersFound }

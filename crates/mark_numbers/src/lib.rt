@@ -1,6 +1,6 @@
-//! Facts as numbers below a bound, so that sets of facts are bits. What goes in is a world; `specs/Numbers` says which number
-//! each fact has. The items of a world come first, then the types that are instantiated, those that are shown, and the items
-//! that reflection may reach.
+//! Facts as numbers below a bound, so that sets of facts are bits. In goes a world; `specs/Numbers` defines the number of each
+//! fact. The items of a world come first, then the types that are instantiated, those that are shown, and the items that reflection
+//! may reach.
 #![tactic(auto)]
 
 pub mod laws;

@@ -12,6 +12,6 @@ use Rattle.rules.specs.mark_rules.Types.{constraint_of}
 abbrev pub constraint_part : List AsmRec → ℕ → AsmRec → ℕ → GenericParamConstraintRow → List Part
 constraint_part recs a rec k row = type_token_part recs a rec (token_of GENERIC_PARAM_CONSTRAINT (suc k)) 0 row.constraint ∷ []
 
--- of the parameter in a row
+-- the constraints of the generic parameter in a row
 abbrev pub param_part : List AsmRec → ℕ → AsmRec → ℕ → GenericParamRow → List Part
 param_part recs a rec k row = each_row (constraint_of recs a rec (token_of GENERIC_PARAM (suc k))) rec.generic_param_constraint

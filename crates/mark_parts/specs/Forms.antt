@@ -1,4 +1,4 @@
--- What the token of an instruction names, by the instruction's form.
+-- The kind of item that the token of an instruction names, by the instruction's form.
 use Rattle.std.specs.Prelude.{ℕ, List, [], ◌∷◌}
 use Rattle.il_base.specs.declared.body.Form.{Form}
 use Rattle.il_base.specs.declared.body.Form.TheVariants as form
@@ -16,7 +16,7 @@ names_of form.LdToken = names.Any
 names_of form.LdStr = names.Text
 names_of _ = names.Type
 
--- `token_parts` by what the token names
+-- `token_parts`, by the kind of item that the token names
 unfoldable pub parts_by : List AsmRec → ℕ → AsmRec → ℕ → ℕ → Names → ℕ → List Part
 parts_by recs a rec place offset names.Method token = method_token_part recs a rec place offset token ∷ []
 parts_by recs a rec place offset names.Field token = field_token_part recs a rec place offset token ∷ []

@@ -1,4 +1,4 @@
--- The parts of items, piece by piece.
+-- The parts of items, in pieces.
 use Rattle.std.specs.Prelude.{ℕ, List, [], ◌∷◌, ◌++◌, Option, slice_get, ◌==◌, Bool, true, false, if◌then◌else◌}
 use Rattle.std.specs.List.{flat_map}
 use Rattle.std.specs.Option.{option_and_then, option_map_or}
@@ -33,7 +33,7 @@ abbrev pub some_body_parts : List AsmRec → ℕ → AsmRec → ℕ → Caught �
 some_body_parts recs a rec place caught.Named m = flat_map (body_parts recs a rec place (is_read m.signature)) (body_of m)
 some_body_parts recs a rec place caught.Left m = flat_map (code_parts recs a rec place (is_read m.signature)) (body_of m)
 
--- what the Extends of a type in a row names, where `place` is its token
+-- the part in the Extends of a type in a row, where `place` is its token
 abbrev pub extends_parts : List AsmRec → ℕ → AsmRec → ℕ → ℕ → List Part
 extends_parts recs a rec k place =
     flat_map (λ (t : TypeDefRow). if t.extends == 0 then [] else type_token_part recs a rec place 0 t.extends ∷ []) (listed (slice_get rec.type_def k))

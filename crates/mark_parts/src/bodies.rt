@@ -1,4 +1,4 @@
-//! What a method's body names: the operands of all its instructions, its locals, and the types that it catches (II.25.4).
+//! The parts of a method's body: the operands of all its instructions, its locals, and the types that it catches (II.25.4).
 
 ghost use Rattle.std.specs.Prelude.{◌≡◌, ◌++◌, ◌∷◌, [], ◌&&◌, OnOk};
 ghost use Rattle.std.specs.List.{list_any, flat_map};
@@ -60,7 +60,7 @@ pub fn is_method_token(token: u32) -> bool
     of == table::METHOD_DEF || of == table::MEMBER_REF || of == table::METHOD_SPEC
 }
 
-/// Puts what the operand of `ldtoken` (III.4.17) names at the end.
+/// Adds the parts that the operand of `ldtoken` (III.4.17) names.
 fn add_any_token(
     alloc: Global,
     asm: &Assembly<'_>,
@@ -107,7 +107,7 @@ fn has_text(asm: &Assembly<'_>, token: u32) -> bool
     any_text(asm.scope.rec, rows)
 }
 
-/// Puts the operand of `ldstr` (III.4.16) at the end, where no text is there.
+/// Adds the operand of `ldstr` (III.4.16), where no text is there.
 fn add_text(
     asm: &Assembly<'_>,
     row: u32,
@@ -124,7 +124,7 @@ fn add_text(
     parts.push_known(row, at, Known::Bad(BadKind::Unresolved))
 }
 
-/// Puts what a token of an operand names at the end.
+/// Adds the parts that a token of an operand names.
 #[tactic(auto, unfolding(crate::specs::Forms::parts_by))]
 fn add_token(
     alloc: Global,
@@ -147,7 +147,7 @@ fn add_token(
     }
 }
 
-/// Puts what the token of an instruction names at the end, by the instruction's form.
+/// Adds the parts that the token of an instruction names, by the instruction's form.
 fn add_form_token(
     alloc: Global,
     asm: &Assembly<'_>,
@@ -165,7 +165,7 @@ fn add_form_token(
     Ok(())
 }
 
-/// Puts what an instruction names at the end.
+/// Adds the parts that an instruction names.
 fn add_instruction(
     alloc: Global,
     asm: &Assembly<'_>,
@@ -188,7 +188,7 @@ fn add_instruction(
     }
 }
 
-/// Puts what instructions name at the end.
+/// Adds the parts that instructions name.
 fn add_instructions(
     alloc: Global,
     asm: &Assembly<'_>,
@@ -213,7 +213,7 @@ fn locals_row(rec: &AsmRec, token: u32) -> Option<&StandAloneSigRow>
     rec.stand_alone_sig.get(k as usize)
 }
 
-/// Puts the types of a body's locals at the end.
+/// Adds the types of a body's locals.
 fn add_locals(
     alloc: Global,
     asm: &Assembly<'_>,
@@ -256,7 +256,7 @@ pub fn has_operands(rec: &AsmRec, read: bool, body: &Body) -> bool
     read && are_locals_read(rec, body.locals)
 }
 
-/// Puts the operands of a body at the end. One of which the method's signature or the locals have no reading has none.
+/// Adds the operands of a body; there are none where the method's signature or the locals have no reading.
 #[tactic(auto, using(crate::proofs::Lists::none_more))]
 fn add_operands(
     alloc: Global,
@@ -276,7 +276,7 @@ fn add_operands(
     Ok(())
 }
 
-/// Puts what a body names but the types that it catches at the end. `read` says whether the method's signature has a reading.
+/// Adds the parts that a body names but the types that it catches. `read` says whether the method's signature has a reading.
 #[tactic(auto, using(crate::proofs::Lists::two_put))]
 pub(crate) fn add_code(
     alloc: Global,
@@ -293,7 +293,7 @@ pub(crate) fn add_code(
     add_operands(alloc, asm, row, read, body, parts)
 }
 
-/// Puts the type that a handler catches at the end.
+/// Adds the type that a handler catches.
 fn add_handler(
     alloc: Global,
     asm: &Assembly<'_>,
@@ -310,7 +310,7 @@ fn add_handler(
     Ok(())
 }
 
-/// Puts the types that handlers catch at the end.
+/// Adds the types that handlers catch.
 fn add_handlers(
     alloc: Global,
     asm: &Assembly<'_>,
@@ -327,7 +327,7 @@ fn add_handlers(
     Ok(())
 }
 
-/// Puts what a body names at the end.
+/// Adds the parts that a body names.
 #[tactic(auto, using(crate::proofs::Lists::two_put))]
 pub(crate) fn add_body(
     alloc: Global,

@@ -17,7 +17,7 @@ use il_base::world_model::token_of;
 use il_base::{NoMemory, table};
 use std::alloc::Global;
 
-/// Puts what a row of GenericParamConstraint, from 0, names at the end.
+/// Adds the parts that a row of GenericParamConstraint, from 0, names.
 fn add_constraint(
     alloc: Global,
     asm: &Assembly<'_>,
@@ -34,7 +34,7 @@ fn add_constraint(
     add_type_token(alloc, asm, token, 0, row.constraint, parts)
 }
 
-/// Puts what rows of GenericParamConstraint, from 0, name at the end.
+/// Adds the parts that rows of GenericParamConstraint, from 0, name.
 fn add_constraint_rows(
     alloc: Global,
     asm: &Assembly<'_>,
@@ -50,7 +50,7 @@ fn add_constraint_rows(
     Ok(())
 }
 
-/// Puts the constraints that belong to a row of GenericParam, from 0, at the end.
+/// Adds the constraints that belong to a row of GenericParam, from 0.
 fn add_constraints_at(
     alloc: Global,
     asm: &Assembly<'_>,
@@ -66,7 +66,7 @@ fn add_constraints_at(
     Ok(())
 }
 
-/// Puts the constraints of a row of GenericParam, from 0, at the end.
+/// Adds the constraints of a row of GenericParam, from 0.
 fn add_param(alloc: Global, asm: &Assembly<'_>, k: u32, parts: &mut Parts) -> Result<(), NoMemory>
     requires { IsAssembly asm.now }
     ensures { OnOk result (parts.new ≡ parts.old ++ option_map_or (param_part (recs_of asm.now) (place_of asm.now) (rec_of asm.now) k) (slice_get (rec_of asm.now).generic_param k) []) }
@@ -77,7 +77,7 @@ fn add_param(alloc: Global, asm: &Assembly<'_>, k: u32, parts: &mut Parts) -> Re
     }
 }
 
-/// Puts the constraints of rows of GenericParam, from 0, at the end.
+/// Adds the constraints of rows of GenericParam, from 0.
 fn add_param_rows(
     alloc: Global,
     asm: &Assembly<'_>,
@@ -93,7 +93,7 @@ fn add_param_rows(
     Ok(())
 }
 
-/// Puts the constraints of the generic parameters of a type or a method, by its token, at the end.
+/// Adds the constraints of the generic parameters of a type or a method, by its token.
 pub fn add_constraints(
     alloc: Global,
     asm: &Assembly<'_>,

@@ -1,11 +1,11 @@
-//! What the token of an instruction names, by the instruction's form.
+//! The kind of item that the token of an instruction names, by the instruction's form.
 
 ghost use Rattle.std.specs.Prelude.{◌≡◌};
 ghost use Rattle.mark_parts.specs.Forms.{names_of};
 
 use il_base::Form;
 
-/// What a token of an operand can name.
+/// The kinds of items that a token of an operand can name.
 #[derive(Clone, Copy, Debug, PartialEq, Eq)]
 pub enum Names {
     Method,
@@ -16,7 +16,7 @@ pub enum Names {
     Type,
 }
 
-/// What the token of an instruction of this form names, where it has one.
+/// The kind of item that the token of an instruction of this form names, where it has one.
 #[tactic(auto, unfolding(crate::specs::Forms::names_of))]
 pub fn names_of(form: Form) -> Names
     ensures { result ≡ names_of form }

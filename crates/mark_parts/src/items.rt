@@ -17,7 +17,7 @@ use il_base::{NoMemory, table};
 use rules::link_rules::RowAt;
 use std::alloc::Global;
 
-/// Puts what the Extends of a type names at the end, by the type's row from 0 and its token.
+/// Adds the parts that the Extends of a type names, by the type's row from 0 and its token.
 fn add_extends(
     alloc: Global,
     asm: &Assembly<'_>,
@@ -37,7 +37,7 @@ fn add_extends(
     add_type_token(alloc, asm, row, 0, t.extends, parts)
 }
 
-/// Puts the parts of a type at the end: what its Extends names, and the constraints of its parameters.
+/// Adds the parts of a type: what its Extends names, and the constraints of its parameters.
 #[tactic(auto, unfolding(rules::specs::mark_rules::Types::parts_of_type), using(crate::proofs::Lists::two_put, crate::proofs::Lists::none_more))]
 pub fn add_parts_of_type(
     alloc: Global,
@@ -56,7 +56,7 @@ pub fn add_parts_of_type(
     add_constraints(alloc, &asm, row, parts)
 }
 
-/// Puts the type of a field at the end.
+/// Adds the type of a field.
 #[tactic(auto, unfolding(rules::specs::mark_rules::Types::parts_of_field), using(crate::proofs::Lists::none_more))]
 pub fn add_parts_of_field(
     alloc: Global,
@@ -77,7 +77,7 @@ pub fn add_parts_of_field(
     add_sig(alloc, &asm, row, &f.signature, parts)
 }
 
-/// Puts what an interface row names at the end.
+/// Adds the parts that an interface row names.
 #[tactic(auto, unfolding(rules::specs::mark_rules::Types::parts_of_impl), using(crate::proofs::Lists::none_more))]
 pub fn add_parts_of_impl(
     alloc: Global,
@@ -98,7 +98,7 @@ pub fn add_parts_of_impl(
     add_type_token(alloc, &asm, row, 0, i.interface, parts)
 }
 
-/// Puts the types of a property's signature at the end.
+/// Adds the types of a property's signature.
 #[tactic(auto, unfolding(rules::specs::mark_rules::Properties::parts_of_property), using(crate::proofs::Lists::none_more))]
 pub fn add_parts_of_property(
     alloc: Global,
@@ -119,7 +119,7 @@ pub fn add_parts_of_property(
     add_method_sig(alloc, &asm, row, &p.signature, parts)
 }
 
-/// Puts what the event type of an event names at the end.
+/// Adds the parts that the event type of an event names.
 #[tactic(auto, unfolding(rules::specs::mark_rules::Properties::parts_of_event), using(crate::proofs::Lists::none_more))]
 pub fn add_parts_of_event(
     alloc: Global,

@@ -1,5 +1,5 @@
-//! The parts of items: what a signature, a body, a base, a constraint or an interface row names. What goes in is an assembly
-//! with what is made of it (`mark_tables`) and a row; what comes out are the parts that `mark_rules` lists.
+//! The parts of items: the types and members that a signature, a body, a base, a constraint or an interface row names. In go an
+//! assembly with its tables (`mark_tables`) and a row; out come the parts that `mark_rules` lists.
 #![tactic(auto)]
 
 pub mod bodies;

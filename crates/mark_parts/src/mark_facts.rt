@@ -1,5 +1,5 @@
-//! Facts of marking and parts of items, as code keeps them: what goes in are types, members and rows, and what comes out are
-//! lists that the definitions of `mark_rules` have (`specs/Told`).
+//! Facts of marking and parts of items, as code keeps them: in go types, members and rows, out come lists that the definitions of
+//! `mark_rules` have (`specs/mark_facts/Told`).
 
 pub mod arguments;
 pub mod exprs;

@@ -1,6 +1,5 @@
-//! The rows of a type: its methods, fields, properties and events, its initializer, and the types that have properties and
-//! events. What goes in is a world with what is made of it (`mark_tables`) and a row; the results are `type_rules`' and
-//! `mark_rules`'.
+//! The rows of a type: its methods, fields, properties and events, its initializer, and the types that have properties and events.
+//! In go a world with its tables (`mark_tables`) and a row; the results are `type_rules`' and `mark_rules`'.
 
 pub mod initializers;
 pub mod members;

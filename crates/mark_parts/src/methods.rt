@@ -36,7 +36,7 @@ pub fn is_read(sig: &Known<MethodSig>) -> bool
     }
 }
 
-/// Puts what a method's signature and constraints name at the end.
+/// Adds the parts that a method's signature and constraints name.
 #[tactic(auto, using(crate::proofs::Lists::two_put, crate::proofs::Lists::none_more))]
 fn add_head(
     alloc: Global,
@@ -52,7 +52,7 @@ fn add_head(
     add_constraints(alloc, asm, row, parts)
 }
 
-/// Puts what a method's body names at the end.
+/// Adds the parts that a method's body names.
 fn add_some_body(
     alloc: Global,
     asm: &Assembly<'_>,
@@ -75,7 +75,7 @@ fn add_some_body(
     }
 }
 
-/// Puts the parts of a method's row at the end.
+/// Adds the parts of a method's row.
 #[tactic(auto, using(crate::proofs::Lists::two_put, crate::proofs::Lists::none_more))]
 fn add_row(
     alloc: Global,
@@ -92,7 +92,7 @@ fn add_row(
     add_some_body(alloc, asm, row, caught, m, parts)
 }
 
-/// Puts the parts of a method at the end: its signature, the constraints of its parameters, its locals, what each operand
+/// Adds the parts of a method: its signature, the constraints of its parameters, its locals, what each operand
 /// names, and the types that it catches. A row that isn't there has none.
 #[tactic(auto, unfolding(rules::specs::mark_rules::Calls::parts_of_method), using(crate::proofs::Lists::none_more))]
 pub fn add_parts_of_method(
@@ -114,7 +114,7 @@ pub fn add_parts_of_method(
     add_row(alloc, &asm, row, Caught::Named, m, parts)
 }
 
-/// Puts the parts of a method but the types that it catches at the end.
+/// Adds the parts of a method but the types that it catches.
 #[tactic(auto, unfolding(rules::specs::mark_rules::Calls::uncaught_parts), using(crate::proofs::Lists::none_more))]
 pub fn add_uncaught_parts(
     alloc: Global,

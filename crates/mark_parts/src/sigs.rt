@@ -12,7 +12,7 @@ use rules::link_rules::MethodType;
 use std::alloc::Global;
 use type_tables::member_search::method_types::{open_method_type, open_type, open_types};
 
-/// Puts the types of a row at the end.
+/// Adds the types of a row.
 fn add_types(alloc: Global, row: u32, types: &[TypeExpr], parts: &mut Parts) -> Result<(), NoMemory>
     ensures { OnOk result (parts.new ≡ parts.old ++ type_parts row types.now) }
 {
@@ -23,7 +23,7 @@ fn add_types(alloc: Global, row: u32, types: &[TypeExpr], parts: &mut Parts) -> 
     Ok(())
 }
 
-/// Puts the types of a method's signature at the end: its return, then its parameters.
+/// Adds the types of a method's signature: its return, then its parameters.
 #[tactic(auto, using(crate::proofs::Lists::first_then))]
 fn add_method_type(
     row: u32,
@@ -38,7 +38,7 @@ fn add_method_type(
     add_types(alloc, row, params.as_slice(), parts)
 }
 
-/// Puts the type of a signature at the end.
+/// Adds the type of a signature.
 pub fn add_sig(
     alloc: Global,
     asm: &Assembly<'_>,
@@ -59,7 +59,7 @@ pub fn add_sig(
     }
 }
 
-/// Puts the types of several signatures at the end.
+/// Adds the types of several signatures.
 pub fn add_sigs(
     alloc: Global,
     asm: &Assembly<'_>,
@@ -80,7 +80,7 @@ pub fn add_sigs(
     }
 }
 
-/// Puts the types of a method's or a property's signature at the end.
+/// Adds the types of a method's or a property's signature.
 pub fn add_method_sig(
     alloc: Global,
     asm: &Assembly<'_>,

@@ -1,4 +1,4 @@
-//! What tokens name.
+//! The parts that tokens name.
 
 ghost use Rattle.std.specs.Prelude.{◌≡◌, ◌++◌, ◌∷◌, [], IfOk, OnOk};
 ghost use Rattle.std.specs.Option.{option_copied};
@@ -103,7 +103,7 @@ fn named_field(alloc: Global, asm: &Assembly<'_>, token: u32) -> Result<Known<Na
     }
 }
 
-/// Puts what a type token of a row names at the end; `at` is the offset of an operand, else 0.
+/// Adds the parts that a type token of a row names; `at` is the offset of an operand, else 0.
 pub fn add_type_token(
     alloc: Global,
     asm: &Assembly<'_>,
@@ -119,7 +119,7 @@ pub fn add_type_token(
     parts.push_known(row, at, named)
 }
 
-/// Puts what a method token of an operand names at the end.
+/// Adds the parts that a method token of an operand names.
 pub fn add_method_token(
     alloc: Global,
     asm: &Assembly<'_>,
@@ -135,7 +135,7 @@ pub fn add_method_token(
     parts.push_known(row, at, named)
 }
 
-/// Puts what a field token of an operand names at the end.
+/// Adds the parts that a field token of an operand names.
 pub fn add_field_token(
     alloc: Global,
     asm: &Assembly<'_>,

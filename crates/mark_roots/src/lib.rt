@@ -1,6 +1,6 @@
-//! What descriptors keep, and what is marked before any rule is used. What goes in is a world with what is made of it
-//! (`mark_tables`, `slashed_names`, `descriptor_types`) and the elements of descriptors (`descriptor_file`); what comes out are
-//! facts, as `rules/specs/mark_rules/Roots` lists them.
+//! The facts that descriptors give, and all facts that hold before any rule is used. In go a world with its tables (`mark_tables`,
+//! `slashed_names`, `descriptor_types`) and the elements of descriptors (`descriptor_file`); out come facts, as
+//! `rules/specs/mark_rules/Roots` lists them.
 #![tactic(auto)]
 
 mod fields;

@@ -1,4 +1,4 @@
-//! What an element keeps of a type.
+//! The members of a type that an element keeps.
 
 ghost use Rattle.std.specs.Prelude.{◌≡◌, ◌++◌, OnOk};
 ghost use Rattle.std.specs.List.{flat_map};
@@ -16,7 +16,7 @@ use mark_parts::mark_facts::facts::Facts;
 use rules::link_rules::RowAt;
 use std::alloc::Global;
 
-/// Puts the members that a member element names at the end.
+/// Adds the members that a member element names.
 fn add_member(
     alloc: Global,
     lookup: &Lookup<'_, '_>,
@@ -39,7 +39,7 @@ fn add_member(
     add_events_called(alloc, lookup.marker, t, r.text.as_slice(), facts)
 }
 
-/// Puts the members that member elements name at the end.
+/// Adds the members that member elements name.
 fn add_members(
     alloc: Global,
     lookup: &Lookup<'_, '_>,
@@ -56,7 +56,7 @@ fn add_members(
     Ok(())
 }
 
-/// Puts the members of a type that an element keeps at the end: those that its `preserve` names, then those that it lists.
+/// Adds the members of a type that an element keeps: those that its `preserve` names, then those that it lists.
 #[tactic(auto, using(crate::proofs::Lists::two_put))]
 pub(crate) fn add_root_members(
     alloc: Global,

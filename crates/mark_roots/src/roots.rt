@@ -1,4 +1,4 @@
-//! What elements of descriptors keep at once, and the start.
+//! The facts that elements of descriptors give at the start, and all facts at the start.
 
 ghost use Rattle.std.specs.Prelude.{◌≡◌, ◌++◌, ◌∷◌, IfOk, OnOk};
 ghost use Rattle.std.specs.List.{flat_map};
@@ -53,7 +53,7 @@ fn add_type(
     add_root_members(alloc, lookup, t, r, facts)
 }
 
-/// Puts what an element keeps of the type that it names at the end.
+/// Adds the facts that an element gives which names a type.
 #[tactic(auto, using(crate::proofs::Lists::none_more))]
 fn add_required(
     alloc: Global,
@@ -71,8 +71,8 @@ fn add_required(
     }
 }
 
-/// Puts what an element keeps at once at the end: an assembly without a type whole; a type with the members that it names, unless
-/// it waits for the type.
+/// Adds the facts that an element gives at the start. An assembly without a type is kept whole. A type is kept with the members
+/// that the element names, unless the element waits for the type.
 #[tactic(auto, unfolding(rules::specs::mark_rules::Roots::root_facts), using(crate::proofs::Lists::none_more))]
 pub fn add_root(
     alloc: Global,
@@ -94,7 +94,7 @@ pub fn add_root(
     }
 }
 
-/// Puts what elements keep at once at the end.
+/// Adds the facts that elements give at the start.
 fn add_roots(
     alloc: Global,
     lookup: &Lookup<'_, '_>,
@@ -110,8 +110,8 @@ fn add_roots(
     Ok(())
 }
 
-/// Puts what is marked before any rule is used at the end: the primary assembly, its `<Module>`, the entry method, and what
-/// descriptors keep at once.
+/// Adds the facts that hold before any rule is used: on the primary assembly, its `<Module>`, the entry method, and the items that
+/// descriptors keep at the start.
 #[tactic(auto, unfolding(rules::specs::mark_rules::Roots::start_facts), using(crate::proofs::Lists::two_put))]
 pub fn add_start(
     alloc: Global,

@@ -1,4 +1,4 @@
-//! What elements with `required="false"` keep once their type is marked.
+//! The facts that elements with `required="false"` give once their type is marked.
 
 ghost use Rattle.std.specs.Prelude.{◌≡◌, ◌++◌, map, slice_get, IfOk, OnOk};
 ghost use Rattle.std.specs.List.{flat_map};
@@ -78,7 +78,7 @@ fn keys_of(alloc: Global, lookup: &Lookup<'_, '_>, roots: &[Root]) -> Result<Vec
     Ok(keys)
 }
 
-/// Puts the members that an element keeps at the end, where its type is this one.
+/// Adds the members that an element keeps, where its type is this one.
 fn add_kept(
     alloc: Global,
     lookup: &Lookup<'_, '_>,
@@ -99,7 +99,7 @@ fn add_kept(
     Ok(())
 }
 
-/// Puts what an element keeps once a type is marked at the end.
+/// Adds the facts that an element gives once a type is marked.
 fn add_waiting_root(
     alloc: Global,
     lookup: &Lookup<'_, '_>,
@@ -127,7 +127,7 @@ fn root_at(roots: &[Root], k: u32) -> Option<&Root>
     roots.get(k as usize)
 }
 
-/// Puts what an element, by its place from 0, keeps once a type is marked at the end.
+/// Adds the facts that an element, by its place from 0, gives once a type is marked.
 #[tactic(auto, using(crate::proofs::Lists::none_more))]
 fn add_at(
     alloc: Global,
@@ -146,7 +146,7 @@ fn add_at(
     }
 }
 
-/// Puts what these elements, by their places from 0, keep once a type is marked at the end.
+/// Adds the facts that these elements, by their places from 0, give once a type is marked.
 fn add_group(
     alloc: Global,
     lookup: &Lookup<'_, '_>,
@@ -175,7 +175,7 @@ impl Waiting {
         Ok(Waiting { groups })
     }
 
-    /// Puts what the elements that wait for a type keep at the end; for other items they keep nothing.
+    /// Adds the facts that the elements which wait for a marked type give; for other items there are none.
     #[tactic(auto, unfolding(rules::specs::mark_rules::Roots::waiting_facts))]
     pub fn add(
         &self,

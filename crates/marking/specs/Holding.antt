@@ -1,4 +1,4 @@
--- What a marked set says of facts.
+-- The facts that hold by a marked set.
 use Rattle.std.specs.Prelude.{ℕ, ◌+◌, List, Option, Bool, IsTrue, ◌↔◌}
 use Rattle.il_base.specs.declared.ids.Item.{Item}
 use Rattle.il_base.specs.declared.ids.Item.TheVariants as item

@@ -1,5 +1,5 @@
-//! What a program needs. What goes in is a world with what is made of it once, the rules by name, and an entry method by its
-//! row; what comes out is the marked set, as `rules/specs/mark_rules/Marking` defines it.
+//! The items that a program needs (the marked set). In go a world with its tables, the rules by name, and an entry method by its
+//! row; out comes the marked set, as `rules/specs/mark_rules/Marking` defines it.
 #![tactic(auto)]
 
 pub mod mark_known;

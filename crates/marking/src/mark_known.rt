@@ -1,5 +1,5 @@
-//! What a fact gives together with marked items that are known. What goes in is a world with what is made of it, a fact and the
-//! set of known facts; what comes out are facts, as `base_laws/specs/known_laws/Known` lists them.
+//! The facts that follow from one fact together with marked items that are known. In go a world with its tables, a fact and the set
+//! of known facts; out come facts, as `base_laws/specs/known_laws/Known` lists them.
 
 pub mod interfaces;
 pub mod known;

@@ -15,7 +15,7 @@ use rules::link_rules::RowAt;
 use std::alloc::Global;
 use virtual_calls::slots::Slots;
 
-/// What a program needs. The items and types that it is asked about are of the program's world.
+/// The marked set of a program. The items and types of a look-up are of the program's world.
 #[derive(Drop)]
 pub struct Marked {
     set: Bits,
@@ -78,8 +78,8 @@ impl Marked {
     }
 }
 
-/// What a program needs from an entry method, by its row, and the elements of descriptors: of each item and type of the world
-/// whether the rules of marking derive its facts.
+/// The marked set of a program, from an entry method, by its row, and the elements of descriptors. It says for each item and type
+/// of the world whether the rules of marking derive its facts.
 pub fn mark<N: NamedRules>(
     alloc: Global,
     marker: &Marker<'_>,

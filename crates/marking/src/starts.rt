@@ -1,4 +1,4 @@
-//! The facts that hold at the start: the items of the core library, and what the entry and descriptors give.
+//! The facts that hold at the start: those of the items of the core library, of the entry method and of descriptors.
 
 ghost use Rattle.std.specs.Prelude.{◌≡◌, ◌++◌, IfOk, OnOk};
 ghost use Rattle.mark_parts.specs.mark_tables.Assemblies.{all_of};
@@ -16,7 +16,7 @@ use mark_parts::mark_tables::marker::Marker;
 use rules::link_rules::RowAt;
 use std::alloc::Global;
 
-/// Puts at the end that an item is marked, where it is the core library's.
+/// Adds the fact that an item is marked, where it is the core library's.
 fn add_if_core(all: &[AsmRec], item: Item, facts: &mut Facts) -> Result<(), NoMemory>
     ensures { OnOk result (facts.new ≡ facts.old ++ core_fact all.now item) }
 {
@@ -27,7 +27,7 @@ fn add_if_core(all: &[AsmRec], item: Item, facts: &mut Facts) -> Result<(), NoMe
     }
 }
 
-/// Puts at the end that the items of the core library are marked.
+/// Adds the fact that the items of the core library are marked.
 fn add_core(world: &World, facts: &mut Facts) -> Result<(), NoMemory>
     ensures { OnOk result (facts.new ≡ facts.old ++ core_facts world.now) }
 {
@@ -38,7 +38,7 @@ fn add_core(world: &World, facts: &mut Facts) -> Result<(), NoMemory>
     Ok(())
 }
 
-/// Puts the facts that hold at the start at the end.
+/// Adds the facts that hold at the start.
 #[tactic(auto, using(crate::proofs::Lists::two_put))]
 fn add_first<N: NamedRules>(
     alloc: Global,

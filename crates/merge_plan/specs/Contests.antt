@@ -1,4 +1,5 @@
--- Types whose full name an earlier one of another assembly has, in order; new names and the first collision by them.
+-- Contests: types with the full name of an earlier type of another assembly, in order; the new names and the first collision that
+-- they make.
 use Rattle.std.specs.Prelude.{◌||◌, Bool, List, [], ◌∷◌, ◌++◌, map, find, Option}
 use Rattle.std.specs.Option.{option_map}
 use Rattle.il_base.specs.declared.bits.Bits.{Bits}
@@ -21,7 +22,7 @@ abbrev pub contests_from : List AsmRec → List RowAt → List RowAt → List Co
 contests_from recs earlier [] = []
 contests_from recs earlier (at ∷ rest) = contests_of recs earlier at ++ contests_from recs (earlier ++ at ∷ []) rest
 
--- the new names of these types, behind those that there are
+-- the new names of these types, after those that there are
 abbrev pub names_by : List AsmRec → List RowAt → List NewName → List Contest → List NewName
 names_by recs kept names [] = names
 names_by recs kept names (c ∷ cs) =

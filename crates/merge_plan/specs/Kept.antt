@@ -19,7 +19,7 @@ use Rattle.merge_plan.specs.declared.kept.Kind.TheVariants.{Types, Methods, Fiel
 abbrev pub has_flag : Bits → ℕ → Bool
 has_flag bits n = unwrap_or (slice_get bits.flags n) false
 
--- the set of kept items that flags say
+-- the set of kept items, by flags
 abbrev pub kept_by : KeptItems → Kept
 kept_by k (item.Asm a) = has_flag k.assemblies a.0
 kept_by k (item.Typ t) = has_flag k.types t.0
@@ -63,11 +63,11 @@ item_at kind recs at = item_of kind (rows_before (count_in kind) recs at.asm + a
 abbrev pub all_of_kind : Kind → List AsmRec → List RowAt
 all_of_kind kind recs = numbers.rows_of_kind (count_in kind) recs
 
--- those that are kept: `kept_types`, `kept_methods` and so on
+-- the kept rows of a kind: `kept_types`, `kept_methods` and so on
 abbrev pub kept_of_kind : Kind → List AsmRec → Kept → List RowAt
 kept_of_kind kind recs kept = numbers.kept_rows (count_in kind) (item_at kind recs) recs kept
 
--- what assemblies give, of which the first has the number a
+-- a function applied to assemblies, which are numbered from a
 abbrev pub all_from : {B : Type 0} → (ℕ → AsmRec → List B) → ℕ → List AsmRec → List B
 all_from f a [] = []
 all_from f a (rec ∷ recs) = f a rec ++ all_from f (a + 1) recs

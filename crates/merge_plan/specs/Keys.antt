@@ -12,7 +12,7 @@ same_spot x y = nat_eq x.asm y.asm && nat_eq x.row y.row
 abbrev pub spot_of : RowAt → Spot
 spot_of at = record { asm = at.asm; row = at.row }
 
--- the second map has this place under this row, unless the first has one there, and the same under any other
+-- the second map has this place under this row, unless the first map has one there; under any other row both have the same
 abbrev pub KeepsFirst : {S : Type 0} → HashMap Spot ℕ S → Spot → ℕ → HashMap Spot ℕ S → Type 0
 KeepsFirst m spot place n = (q : Spot) → get same_spot n q ≡ option_or (get same_spot m q) (if same_spot spot q then Some place else None)
 

@@ -1,4 +1,4 @@
--- The plan of a merge, as it is answered.
+-- The answer of planning.
 use Rattle.std.specs.Prelude.{◌≡◌, Bool, List, Some, None, map}
 use Rattle.il_base.specs.declared.ids.TypeId.{TypeId}
 use Rattle.il_base.specs.declared.world_model.record.AsmRec.{AsmRec}
@@ -27,7 +27,7 @@ abbrev pub planned_by : Bool → List AsmRec → (TypeId → Bool) → List RowA
 planned_by internal recs shown kept =
     elim (collision recs shown kept) [ Some c ↦ collided recs c | None ↦ planned.Plan (record { names = map (named recs) (new_names recs kept); internal = internal }) ]
 
--- that there is no plan is told of the collision; want of memory has no cause
+-- a refusal names the first collision; want of memory has no cause
 abbrev pub IsRefusal : Planned → PlanError → Type 0
 IsRefusal wanted (error.Collision first second) = wanted ≡ planned.Collision first second
 IsRefusal wanted error.NoMemory = Unit {0}

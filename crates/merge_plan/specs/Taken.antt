@@ -9,6 +9,6 @@ use Rattle.merge_plan.specs.declared.taken.Taken.{Taken}
 abbrev pub has_in : Taken → List ℕ → Bool
 has_in taken name = list_any (λ other. bytes_eq name other.items) taken.names.keys
 
--- they are those of these kept types, and those of these new names
+-- the taken names are those of these kept types, and those of these new names
 abbrev pub AreTaken : List AsmRec → List RowAt → List NewName → Taken → Type 0
 AreTaken recs kept names taken = (full : List ℕ) → has_in taken full ≡ has_name recs kept names full

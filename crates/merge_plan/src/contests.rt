@@ -1,4 +1,4 @@
-//! Kept types whose full name an earlier one of another assembly has.
+//! Contests: kept types with the full name of an earlier kept type of another assembly.
 
 ghost use Rattle.std.specs.Prelude.{◌≡◌, List, [], ◌∷◌, ◌++◌, ◌||◌, IfOk, OnOk};
 ghost use Rattle.std.specs.Option.{option_map};
@@ -19,7 +19,7 @@ use rules::link_rules::RowAt;
 use std::alloc::Global;
 use std::collections::HashMap;
 
-/// A type whose full name an earlier one of another assembly has.
+/// A type with the full name of an earlier type of another assembly.
 #[derive(Clone, Copy, Debug, PartialEq, Eq)]
 pub(crate) struct Contest {
     /// The first such type.
@@ -27,7 +27,7 @@ pub(crate) struct Contest {
     pub(crate) second: RowAt,
 }
 
-/// Puts a type that has a rival at the end, and the type under its name.
+/// Adds a type that has a rival, and the type under its name.
 fn meet_type<'a>(
     alloc: Global,
     index: &TypeIndex<'_>,
@@ -57,7 +57,7 @@ fn meet_type<'a>(
     }
 }
 
-/// Those of the kept types whose full name an earlier one of another assembly has, in order.
+/// The contests among the kept types, in order.
 pub(crate) fn contests(
     alloc: Global,
     index: &TypeIndex<'_>,
@@ -97,7 +97,7 @@ pub(crate) fn type_of(recs: &[AsmRec], at: RowAt) -> Result<TypeId, NoMemory>
     }
 }
 
-/// The first type that needs a new name and can't have one.
+/// The first contest whose type needs a new name and can't have one.
 pub(crate) fn collision(
     recs: &[AsmRec],
     shown: &Bits,

@@ -60,7 +60,7 @@ pub(crate) fn name_of(recs: &[AsmRec], at: RowAt) -> &[u8]
     }
 }
 
-/// The name of an assembly that a row is of.
+/// The name of the assembly of a row.
 pub(crate) fn assembly_name(recs: &[AsmRec], at: RowAt) -> &[u8]
     ensures { result.now ≡ assembly_name recs.now at }
 {

@@ -1,5 +1,5 @@
-//! What a merge keeps, and under which names: the rows of kept items in the order of the output, their new numbers, the new
-//! names of types, or the first collision of two names. `merge_rules` defines each.
+//! The plan of a merge: the rows of kept items in the order of the output, their new numbers, and the new names of types, or the
+//! first collision of two names. `rules/specs/merge_rules` defines each.
 #![tactic(auto)]
 
 mod contests;

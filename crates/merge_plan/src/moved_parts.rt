@@ -1,6 +1,6 @@
-//! Signatures, bodies and rows of kept items with the tokens of the output: in go the new tokens of an assembly and a part of
-//! its record, out comes the part as the output has it. `specs/Moves` says what it is by the new tokens, and a law that this
-//! is what `merge_rules` defines.
+//! Signatures, bodies and rows of kept items with the tokens of the output. In go the new tokens of an assembly and a part of its
+//! record, out comes the part as the output has it. `specs/moved_parts/Moves` defines the part by the new tokens; a law says that
+//! this is the part which `rules/specs/merge_rules` defines.
 
 mod code;
 pub mod laws;

@@ -17,7 +17,7 @@ use resolver::type_links::TypeIndex;
 use rules::link_rules::RowAt;
 use std::alloc::Global;
 
-/// A type with its new name, which is without its namespace.
+/// A type with its new name, without its namespace.
 #[derive(Drop)]
 pub(crate) struct Renamed {
     pub(crate) typ: RowAt,
@@ -70,7 +70,7 @@ fn fresh_name(
     free_name(alloc, taken, namespace_of(recs, at), name.as_slice(), most)
 }
 
-/// Puts a type with its new name at the end.
+/// Adds a type with its new name.
 fn rename(
     alloc: Global,
     recs: &[AsmRec],

@@ -14,7 +14,7 @@ use std::collections::HashMap;
 use std::marker::Model;
 use type_tables::member_search::counted::row_of;
 
-/// The rows of a table of the output, by the rows that they were. Contracts see their list.
+/// The rows of a table of the output, by their old places. Contracts see the list of these.
 #[derive(Drop)]
 pub struct Numbers {
     rows: Vec<RowAt>,
@@ -60,7 +60,7 @@ impl Numbers {
         self.rows.as_slice()
     }
 
-    /// The new row, from 0, of a row; None for a row that goes.
+    /// The new row, from 0, of a row; None for a row that isn't kept.
     pub fn new_row(&self, at: RowAt) -> Option<u32>
         ensures { result ≡ new_row self.now at }
     {
@@ -71,7 +71,8 @@ impl Numbers {
         self.places.get(&spot).copied()
     }
 
-    /// Where a run begins or ends that did so at a row, from 1, of an assembly: behind the rows that are before that row.
+    /// The new row at which a run begins or ends, by its old row, from 1, of an assembly: after the kept rows that are before the
+    /// old one.
     #[tactic(auto, unfolding(rules::specs::merge_rules::Rows::run_at))]
     pub fn run_at(&self, asm: u32, row: u32) -> Result<u32, NoMemory>
         ensures { IfOk result (λ r. r ≡ run_at self.now asm row) }

@@ -1,4 +1,4 @@
-//! What planning answers.
+//! The answers of planning.
 
 use il_base::{Seq, Text, TypeId};
 
@@ -10,7 +10,7 @@ pub struct NewName {
     pub name: Text,
 }
 
-/// What a merge changes beyond what it leaves out.
+/// The changes of a merge, besides leaving out rows.
 #[derive(Drop)]
 pub struct Plan {
     /// In the order of the kept types.
@@ -19,7 +19,7 @@ pub struct Plan {
     pub internal: bool,
 }
 
-/// Why inputs can't be merged.
+/// The errors of planning.
 #[derive(Clone, Copy, Debug, PartialEq, Eq)]
 pub enum PlanError {
     /// Two kept types of different assemblies have one full name, and the second is public or shown.

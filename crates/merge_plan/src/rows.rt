@@ -49,7 +49,7 @@ pub fn inputs(recs: &[AsmRec]) -> &[AsmRec]
     &recs[..recs.len().saturating_sub(1)]
 }
 
-/// Puts `count` rows of an assembly at the end, the first of which is `start`, from 0.
+/// Adds `count` rows of an assembly, the first of which is `start`, from 0.
 pub fn push_run(rows: &mut Vec<RowAt>, asm: u32, start: u32, count: usize) -> Result<(), NoMemory>
     ensures { OnOk result (rows.new.items ≡ rows.old.items ++ map (at_row asm) (range_with_len start count)) }
 {
@@ -60,7 +60,7 @@ pub fn push_run(rows: &mut Vec<RowAt>, asm: u32, start: u32, count: usize) -> Re
     Ok(())
 }
 
-/// The rows of a kind of all inputs, in word order and in the order of the rows.
+/// The rows of a kind of all inputs, in the order of the inputs and of the rows.
 pub fn rows_of_kind(alloc: Global, recs: &[AsmRec], kind: Kind) -> Result<Vec<RowAt>, NoMemory>
     ensures { IfOk result (λ rows. rows.items ≡ all_of_kind kind recs.now) }
 {
@@ -81,7 +81,7 @@ pub fn is_kept(recs: &[AsmRec], kind: Kind, kept: &KeptItems, at: RowAt) -> Resu
     Ok(kept.keeps(kind, id))
 }
 
-/// The rows of the kept items of a kind: those of all inputs in word order, and of each input in the order of its rows.
+/// The rows of the kept items of a kind: the inputs in their order, and of each input the rows in their order.
 pub fn kept_rows(
     alloc: Global,
     recs: &[AsmRec],

@@ -1,4 +1,4 @@
-//! Full names that are taken, and names that aren't.
+//! Full names that are taken, and the search for a free one.
 
 ghost use Rattle.std.specs.Prelude.{◌≡◌, ℕ, List, ◌||◌, false, IfOk, OnOk};
 ghost use Rattle.il_base.specs.world_model.Core.{same_name};
@@ -45,7 +45,7 @@ impl Taken {
     }
 }
 
-/// A name with a number at its end; 0 stands for none.
+/// A name with a number at its end; with 0 the name alone.
 fn numbered_name(alloc: Global, name: &[u8], k: usize) -> Result<Text, NoMemory>
     ensures { IfOk result (λ text. text ≡ numbered_name name.now k) }
 {
@@ -65,7 +65,7 @@ fn is_taken(alloc: Global, taken: &Taken, namespace: &[u8], name: &[u8]) -> Resu
     Ok(taken.has(full.as_slice()))
 }
 
-/// A name with the first number with which it isn't taken in a namespace, at most `most`.
+/// A name with the first number that makes it free in a namespace, at most `most`.
 pub(crate) fn free_name(
     alloc: Global,
     taken: &Taken,

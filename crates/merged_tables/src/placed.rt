@@ -15,7 +15,7 @@ use merge_plan::method_places::laws::modulo_tells;
 use merge_plan::method_places::{Placed, placed_methods};
 use std::alloc::Global;
 
-/// The rows of kept methods, and where the bytes of kept fields are: behind the bodies.
+/// The rows of kept methods, and where the bytes of kept fields are: after the bodies.
 #[derive(Drop)]
 pub struct PlacedRows {
     pub methods: Seq<MethodDefRow>,

@@ -30,7 +30,7 @@ impl<'a> Model for Streams<'a> {
 }
 
 impl<'a> Streams<'a> {
-    /// The streams behind the root, where they and the tables among them are as they should be.
+    /// The streams after the root, where they and the tables among them are as they should be.
     #[tactic(auto, using(il_base::proofs::lemmas::cli_format::Faults::refusals, crate::proofs::Beside::all_within), unfolding(il_base::specs::cli_format::Metadata::streams_demands))]
     pub fn read(alloc: Global, bytes: &'a [u8], base: u32) -> Result<Streams<'a>, TablesError>
         requires { base + length bytes.now < 2 ^ 32 }

@@ -7,7 +7,7 @@ use crate::refuse::{find_zero, part};
 use il_base::compressed_number;
 use std::str::from_utf8;
 
-/// The text at a place of `#Strings`, up to the zero behind it (II.24.2.3), where it is UTF-8.
+/// The text at a place of `#Strings`, up to the zero after it (II.24.2.3), where it is UTF-8.
 #[tactic(auto, unfolding(il_base::specs::cli_format::Heaps::string_of))]
 pub fn text_item(heap: &[u8], at: usize) -> Option<&[u8]>
     ensures { option_map (λ b. b.now) result ≡ string_of heap.now at }
@@ -51,7 +51,7 @@ fn behind(bytes: &[u8], at: usize) -> &[u8]
     if at < bytes.len() { &bytes[at..] } else { &[] }
 }
 
-/// The bytes at the front behind their length (II.24.2.4).
+/// The bytes at the front after their length (II.24.2.4).
 #[tactic(auto, unfolding(il_base::specs::cli_format::Heaps::counted_at, il_base::specs::Bytes::bytes_at))]
 fn first_counted(bytes: &[u8]) -> Option<&[u8]>
     ensures value { option_map (λ b. b.now) result ≡ counted_at bytes.now }

@@ -1,5 +1,5 @@
 //! The tables and heaps of an assembly's metadata (ECMA-335 II.22, II.24). The bytes of the metadata go in; tables come
-//! out that give each cell and each heap item. The result is what the demands of `cli_format`'s `Metadata` say, in their
+//! out that give each cell and each heap item. The result is what the demands of `il_base/specs/cli_format/Metadata` say, in their
 //! order: tables where all hold, and else the refusal of the first that fails.
 #![tactic(auto)]
 

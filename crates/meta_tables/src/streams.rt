@@ -65,7 +65,7 @@ fn window(bytes: &[u8], at: usize) -> &[u8]
     &rest[..33]
 }
 
-/// How many zeros stand behind a name of a length: it ends at a multiple of 4, behind at least one of them.
+/// How many zeros stand after a name of a length: at least one, and up to the next multiple of 4.
 #[tactic(auto, unfolding(il_base::specs::cli_format::Streams::padding_length))]
 fn padding(bytes: &[u8], at: usize, name: usize) -> usize
     requires { name ≡ name_length bytes.now at }
@@ -100,7 +100,7 @@ pub fn header_length(bytes: &[u8], at: usize) -> usize
     8 + name + padding(bytes, at, name)
 }
 
-/// A stream's header lies in the metadata, its name has at most 32 bytes, and zeros stand behind it.
+/// A stream's header lies in the metadata, its name has at most 32 bytes, and zeros stand after it.
 #[tactic(auto, unfolding(il_base::specs::cli_format::Metadata::header_fits, il_base::specs::cli_format::Streams::header_size))]
 fn fits_header(bytes: &[u8], at: usize) -> bool
     requires { at ≤ length bytes.now }
@@ -247,7 +247,7 @@ fn fits_stream(bytes: &[u8], s: &Stream, earlier: &[Stream], taken: &[bool]) -> 
         && !is_same(s.name, StreamName::Uncompressed)
 }
 
-/// The stream whose header is at a place, behind earlier ones.
+/// The stream whose header is at a place, after earlier ones.
 #[tactic(auto, using(il_base::proofs::lemmas::cli_format::Faults::faults), unfolding(il_base::specs::cli_format::Metadata::stream_demands, il_base::specs::cli_format::Metadata::header_fits))]
 pub fn read_stream(
     bytes: &[u8],

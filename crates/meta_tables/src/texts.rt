@@ -57,7 +57,7 @@ impl<'a> Texts<'a> {
     }
 }
 
-/// Whether a text in UTF-8 begins at a place, where `next` is the first place behind it at which no character goes on.
+/// Whether a text in UTF-8 begins at a place, where `next` is the first place after it at which no character goes on.
 #[tactic(auto, using(crate::proofs::Utf8::beginning))]
 fn begins(heap: &[u8], good: &[bool], at: usize, next: usize) -> bool
     requires order { at < next }

@@ -15,14 +15,14 @@ told_more known [] (f ∷ fs) name file all one = absurd all
 told_more known (n ∷ ns) [] name file all one = absurd all
 told_more known (n ∷ ns) (f ∷ fs) name file all one = (all.0, told_more known ns fs name file all.1 one)
 
--- the names up to the one behind index i
+-- the names up to the one after index i
 pub next_names : {A : Type 0} (f : A → List ℕ) (xs : List A) (i : ℕ) (x : A) (name : List ℕ) → i < length xs → x ≡ get_or xs i x → name ≡ f x
     → map f (take (i + 1) xs) ≡ map f (take i xs) ++ (name ∷ [])
 next_names {A} f xs i x name lt is e =
     ap (map f) (take_more xs i x lt) ∙ map-append f (take i xs) (get_or xs i x ∷ []) ∙ ap (λ (y : A). map f (take i xs) ++ (f y ∷ [])) (sym is)
     ∙ ap (λ (n : List ℕ). map f (take i xs) ++ (n ∷ [])) (sym e)
 
--- the names before, at and behind index i
+-- the names before, at and after index i
 pub split_names : {A : Type 0} (f : A → List ℕ) (xs : List A) (i : ℕ) (x : A) (name : List ℕ) → i < length xs → x ≡ get_or xs i x → name ≡ f x
     → map f xs ≡ map f (take i xs) ++ (name ∷ map f (drop (suc i) xs))
 split_names {A} f xs i x name lt is e =

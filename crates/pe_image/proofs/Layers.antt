@@ -82,7 +82,7 @@ unfolding found under
 under_found a b [] r = refl
 under_found a b (y ∷ ys) r = under_case (nat_lt r y.from) a b (found y.section ys r) _ (under_found a y.section ys r)
 
--- what `rest` makes of the lower list, found behind the stretch x of the upper one
+-- what `rest` makes of the lower list, found after the stretch x of the upper one
 abbrev Lays : ℕ → Stretch → List Stretch → (Option Section → List Stretch → List Stretch) → Type 0
 Lays r x xs rest = (b : Option Section) (ys : List Stretch) → found (option_or x.section b) (rest b ys) r ≡ option_or (found x.section xs r) (found b ys r)
 

@@ -38,7 +38,7 @@ unfolding found
 found_before s [] r h = refl
 found_before s (x ∷ xs) r h = here r x.from _ _ (h 0 x (omega arith))
 
--- the stretches up to number m begin at the RVA or before it, and the others behind
+-- the stretches up to number m begin at the RVA or before it, and the others after it
 pub found_at : (s : Option Section) (xs : List Stretch) (r m : ℕ) (d : Stretch) → m < length xs
     → ((i : ℕ) (d : Stretch) → i < m + 1 → (get_or xs i d).from ≤ r)
     → ((i : ℕ) (d : Stretch) → m + 1 ≤ i → i < length xs → r < (get_or xs i d).from)

@@ -5,12 +5,12 @@ use Rattle.il_base.specs.declared.cli_format.section.Section.{Section}
 use Rattle.il_base.specs.cli_format.Image.{sections_from, section_of}
 use Rattle.pe_image.specs.declared.stretches.Stretch.{Stretch}
 
--- the section at an RVA among stretches, behind one whose section is known
+-- the section at an RVA among stretches, after one whose section is known
 unfoldable pub found : Option Section → List Stretch → ℕ → Option Section
 found section [] rva = section
 found section (x ∷ xs) rva = if nat_lt rva x.from then section else found x.section xs rva
 
--- each stretch begins at a number or behind, and where the one before begins or behind
+-- each stretch begins at a number or after it, and where the one before begins or after that
 unfoldable pub AreAscending : ℕ → List Stretch → Type 0
 AreAscending low [] = Unit {0}
 AreAscending low (x ∷ xs) = (low ≤ x.from) × AreAscending x.from xs
@@ -39,7 +39,7 @@ until x rest upper lower (y ∷ ys) =
     if nat_le x.from y.from then both x.from x.section lower ∷ rest lower (y ∷ ys)
     else both y.from upper y.section ∷ until x rest upper y.section ys
 
--- both lists, each behind a stretch whose section is known
+-- both lists, each after a stretch whose section is known
 unfoldable pub overlay : Option Section → List Stretch → Option Section → List Stretch → List Stretch
 overlay upper [] lower ys = under upper ys
 overlay upper (x ∷ xs) lower ys = until x (overlay x.section xs) upper lower ys

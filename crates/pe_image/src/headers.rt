@@ -31,7 +31,7 @@ pub fn find_signature(bytes: &[u8]) -> Result<u32, BadAt>
     Ok(place)
 }
 
-/// The place of the optional header, behind the signature and the COFF header (II.25.2.3).
+/// The place of the optional header, after the signature and the COFF header (II.25.2.3).
 #[tactic(auto, using(il_base::proofs::lemmas::cli_format::Faults::faults), unfolding(il_base::specs::cli_format::Image::optional_place, il_base::specs::cli_format::Image::magic_demands, il_base::specs::cli_format::Image::is_wide))]
 pub fn find_optional(bytes: &[u8], signature: u32) -> Result<usize, BadAt>
     requires small { length bytes.now < 2 ^ 32 }
@@ -121,7 +121,7 @@ pub fn read_headers(bytes: &[u8]) -> Result<Headers, BadAt>
     })
 }
 
-/// The place of the first section header, behind the optional header.
+/// The place of the first section header, after the optional header.
 #[tactic(auto, unfolding(il_base::specs::cli_format::Image::sections_place))]
 fn sections_place(bytes: &[u8], signature: u32, optional: usize) -> usize
     requires signature { signature ≡ signature_place bytes.now }

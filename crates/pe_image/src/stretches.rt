@@ -15,7 +15,7 @@ pub struct Stretch {
     pub section: Option<Section>,
 }
 
-/// The stretches of one section: it, and what is behind it.
+/// The stretches of one section: it, and what is after it.
 #[tactic(auto, using(crate::proofs::Looking::looking))]
 pub fn stretches_of(alloc: Global, section: Section) -> Result<Vec<Stretch>, NoMemory>
     ensures shown { IfOk result (λ all. (rva : ℕ) → found None all.items rva ≡ cond (covers section rva) (Some section) None) }

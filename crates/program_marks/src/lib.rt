@@ -1,5 +1,5 @@
-//! What a program needs, and the first item of it that is outside the profile or names nothing. What goes in is the world that a
-//! link gave, an entry method by its row, and the elements of descriptors; what is made of the world once is made here.
+//! What a program needs, and the first item of it that is outside the profile or names nothing. In go the world that a link gave,
+//! an entry method by its row, and the elements of descriptors; the tables of the world are made here.
 #![tactic(auto)]
 
 pub mod named_world;

@@ -1,6 +1,6 @@
 //! The rules of marking that find items by attributes, by texts and by descriptors (`named_rules`), for a world that a link gave.
-//! What goes in is the world with what is made of it once (`mark_roots`, `attribute_values`, `nested_types`) and the elements of
-//! descriptors; what comes out are facts, as `mark_rules/specs` lists them.
+//! In go the world with its tables (`mark_roots`, `attribute_values`, `nested_types`) and the elements of descriptors; out come
+//! facts, as `rules/specs/mark_rules` lists them.
 
 mod world;
 

@@ -95,7 +95,7 @@ fn marked_under<'a>(
     Ok(marked)
 }
 
-/// What is marked of a world with the tables that are made of it once.
+/// What is marked of a world with its tables.
 fn marked_of<'a>(
     alloc: Global,
     marker: &'a Marker<'a>,
@@ -136,7 +136,7 @@ fn flaw_of<'a>(
     first_bad(alloc, &program, entry)
 }
 
-/// What a program needs, by the tables that are made of its world once.
+/// What a program needs, by the tables of its world.
 fn needs_by<'a>(
     alloc: Global,
     marker: &'a Marker<'a>,

@@ -1,4 +1,4 @@
--- Which records can be written: each signature and body that has a reading has a spelling.
+-- The records that can be written: each signature and body that has a reading has a spelling.
 use Rattle.std.specs.Prelude.{All, Option, Some, None}
 use Rattle.il_base.specs.declared.body.Body.{Body}
 use Rattle.il_base.specs.body_grammar.BodySpelling.{HasSpelling}

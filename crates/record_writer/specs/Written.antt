@@ -1,4 +1,4 @@
--- What the writer's steps give.
+-- The results of the writer's steps.
 use Rattle.std.specs.Prelude.{◌≡◌, ℕ, Bool, true, false, Option, Some, None}
 use Rattle.il_base.specs.declared.world_model.record.AsmRec.{AsmRec}
 use Rattle.rules.specs.file_layout.Metadata.{metadata_bytes}
@@ -25,7 +25,7 @@ rows_by None false = Some unspelled_rows
 abbrev pub rows_over : AsmRec → Option ℕ
 rows_over rec = rows_by (long_table rec) (runs_have_spelling rec)
 
--- why a record isn't written: the first limit that its file passes, unless memory ran out
+-- the error of a write: the first limit that the record's file passes, unless memory ran out
 abbrev pub Refuses : AsmRec → WriteError → Type 0
 Refuses rec (Limit which found) = limit_of rec ≡ Some (which, found)
 Refuses rec NoMemory = Unit {0}

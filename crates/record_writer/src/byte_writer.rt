@@ -1,4 +1,4 @@
-//! Numbers, zeros and padding, put behind bytes. Which bytes these are is defined by `file_layout`'s `specs/Bytes`.
+//! Numbers, zeros and padding, appended to bytes. `rules/specs/file_layout/Bytes` defines them.
 
 mod bytes;
 

@@ -1,5 +1,5 @@
-//! The image around code and metadata (II.25): headers, the sections `.text` and `.reloc`, the imports and the jump. Which
-//! bytes these are is defined by `file_layout`'s `specs/Image`.
+//! The image around code and metadata (II.25): headers, the sections `.text` and `.reloc`, the imports and the jump.
+//! `rules/specs/file_layout/Image` defines these bytes.
 
 mod optional;
 mod rvas;

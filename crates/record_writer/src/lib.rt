@@ -1,5 +1,5 @@
 //! Records written as files: a record goes in, and the bytes of the file that it is laid out in come out, after what is in a
-//! vector. Which bytes these are is defined by `record_layout`'s `specs/Laid`.
+//! vector. `rules/specs/record_layout/Laid` defines these bytes.
 #![tactic(auto)]
 
 mod bodies;

@@ -1,5 +1,5 @@
 //! The metadata of tables and user texts (II.24): cells that name items go in, and the metadata root with its five streams
-//! comes out, each item once in its heap. Which bytes these are is defined by `file_layout`'s `specs/Metadata`.
+//! comes out, each item once in its heap. `rules/specs/file_layout/Metadata` defines these bytes.
 
 pub mod heaps;
 pub mod metadata;

@@ -1,5 +1,5 @@
 //! The rows of a record as cells: a record goes in, and its tables come out, with the addresses of bodies and field bytes (II.22).
-//! Which cells these are is defined by `record_layout`'s `specs/Tables`.
+//! `rules/specs/record_layout/Tables` defines these cells.
 
 mod assemblies;
 mod cells;

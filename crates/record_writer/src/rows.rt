@@ -107,7 +107,7 @@ fn runs_have_spelling(rec: &AsmRec) -> bool
         && property_runs_fit(rec.property.len(), rec.property_map.as_slice())
 }
 
-/// The number of rows by which a record passes the limit on them.
+/// The number of rows of a record that passes the limit on rows; None where it is within the limit.
 pub fn rows_over(rec: &AsmRec) -> Option<usize>
     ensures { result ≡ rows_over rec.now }
 {

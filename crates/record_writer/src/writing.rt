@@ -25,7 +25,7 @@ const MOST: u64 = 268_435_456;
 /// The most bytes that `#US` may have: a token of a text has 24 bits for its place (III.4.16).
 const MOST_USERS: u64 = 16_777_216;
 
-/// What of an image comes from a record.
+/// The parts of an image that come from a record.
 #[derive(Drop)]
 pub struct Content {
     /// Bodies and, after them, the bytes of fields.
@@ -64,7 +64,7 @@ fn users_length(alloc: Global, rec: &AsmRec) -> Result<u64, NoMemory>
     Ok(length_of(&heap))
 }
 
-/// Whether the places after code and metadata have 64 bits: so they do in any memory.
+/// Whether the places after code and metadata fit 64 bits, as they do in any memory.
 fn has_places(p: &Parts<'_>) -> bool
     ensures { IsTrue result ↔ HasPlaces p.now }
 {
@@ -139,12 +139,12 @@ fn write_rows(alloc: Global, rec: &AsmRec, out: &mut Vec<u8>) -> Result<(), Writ
     write_content(alloc, rec, &content, out)
 }
 
-/// Puts the file of a record after the bytes: the one that `record_layout` lays it out in. After a refusal they are as
-/// before.
+/// Appends the file of a record to the bytes: the one that `record_layout` lays it out in. After a refusal they are as before.
 ///
-/// `Limit` comes exactly where the file passes one, with the first: 5 where a table has more than 1048576 rows, or where a
-/// run begins after the last of exactly 65535; 7 where `#US` would have more than 16777216 bytes, or the file more than
-/// 268435456. That each signature and body has a spelling is asked only of a record whose tables have no more rows than they may.
+/// `Limit` comes exactly where the file passes a limit, with the first one. It is 5 where a table has more than 1048576 rows, or
+/// where a run begins after the last of exactly 65535 rows. It is 7 where `#US` would have more than 16777216 bytes, or the file
+/// more than
+/// 268435456. The premise that each signature and body has a spelling is made only of a record whose tables don't have too many rows.
 #[tactic(auto, using(crate::proofs::Passed::rows_passed))]
 pub fn write(alloc: Global, rec: &AsmRec, out: &mut Vec<u8>) -> Result<(), WriteError>
     requires { rows_over rec.now ≡ None → CanWrite rec.now }

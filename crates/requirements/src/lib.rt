@@ -1,5 +1,5 @@
-//! Where the code of a method asks for members of a type or for a type by its name, and what reaches there. A world with what is made of
-//! it (`mark_tables`), a method and the flow of its values go in; the sites come out, as `site_rules` lists them.
+//! Where the code of a method asks for members of a type or for a type by its name, and what reaches there. A world with its tables
+//! (`mark_tables`), a method and the flow of its values go in; the sites come out, as `site_rules` lists them.
 #![tactic(auto)]
 
 mod body;

@@ -1,4 +1,4 @@
-//! Where the items of a world stand.
+//! The homes of the items of a world: assembly and token.
 
 ghost use Rattle.std.specs.Prelude.{◌≡◌, ◌++◌, length, map, OnOk, IfOk};
 ghost use Rattle.std.specs.List.{range_with_len};
@@ -10,7 +10,7 @@ use il_base::world_model::{AsmRec, Home, token_of};
 use il_base::{AsmId, NoMemory, Seq};
 use std::alloc::Global;
 
-/// Adds those of one kind in one assembly, of which `before` stand in the assemblies before it.
+/// Adds the homes of the items of one kind in one assembly; the assemblies before it have `before` items of the kind.
 fn add_rows(
     homes: &mut Seq<Home>,
     kind: Kind,
@@ -33,7 +33,7 @@ fn add_rows(
     Ok(())
 }
 
-/// Adds those of one kind, assembly by assembly.
+/// Adds the homes of the items of one kind, assembly by assembly.
 fn add_kind(homes: &mut Seq<Home>, kind: Kind, all: &[AsmRec]) -> Result<(), NoMemory>
     ensures { OnOk result (homes.new ≡ homes.old ++ homes_from (count_in kind) (item_of kind) (table_of kind) 0 0 all.now) }
 {
@@ -55,7 +55,7 @@ fn add_kind(homes: &mut Seq<Home>, kind: Kind, all: &[AsmRec]) -> Result<(), NoM
     Ok(())
 }
 
-/// Where each item of these assemblies stands: the kinds one after the other, in each the assemblies in order.
+/// The home of each item of these assemblies: the kinds one after the other, in each the assemblies in order.
 #[tactic(auto, unfolding(rules::specs::link_rules::Linked::homes))]
 pub(crate) fn homes(alloc: Global, all: &[AsmRec]) -> Result<Seq<Home>, NoMemory>
     ensures { IfOk result (λ hs. hs ≡ homes all.now) }

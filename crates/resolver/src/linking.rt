@@ -14,7 +14,7 @@ use link_faults::link_fault;
 use rules::link_rules::LinkError;
 use std::alloc::Global;
 
-/// The world of these assemblies, the core library among them, where their type tokens name this.
+/// The world of these assemblies, with the core library, by the links of their type tokens.
 #[tactic(auto, unfolding(rules::specs::link_rules::Linked::world_in))]
 fn world_with(alloc: Global, all: Seq<AsmRec>, types: Vec<TypeLink>) -> Result<World, NoMemory>
     requires { AreTypeLinks all types.items }
@@ -34,10 +34,10 @@ fn world_with(alloc: Global, all: Seq<AsmRec>, types: Vec<TypeLink>) -> Result<W
 
 /// The world that these assemblies make with the core library. The first of them is the primary.
 ///
-/// `Bad` comes exactly where a demand of linking fails, and names the first: a name of an assembly that is taken, a type on
-/// a cycle of bases and interfaces or of value types in fields, an encloser on a cycle, a member that is there twice.
-/// `NoMemory` alone is free; it comes too where a world has more rows of a kind than 4294967295. After a refusal the records
-/// are gone.
+/// `Bad` comes exactly where a demand of linking fails, and names the first. The demands are, in order: no duplicate name of an
+/// assembly, no type on a cycle of bases, of interfaces or of value types in fields, no encloser on a cycle, no duplicate member.
+/// `NoMemory` alone is free; it comes too where a world has more rows of a kind than 4294967295. After a refusal the records are
+/// gone.
 pub fn link(alloc: Global, recs: Seq<AsmRec>) -> Result<World, LinkError>
     ensures { Links recs result }
 {

@@ -1,6 +1,6 @@
-//! What the method and field tokens of several assemblies name, as `link_rules` defines it (`methods_of`, `fields_of`):
-//! from the assemblies and what their type tokens name, a link for each MethodDef, MemberRef and MethodSpec row, and for
-//! each Field and MemberRef row.
+//! The links of the method and field tokens of several assemblies, as `methods_of` and `fields_of` of
+//! `rules/specs/link_rules/Linked` define them. In go the assemblies and the links of their type tokens; out comes a link for each
+//! MethodDef, MemberRef and MethodSpec row, and for each Field and MemberRef row.
 
 mod definitions;
 mod instances;

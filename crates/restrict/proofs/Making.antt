@@ -1,4 +1,4 @@
--- The record of the rows that are left is the one that the definition says.
+-- The output's record, made of its rows, is the one of the definition.
 use Rattle.std.proofs.Common.{◌≡◌, Bool, List, [], Some, None, sym, ap, ◌∙◌}
 use Rattle.std.specs.Prelude.{slice_get}
 use Rattle.std.specs.Option.{option_map}

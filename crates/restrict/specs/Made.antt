@@ -1,4 +1,4 @@
--- The record of the rows that are left.
+-- The output's record, made of its rows.
 use Rattle.std.specs.Prelude.{◌≡◌, [], map, None}
 use Rattle.il_base.specs.declared.world_model.record.AsmRec.{AsmRec}
 use Rattle.rules.specs.merge_rules.Restricted.{kept_bits, moved_assembly}

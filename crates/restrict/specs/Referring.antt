@@ -1,4 +1,4 @@
--- What an output refers to, over what code holds.
+-- The references of an output, as the code holds them.
 use Rattle.std.specs.Prelude.{◌≡◌, List, map}
 use Rattle.rules.specs.merge_rules.Refs.{Output}
 use Rattle.rules.specs.merge_rules.Attributes.{kept_attributes}

@@ -1,4 +1,4 @@
--- What the rows of an output are made of, and these rows.
+-- The rows of an output, and the data that they are made of.
 use Rattle.std.specs.Prelude.{◌≡◌, Bool, List, map}
 use Rattle.il_base.specs.declared.world_model.extras.CustomAttributeRow.{CustomAttributeRow}
 use Rattle.il_base.specs.declared.world_model.record.AsmRec.{AsmRec}

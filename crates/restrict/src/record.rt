@@ -1,4 +1,4 @@
-//! The record of the rows that are left.
+//! The output's record, made of its rows.
 
 ghost use Rattle.std.specs.Prelude.{◌≡◌, IfOk};
 ghost use Rattle.restrict.specs.Made.{made, AreFirstRows};
@@ -11,14 +11,14 @@ use merge_plan::first_input_rows::header::kept_bits;
 use merge_plan::first_input_rows::modules::module_rows;
 use std::alloc::Global;
 
-/// The first assembly's own rows.
+/// The first assembly's own rows in the output: Module and Assembly.
 #[derive(Drop)]
 pub(crate) struct FirstRows {
     modules: Seq<ModuleRow>,
     assemblies: Seq<AssemblyRow>,
 }
 
-/// Those that the output has.
+/// The first assembly's own rows, as the output has them.
 pub(crate) fn first_rows(alloc: Global, first: &AsmRec) -> Result<FirstRows, NoMemory>
     ensures { IfOk result (AreFirstRows first.now) }
 {

@@ -1,4 +1,4 @@
-//! Attributes, and what the output refers to.
+//! The attributes of the output, and the references that the output makes.
 
 ghost use Rattle.std.specs.Prelude.{◌≡◌, IfOk};
 ghost use Rattle.resolver.specs.type_links.Index.{IsIndex};
@@ -21,14 +21,14 @@ use resolver::type_links::TypeIndex;
 use std::alloc::Global;
 use token_keys::world_keys::WorldKeys;
 
-/// The attributes that are written, and what has reference rows.
+/// The attributes of the output, and the references that have rows.
 #[derive(Drop)]
 pub(crate) struct Referring {
     pub(crate) attributes: Vec<Attribute>,
     pub(crate) references: OutputReferences,
 }
 
-/// Those of the output with these kept items.
+/// The attributes and references of the output with these kept items.
 pub(crate) fn referring_with(
     alloc: Global,
     world: &WorldKeys<'_>,

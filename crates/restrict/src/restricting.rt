@@ -19,7 +19,7 @@ use resolver::type_links::TypeIndex;
 use std::alloc::Global;
 use type_tables::member_search::linked::assembly_at;
 
-/// The rows of the output of a world with these kept items but those of `first`, the first assembly.
+/// The rows of the output of a world with these kept items, without the own rows of `first`, the first assembly.
 fn rows_left(
     alloc: Global,
     world: &World,

@@ -82,7 +82,7 @@ fn tokens_at(tokens: &[NewTokens], asm: u32) -> Option<&NewTokens>
     tokens.get(asm as usize)
 }
 
-/// What a token of a method becomes that the first assembly names.
+/// The new token of a method that the first assembly names.
 fn first_callee(tokens: &[NewTokens], token: u32) -> Result<u32, NoMemory>
     ensures { IfOk result (λ new. (t : NewTokens) → slice_get tokens.now 0 ≡ Some t → new ≡ new_token t.callees token) }
 {
@@ -182,7 +182,7 @@ fn tables_with(
     Ok(rows)
 }
 
-/// The rows that are made of these. `first` is the first assembly.
+/// The rows of the output, made of its tables, references, attributes and texts. `first` is the first assembly.
 fn rows_of(
     alloc: Global,
     sources: &Sources<'_>,
@@ -210,7 +210,7 @@ fn rows_of(
     })
 }
 
-/// The rows of the output that refers to what `met` has. `first` is the first assembly.
+/// The rows of the output, by the references in `met`. `first` is the first assembly.
 fn rows_with(
     alloc: Global,
     world: &WorldKeys<'_>,

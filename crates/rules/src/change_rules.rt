@@ -1,2 +1,3 @@
-//! How queries and states change with new numbers of types, methods and fields, as definitions alone. `specs/Agree` says when
-//! one world answers as another does for what is kept, `specs/Lock` what a step in the one owes to the step in the other.
+//! How queries and states change with new numbers of types, methods and fields, as definitions alone. `specs/change_rules/Agree`
+//! says when one world answers as another does on kept items, `specs/change_rules/Lock` how a step in one corresponds to the step
+//! in the other.

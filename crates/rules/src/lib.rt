@@ -1,7 +1,8 @@
-//! Definitions, a topic a module: what references name (`link_rules`, `type_rules`), what the machine does and what a world answers it
-//! (`step_rules`, `view_rules`), what a program needs (`mark_rules`), what is left of a merge (`merge_rules`), the record of a file and
-//! the file of a record (`record_format`, `record_layout`, `file_layout`), and how worlds correspond of which one has the kept rows of
-//! the other (`change_rules`, `world_change_rules`, `merged_world_rules`). Contracts of all crates cite them.
+//! Definitions, a topic a module: the types and members that references name (`link_rules`, `type_rules`), the steps of the machine
+//! and the answers of a world to it (`step_rules`, `view_rules`), the items that a program needs (`mark_rules`), and the record
+//! that a merge leaves (`merge_rules`). Further topics are the record of a file and the file of a record (`record_format`,
+//! `record_layout`, `file_layout`), and how two worlds correspond where one has the kept rows of the other (`change_rules`,
+//! `world_change_rules`, `merged_world_rules`). Contracts of all crates cite them.
 #![tactic(auto)]
 
 pub mod change_rules;

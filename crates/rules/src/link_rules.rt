@@ -1,5 +1,5 @@
-//! Definitions of linking, for those who cite them: what references name, which demand on several assemblies fails first,
-//! and the world that they make. `specs/` has them; here is the data that they speak of.
+//! Definitions of linking: the types and members that references name, the first demand on several assemblies that fails, and the
+//! world that they make. `specs/link_rules/` has them; here is the data that they speak of.
 
 mod core_type_name;
 mod link_error;

@@ -1,5 +1,6 @@
-//! The assembly that is left of several inputs, as definitions in `specs/`: which rows are kept and their new numbers, the new
-//! names of types, the collision that refuses a merge, and the record that is left. The functions are laws that state examples.
+//! The assembly that is left of several inputs, as definitions in `specs/merge_rules/`: which rows are kept and their new numbers,
+//! the new names of types, the collision that refuses a merge, and the record that is left. The functions are laws that state
+//! examples.
 
 ghost use Rattle.rules.specs.merge_rules.Examples.{KeepsTypes, KeepsMethods, Renames, NoCollision, Collides, LeavesFields, LeavesMethods, LeavesEntry, Meets, RefersTo, WritesReferences, NamesAssemblies, MovesType, MovesOther};
 

@@ -1,6 +1,5 @@
-//! What the machine does (I.12, III), as definitions: `specs/Queries` says what a step asks of a world, `specs/State` what the
-//! machine holds, `specs/Step` what one instruction does, `specs/Run` what a program does. The functions are laws that state
-//! examples.
+//! The machine (I.12, III), as definitions in `specs/step_rules/`: `Queries` are the questions of a step to a world, `Step` is a
+//! step, which runs one instruction, and `Run` is the run of a program. The functions are laws that state examples.
 
 ghost use Rattle.rules.specs.step_rules.Examples.{Adds, DividesByZero, DividesLeast, Converts, Shifts, Branches, Calls, Prints, BadOperand, EmptyStack, Makes, StoresField, LoadsField, FieldOfNull, Addresses, Points, NewArrays, StoresElement, Mismatches, Boxes, Casts, Catches, Leaves, EndsFinally, FallsOut};
 

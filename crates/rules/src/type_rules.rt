@@ -1,2 +1,2 @@
-//! Definitions of the type system over the assemblies of a world, for those who cite them: subtypes, dispatch, searches by
-//! name, the text of a type. Nothing goes in or comes out; `specs/` has them.
+//! Definitions of the type system over the assemblies of a world: subtypes, dispatch, searches by
+//! name, the text of a type. Nothing goes in or comes out; `specs/type_rules/` has them.

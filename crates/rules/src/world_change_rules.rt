@@ -1,2 +1,3 @@
-//! When the assemblies of one world have the rows that are kept of another, under new numbers, as definitions alone: `specs/Rows`
-//! says what each kept row has, `specs/Kept` which rows go with kept ones. Nothing goes in or comes out.
+//! The correspondence of two worlds where one has the kept rows of the other, under new numbers, as definitions alone.
+//! `specs/world_change_rules/Rows` says what each kept row has there, `specs/world_change_rules/Kept` which rows are kept with
+//! others. Nothing goes in or comes out.

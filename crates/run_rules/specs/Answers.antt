@@ -26,7 +26,7 @@ RunsTo run old new (Err Write) = AppendsPrefix old.held new.held run.output × R
 RunsTo run old new (Err (Refused refused.NoMemory)) = AppendsPrefix old.held new.held run.output × (new.faults ≡ old.faults)
 RunsTo run old new (Err (Refused why)) = ⊥
 
--- A call refuses as it must, or memory ran out.
+-- The refusal of a call is the one that is due, or want of memory.
 abbrev pub RefusedBy : InputError → InputError → Type 0
 RefusedBy due refused.NoMemory = Unit {0}
 RefusedBy due answer = due ≡ answer

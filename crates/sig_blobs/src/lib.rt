@@ -1,6 +1,6 @@
 //! Signatures (II.23.2) both ways: a blob's bytes go in and the value that they spell comes out, or the first byte
-//! that no value allows; a value goes in and its shortest spelling is put behind a vector's bytes.
-//! What is read and written is defined by the crate `blob_grammar`.
+//! that no value allows; a value goes in and its shortest spelling is appended to a vector's bytes.
+//! What is read and written is defined by `il_base::blob_grammar`.
 #![tactic(auto)]
 
 mod error;

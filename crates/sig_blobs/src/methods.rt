@@ -66,7 +66,7 @@ pub fn field_of(alloc: Global, bytes: &[u8]) -> Result<(Sig, &[u8]), Unread>
     }
 }
 
-/// Types in front, behind a leading byte and their count (II.23.2.6, II.23.2.15).
+/// Types in front, after a leading byte and their count (II.23.2.6, II.23.2.15).
 #[tactic(auto, unfolding(il_base::specs::blob_grammar::Reading::counted_at))]
 pub fn counted_of(alloc: Global, lead: u8, bytes: &[u8]) -> Result<(Seq<Sig>, &[u8]), Unread>
     ensures { Gives (λ x. (x.0, x.1.now)) result (counted_at lead bytes.now) }

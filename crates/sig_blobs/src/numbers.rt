@@ -5,7 +5,7 @@ ghost use Rattle.sig_blobs.specs.Answers.{Gives};
 use crate::error::{MALFORMED, Unread};
 use il_base::compressed_number;
 
-/// The compressed number in front (II.23.2), and the bytes behind it.
+/// The compressed number in front (II.23.2), and the bytes after it.
 #[tactic(auto, unfolding(il_base::specs::blob_grammar::Reading::number_at))]
 pub fn number_of(bytes: &[u8]) -> Result<(u32, &[u8]), Unread>
     ensures { Gives (λ x. (x.0, x.1.now)) result (number_at bytes.now) }
@@ -23,7 +23,7 @@ pub fn number_of(bytes: &[u8]) -> Result<(u32, &[u8]), Unread>
     })
 }
 
-/// The coded token in front (II.23.2.8), and the bytes behind it.
+/// The coded token in front (II.23.2.8), and the bytes after it.
 #[tactic(auto, unfolding(il_base::specs::blob_grammar::Reading::token_at))]
 pub fn token_of(bytes: &[u8]) -> Result<(u32, &[u8]), Unread>
     ensures { Gives (λ x. (x.0, x.1.now)) result (token_at bytes.now) }

@@ -6,7 +6,7 @@ ghost use Rattle.sig_blobs.specs.Answers.{HasSpelling, HaveSpellings, Extends};
 
 use il_base::{NoMemory, Sig};
 
-/// Puts the shortest spelling of a number behind the bytes (II.23.2).
+/// Appends the shortest spelling of a number to the bytes (II.23.2).
 #[tactic(auto, unfolding(il_base::specs::blob_grammar::Numbers::shortest))]
 pub fn put_number(n: u32, out: &mut Vec<u8>) -> Result<(), NoMemory>
     requires { n < 536870912 }
@@ -28,7 +28,7 @@ pub fn put_number(n: u32, out: &mut Vec<u8>) -> Result<(), NoMemory>
     Ok(())
 }
 
-/// Puts the shortest spelling of a token behind the bytes (II.23.2.8).
+/// Appends the shortest spelling of a token to the bytes (II.23.2.8).
 #[tactic(auto, unfolding(il_base::specs::blob_grammar::Tokens::token_bytes))]
 pub fn put_token(token: u32, out: &mut Vec<u8>) -> Result<(), NoMemory>
     ensures ok { OnOk result (out.new.items ≡ out.old.items ++ token_bytes token) }
@@ -56,7 +56,7 @@ fn modifier_of(required: bool) -> u8
     if required { 0x1f } else { 0x20 }
 }
 
-/// Puts a leading byte and a number behind the bytes.
+/// Appends a leading byte and a number to the bytes.
 #[tactic(auto, using(crate::proofs::Layers::extends_behind, crate::proofs::Layers::extends_same))]
 fn put_indexed(lead: u8, n: u32, out: &mut Vec<u8>) -> Result<(), NoMemory>
     requires { n < 536870912 }
@@ -67,7 +67,7 @@ fn put_indexed(lead: u8, n: u32, out: &mut Vec<u8>) -> Result<(), NoMemory>
     put_number(n, out)
 }
 
-/// Puts a leading byte and a token behind the bytes.
+/// Appends a leading byte and a token to the bytes.
 #[tactic(auto, using(crate::proofs::Layers::extends_behind, crate::proofs::Layers::extends_same))]
 fn put_tokened(lead: u8, token: u32, out: &mut Vec<u8>) -> Result<(), NoMemory>
     ensures ok { OnOk result (out.new.items ≡ out.old.items ++ lead ∷ token_bytes token) }
@@ -77,7 +77,7 @@ fn put_tokened(lead: u8, token: u32, out: &mut Vec<u8>) -> Result<(), NoMemory>
     put_token(token, out)
 }
 
-/// Puts the spelling of a type behind the bytes, where at most `room` constructs that hold a type may open.
+/// Appends the spelling of a type to the bytes, where at most `room` constructs that hold a type may open.
 #[cycle(writing)]
 pub fn put_type(room: u32, s: &Sig, out: &mut Vec<u8>) -> Result<(), NoMemory>
     requires { HasSpelling room s.now }
@@ -107,7 +107,7 @@ pub fn put_type(room: u32, s: &Sig, out: &mut Vec<u8>) -> Result<(), NoMemory>
     }
 }
 
-/// Puts a leading byte and the type that it holds behind the bytes.
+/// Appends a leading byte and the type that it holds to the bytes.
 #[cycle(writing)]
 #[tactic(auto, using(crate::proofs::Layers::extends_behind, crate::proofs::Layers::extends_same))]
 fn put_holder(room: u32, lead: u8, inner: &Sig, out: &mut Vec<u8>) -> Result<(), NoMemory>
@@ -119,7 +119,7 @@ fn put_holder(room: u32, lead: u8, inner: &Sig, out: &mut Vec<u8>) -> Result<(),
     put_type(room, inner, out)
 }
 
-/// Puts a custom modifier and the type that it modifies behind the bytes (II.23.2.7).
+/// Appends a custom modifier and the type that it modifies to the bytes (II.23.2.7).
 #[cycle(writing)]
 #[tactic(auto, using(crate::proofs::Layers::extends_behind, crate::proofs::Layers::extends_same))]
 fn put_modified(
@@ -137,7 +137,7 @@ fn put_modified(
     put_type(room, inner, out)
 }
 
-/// Puts a generic type and its arguments behind the bytes.
+/// Appends a generic type and its arguments to the bytes.
 #[cycle(writing)]
 #[tactic(auto, using(crate::proofs::Layers::extends_behind, crate::proofs::Layers::extends_same))]
 fn put_instance(
@@ -156,7 +156,7 @@ fn put_instance(
     put_counted(room, args, out)
 }
 
-/// Puts the count of some types and their spellings behind the bytes.
+/// Appends the count of some types and their spellings to the bytes.
 #[cycle(writing)]
 #[tactic(auto, using(crate::proofs::Layers::extends_behind, crate::proofs::Layers::extends_same))]
 pub fn put_counted(room: u32, types: &[Sig], out: &mut Vec<u8>) -> Result<(), NoMemory>
@@ -168,7 +168,7 @@ pub fn put_counted(room: u32, types: &[Sig], out: &mut Vec<u8>) -> Result<(), No
     put_types(room, types, out)
 }
 
-/// Puts the spellings of some types behind the bytes.
+/// Appends the spellings of some types to the bytes.
 #[cycle(writing)]
 #[tactic(auto, using(crate::proofs::Layers::extends_behind, crate::proofs::Layers::extends_same), unfolding(il_base::specs::blob_grammar::Signatures::types_bytes))]
 pub fn put_types(room: u32, types: &[Sig], out: &mut Vec<u8>) -> Result<(), NoMemory>

@@ -56,7 +56,7 @@ pub fn read_instance(alloc: Global, bytes: &[u8]) -> Result<Seq<Sig>, SigError>
     finished(bytes.len(), counted_of(alloc, 0x0a, bytes))
 }
 
-/// What a blob of `size` bytes gives, by the value in front and the bytes behind it: nothing may be left over.
+/// What a blob of `size` bytes gives, by the value in front and the bytes after it: nothing may be left over.
 fn finished<T: Drop>(size: usize, read: Result<(T, &[u8]), Unread>) -> Result<T, SigError>
     requires { size ≤ 4294967295 }
     ensures { (given : Result (T × List ℕ) Fault) → Gives (λ x. (x.0, x.1.now)) read.entry given

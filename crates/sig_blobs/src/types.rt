@@ -96,7 +96,7 @@ fn instance_of(alloc: Global, room: u32, bytes: &[u8]) -> Result<(Sig, &[u8]), U
     Ok((Sig::Inst { value, token, args }, rest))
 }
 
-/// So many types, one behind another.
+/// So many types, one after another.
 #[cycle(types)]
 pub fn types_of(
     alloc: Global,

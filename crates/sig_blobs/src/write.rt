@@ -8,7 +8,7 @@ use crate::put::{put_counted, put_number, put_type, put_types};
 use crate::types::LEVELS;
 use il_base::{MethodSig, NoMemory, Seq, Sig};
 
-/// Puts the blob of a TypeSpec behind the bytes (II.23.2.14). After a refusal they are as before.
+/// Appends the blob of a TypeSpec to the bytes (II.23.2.14). After a refusal they are as before.
 pub fn write_type(s: &Sig, out: &mut Vec<u8>) -> Result<(), NoMemory>
     requires { IsSpelled (IsType levels) s.now }
     ensures ok { OnOk result (out.new.items ≡ out.old.items ++ type_bytes s.now) }
@@ -19,7 +19,7 @@ pub fn write_type(s: &Sig, out: &mut Vec<u8>) -> Result<(), NoMemory>
     kept(start, put, out)
 }
 
-/// Puts the blob of a method's signature behind the bytes (II.23.2.1 to II.23.2.3). After a refusal they are as before.
+/// Appends the blob of a method's signature to the bytes (II.23.2.1 to II.23.2.3). After a refusal they are as before.
 pub fn write_method(s: &MethodSig, out: &mut Vec<u8>) -> Result<(), NoMemory>
     requires { IsSpelled IsMethod s.now }
     ensures ok { OnOk result (out.new.items ≡ out.old.items ++ method_bytes s.now) }
@@ -30,7 +30,7 @@ pub fn write_method(s: &MethodSig, out: &mut Vec<u8>) -> Result<(), NoMemory>
     kept(start, put, out)
 }
 
-/// Puts the blob of a field's signature behind the bytes (II.23.2.4). After a refusal they are as before.
+/// Appends the blob of a field's signature to the bytes (II.23.2.4). After a refusal they are as before.
 pub fn write_field(s: &Sig, out: &mut Vec<u8>) -> Result<(), NoMemory>
     requires { IsSpelled IsField s.now }
     ensures ok { OnOk result (out.new.items ≡ out.old.items ++ field_bytes s.now) }
@@ -41,7 +41,7 @@ pub fn write_field(s: &Sig, out: &mut Vec<u8>) -> Result<(), NoMemory>
     kept(start, put, out)
 }
 
-/// Puts the blob of some locals behind the bytes (II.23.2.6). After a refusal they are as before.
+/// Appends the blob of some locals to the bytes (II.23.2.6). After a refusal they are as before.
 pub fn write_locals(s: &Seq<Sig>, out: &mut Vec<u8>) -> Result<(), NoMemory>
     requires { IsSpelled AreLocals s.now }
     ensures ok { OnOk result (out.new.items ≡ out.old.items ++ locals_bytes s.now) }
@@ -52,7 +52,7 @@ pub fn write_locals(s: &Seq<Sig>, out: &mut Vec<u8>) -> Result<(), NoMemory>
     kept(start, put, out)
 }
 
-/// Puts the blob of a property's signature behind the bytes (II.23.2.5). After a refusal they are as before.
+/// Appends the blob of a property's signature to the bytes (II.23.2.5). After a refusal they are as before.
 pub fn write_property(s: &MethodSig, out: &mut Vec<u8>) -> Result<(), NoMemory>
     requires { IsSpelled IsProperty s.now }
     ensures ok { OnOk result (out.new.items ≡ out.old.items ++ property_bytes s.now) }
@@ -63,7 +63,7 @@ pub fn write_property(s: &MethodSig, out: &mut Vec<u8>) -> Result<(), NoMemory>
     kept(start, put, out)
 }
 
-/// Puts the blob of a method instance behind the bytes (II.23.2.15). After a refusal they are as before.
+/// Appends the blob of a method instance to the bytes (II.23.2.15). After a refusal they are as before.
 pub fn write_instance(s: &Seq<Sig>, out: &mut Vec<u8>) -> Result<(), NoMemory>
     requires { IsSpelled IsInstance s.now }
     ensures ok { OnOk result (out.new.items ≡ out.old.items ++ instance_bytes s.now) }
@@ -74,7 +74,7 @@ pub fn write_instance(s: &Seq<Sig>, out: &mut Vec<u8>) -> Result<(), NoMemory>
     kept(start, put, out)
 }
 
-/// Takes back what a write that failed left behind the first `start` bytes.
+/// Removes what a failed write left after the first `start` bytes.
 fn kept(start: usize, put: Result<(), NoMemory>, out: &mut Vec<u8>) -> Result<(), NoMemory>
     ensures same { result ≡ put }
     ensures ok { OnOk put (out.new.items ≡ out.old.items) }

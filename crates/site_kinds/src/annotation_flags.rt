@@ -1,6 +1,6 @@
 //! What annotations say of parameters, returns, fields and generic parameters: the kinds of members that reflection may ask for;
-//! and which methods need code that nothing refers to. What goes in is a world with what is made of it (`mark_tables`,
-//! `attribute_values`) and what has an annotation; the results are those of `rules/specs/mark_rules/Annotations`.
+//! and which methods need code that nothing refers to. In go a world with its tables (`mark_tables`, `attribute_values`) and what
+//! has an annotation; the results are those of `rules/specs/mark_rules/Annotations`.
 
 pub mod flags;
 pub mod generic;

@@ -1,7 +1,7 @@
 use attribute_values::tables::AttributeTables;
 use mark_parts::mark_tables::marker::Marker;
 
-/// A world with what is made of it, and what its annotations are read by.
+/// A world with its tables, and what its annotations are read by.
 #[derive(Clone, Copy)]
 pub struct Annotated<'a> {
     pub marker: &'a Marker<'a>,

@@ -1,5 +1,5 @@
-//! Which kinds of members annotations promise, which the members of reflection ask for, and when a source fails at a target. A world
-//! with what is made of it (`mark_tables`) goes in, and each answer is `site_rules`'.
+//! Which kinds of members annotations promise, which the members of reflection ask for, and when a source fails at a target. A
+//! world with its tables (`mark_tables`) goes in, and each answer is `site_rules`'.
 #![tactic(auto)]
 
 pub mod annotated;

@@ -1,5 +1,5 @@
 //! Where code asks for members of a type or for a type by its name, and when a source doesn't have what is asked, as definitions in
-//! `specs/`. Nothing goes in or comes out.
+//! `specs/site_rules/`. Nothing goes in or comes out.
 
 pub mod examples;
 mod site;

@@ -1,6 +1,6 @@
-//! The keys of what tokens of an assembly name, by which references are told apart: in go a world with what is made of it once
-//! (`mark_tables`), one of its assemblies and the numbers of the types that its tokens name (`type_numbers`); out come keys of types,
-//! methods, fields and methods with arguments. `rules/specs/merge_rules/Keys` defines them.
+//! The keys of the types and members that tokens of an assembly name; by these keys references are told apart. In go a world with
+//! its tables (`mark_tables`), one of its assemblies and the numbers of the types that its tokens name (`type_numbers`); out come
+//! keys of types, methods, fields and methods with arguments. `rules/specs/merge_rules/Keys` defines them.
 #![tactic(auto)]
 
 pub mod absent_types;

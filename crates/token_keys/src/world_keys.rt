@@ -1,6 +1,6 @@
-//! The assemblies of a world with the numbers of the types that their tokens name: in go a world with what is made of it once
-//! (`mark_tables`) and the references of the inputs that name nothing (`absent_types`); out come the numbers of all assemblies, and
-//! each assembly with what its tokens have keys by (`token_keys`).
+//! The assemblies of a world with the numbers of the types that their tokens name. In go a world with its tables (`mark_tables`)
+//! and the references of the inputs that name nothing (`absent_types`); out come the numbers of all assemblies, and each assembly
+//! with what its tokens have keys by (`token_keys`).
 
 mod keys;
 mod numbers;

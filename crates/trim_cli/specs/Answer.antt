@@ -1,6 +1,6 @@
--- When each answer of the program comes, and what it leaves. A call of the outside that fails is never hidden: the first one
--- that fails is the last of its kind, a read failed only where ReadFault was due, and a write only where WriteFault was. What
--- `exec` answers is in `exec_command/specs/Answer`, and what `trim` does in `trim_command/specs/Answer`.
+-- The program's answers: when each comes, and what it leaves. A call of the outside that fails is never hidden: the first one that
+-- fails is the last of its kind, a read failed only where ReadFault was due, and a write only where WriteFault was. The answers of
+-- `exec` are in `exec_command/specs/Answer`, those of `trim` in `trim_command/specs/Answer`.
 use Rattle.std.specs.Prelude.{◌≡◌, ◌⊎◌, ℕ, List, [], Option, Result, Ok, Err, map, min}
 use Rattle.std.specs.Option.{option_map}
 use Rattle.il_outside.specs.Folder.{Files, FolderState, KeepsFiles, NoFault}
@@ -19,7 +19,7 @@ use Rattle.trim_cli.specs.Words.{word_at, read_words}
 
 -- ---- the words
 
--- a number past 4294967295 is carried as that
+-- a place in a status: a number past 4294967295 becomes 4294967295
 abbrev pub capped : ℕ → ℕ
 capped at = min at 4294967295
 
@@ -42,7 +42,7 @@ pub record WordsStarved (was now : FolderState) (out0 out1 err0 err1 : SinkState
   pub printed : Prints [] out0 out1
   pub reported : Reports (line_of [] [] NoMemory) NoMemory err0 err1 status
 
--- When each status comes for the program's words, and what it leaves.
+-- The causes of a status, for the program's words, and what the status leaves.
 abbrev pub CausedBy : Result Command ℕ → List (List ℕ) → FolderState → FolderState → SourceState → SourceState → SinkState → SinkState → SinkState → SinkState → Status → Type 0
 CausedBy (Err at) words was now in0 in1 out0 out1 err0 err1 status =
     WordsRefused at was now out0 out1 err0 err1 status ⊎ WordsStarved was now out0 out1 err0 err1 status

@@ -1,4 +1,5 @@
--- The other way round: what the words and the told files ask for is answered, unless the outside fails or memory runs out.
+-- The converse of `Answer`: the answer is the one that the words and the told files require, unless the outside fails or memory
+-- runs out.
 use Rattle.std.specs.Prelude.{◌≡◌, ◌⊎◌, ℕ, List, Option, map, Result, Ok, Err}
 use Rattle.std.specs.Option.{option_map}
 use Rattle.il_outside.specs.Faults.{Rose}
@@ -21,7 +22,7 @@ IsSourceQuiet (Ok (Exec inputs steps)) in0 in1 = Rose in0.faults in1.faults → 
 IsSourceQuiet (Ok (Trim output inputs descriptors list internalize)) in0 in1 = Unit {0}
 IsSourceQuiet (Err at) in0 in1 = Unit {0}
 
--- The status that the words ask for, of a folder that holds these files and a source that has these bytes left; any where the
+-- The status that the words require, of a folder that holds these files and a source that has these bytes left; any where the
 -- folder has no such file, or the source doesn't tell what it has left.
 abbrev pub Wants : Result Command ℕ → List (List ℕ) → Files → Option (List ℕ) → Status → Type 0
 Wants (Err at) words files input status = status ≡ BadWords (capped at)
@@ -29,6 +30,6 @@ Wants (Ok (Exec inputs steps)) words files input status = WantsRun (files_under 
 Wants (Ok (Trim output inputs descriptors list internalize)) words files input status =
     WantsTrim (files_under files (map (word_at words) inputs)) (files_under files (map (word_at words) descriptors)) (opts_of internalize (option_map (word_at words) list)) status
 
--- it is the answer, or memory ran out
+-- the answer is the status that the words require, or want of memory
 abbrev pub IsAnswered : Result Command ℕ → List (List ℕ) → Files → Option (List ℕ) → Status → Type 0
 IsAnswered r words files input status = Wants r words files input status ⊎ (status ≡ NoMemory)

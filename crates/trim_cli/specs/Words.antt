@@ -1,6 +1,6 @@
 -- The program's words: `exec IN.. [--steps N]` and `trim OUT IN.. [--descriptor FILE].. [--internalize] [--keep-list FILE]`. The
--- first word is the command. Behind it a word that begins with `-` is an option until the word `--` was read; an option's value is
--- the next word, whatever it is; other words are names. Words are judged from left to right.
+-- first word is the command. After it a word that begins with `-` is an option until the word `--` was read; an option's value is
+-- the next word, whatever it is; other words are names. Words are read from left to right.
 use Rattle.std.specs.Prelude.{ℕ, ◌+◌, ◌-◌, ◌*◌, List, [], ◌∷◌, ◌++◌, length, Bool, true, false, Option, Some, None, Result, Ok, Err, codes, nat_le, nat_eq, is_none, slice_get, unwrap_or, not, ◌==◌, ◌&&◌, ◌||◌, if◌then◌else◌}
 use Rattle.std.specs.List.{list_all}
 use Rattle.std.specs.Cmp.Lexicographic.{pointwise}
@@ -34,7 +34,7 @@ after_word at (Some p) f = f p
 abbrev pub is_digit : ℕ → Bool
 is_digit b = nat_le 48 b && nat_le b 57
 
--- what decimal digits spell after a number
+-- the number that decimal digits spell after the digits of another number
 abbrev pub value_of : ℕ → List ℕ → ℕ
 value_of n [] = n
 value_of n (d ∷ ds) = value_of (n * 10 + (d - 48)) ds
@@ -61,14 +61,14 @@ take_option p w =
 abbrev pub take_name : Progress → ℕ → List ℕ → Option Progress
 take_name p at w = if is_empty w then None else Some (record p { inputs = p.inputs ++ (at ∷ []) })
 
--- one word, at its place; None where it is bad
+-- the state after one more word, at its place; None where the word is bad
 unfoldable pub word_step : Progress → ℕ → List ℕ → Option Progress
 word_step p at w =
     if p.expects then take_value p (number_of w)
     else if not p.names_only && begins_with_dash w then take_option p w
     else take_name p at w
 
--- the words from a place on, or the place of the first bad one
+-- the state after the words from a place on, or the place of the first bad word
 abbrev pub rest_of : ℕ → List (List ℕ) → Progress → Result Progress ℕ
 rest_of at [] p = Ok p
 rest_of at (w ∷ ws) p = after_word at (word_step p at w) (rest_of (at + 1) ws)
@@ -77,7 +77,7 @@ abbrev pub steps_of : Option ℕ → ℕ
 steps_of None = 100000000
 steps_of (Some n) = n
 
--- at least one name
+-- the command `exec`, which has at least one name
 abbrev pub with_inputs : ℕ → Option ℕ → List ℕ → Result Command ℕ
 with_inputs words steps inputs = if is_empty inputs then Err words else Ok (Exec inputs (steps_of steps))
 
@@ -94,7 +94,7 @@ finished words (Ok p) = finish words p
 abbrev pub trim_begin : TrimProgress
 trim_begin = record { names_only = false; awaits = awaited.Word; output = None; inputs = []; descriptors = []; list = None; internalize = false }
 
--- the word at a place that was read, if one was, is this one
+-- whether the word at a place that was read, if one was, is this one
 abbrev pub is_at : List (List ℕ) → Option ℕ → List ℕ → Bool
 is_at words None w = false
 is_at words (Some at) w = is_word (word_at words at) w
@@ -131,7 +131,7 @@ trim_step_by awaited.Word words p at w = if not p.names_only && begins_with_dash
 trim_step_by awaited.Descriptor words p at w = take_descriptor p at w
 trim_step_by awaited.KeepList words p at w = take_list words p at w
 
--- one word, at its place among all words; None where it is bad
+-- the state after one more word, at its place among all words; None where the word is bad
 unfoldable pub trim_step : List (List ℕ) → TrimProgress → ℕ → List ℕ → Option TrimProgress
 trim_step words p at w = trim_step_by p.awaits words p at w
 

@@ -1,6 +1,6 @@
 use il_base::Seq;
 
-/// What the words ask for. Words are named by their places, counted from 0.
+/// The command that the words spell. Words are named by their places, counted from 0.
 #[derive(Drop)]
 pub enum Command {
     /// `exec IN.. [--steps N]`
@@ -18,7 +18,7 @@ pub enum Command {
     },
 }
 
-/// What was read of the words after `exec`.
+/// The state of reading the words after `exec`.
 #[derive(Drop)]
 pub(crate) struct Progress {
     /// Whether the word `--` was read: every later word is a name.
@@ -29,7 +29,7 @@ pub(crate) struct Progress {
     pub(crate) inputs: Seq<usize>,
 }
 
-/// What the next word after `trim` is.
+/// The kind of the next word after `trim`.
 #[derive(Clone, Copy, Debug, PartialEq, Eq)]
 pub(crate) enum Awaited {
     /// An option or a name.
@@ -40,7 +40,7 @@ pub(crate) enum Awaited {
     KeepList,
 }
 
-/// What was read of the words after `trim`.
+/// The state of reading the words after `trim`.
 #[derive(Drop)]
 pub(crate) struct TrimProgress {
     /// Whether the word `--` was read: every later word is a name.

@@ -22,7 +22,7 @@ use status_lines::{Status, report};
 use std::alloc::Global;
 use trim_command::trim_files;
 
-/// A place as a status carries it: a number past 4294967295 as that.
+/// A place in a status: a number past 4294967295 becomes 4294967295.
 fn capped(at: usize) -> u32
     ensures { result ≡ capped at }
 {
@@ -113,7 +113,7 @@ fn trim_words<F: Folder, O: Sink, E: Sink>(
     }
 }
 
-/// Does what a command asks for, or tells the place of a bad word.
+/// Runs a command, or reports the place of a bad word.
 fn do_command<F: Folder, I: Source, O: Sink, E: Sink>(
     alloc: Global,
     command: Result<Command, usize>,
@@ -163,7 +163,7 @@ fn do_command<F: Folder, I: Source, O: Sink, E: Sink>(
     }
 }
 
-/// Reads the words, and does what they ask for.
+/// Reads the words, and runs their command.
 #[tactic(auto, using(crate::proofs::ApartLemmas::apart))]
 fn answer<F: Folder, I: Source, O: Sink, E: Sink>(
     alloc: Global,
@@ -183,20 +183,20 @@ fn answer<F: Folder, I: Source, O: Sink, E: Sink>(
     }
 }
 
-/// Does what the words ask for.
+/// Runs the command that the words spell: `exec` or `trim`.
 ///
-/// `answered` says for each status when it comes and what it leaves. `Ended`, `Threw`, `Spent`, `Stopped` and `Stuck` are what
-/// the run's definition gives at the given steps, for the bytes that the folder told under the words and those that the source
-/// had left; `out` is extended by exactly the run's output. `Done` says that OUT holds the file that a trim of the files IN gives
-/// with the descriptors and options that the words name (`Trims` in `trim_core`), and that the keep list holds its text, where one
-/// is asked for. `BadFile`, `Limit`, `NoEntry`, `BadDescriptor`, `Outside`, `Unresolved` and `Collision` come exactly where those
-/// bytes say so, `BadWords` where the words don't read, `ReadFault` only where one read of the folder failed, that of a file or a
-/// descriptor, or one of the source, `WriteFault` only where one write of the folder failed, that of OUT, or that of the keep list,
-/// after which OUT stands whole, or one write to a sink; `NoMemory` alone is free. A call that fails is never hidden: where another
-/// answer is due, no read and no write of the folder, no read of the source and no write to `out` failed. `err` is extended by
+/// `answered` says for each status when it comes and what it leaves. `Ended`, `Threw`, `Spent`, `Stopped` and `Stuck` are the
+/// outcomes of the defined run at the given number of steps. Its files are the bytes that the folder told under the words, its
+/// input is what the source had left, and `out` is extended by exactly its output. `Done` says that OUT holds the file that a trim
+/// of the files IN gives with the descriptors and options of the words (`Trims` in `trim_core`). The keep list, where one is asked
+/// for, then holds its text. `BadFile`, `Limit`, `NoEntry`, `BadDescriptor`, `Outside`, `Unresolved` and `Collision` come exactly
+/// where those bytes require it, `BadWords` exactly where the words spell no command. `ReadFault` comes only where one read failed:
+/// of a file or a descriptor in the folder, or of the source. `WriteFault` comes only where one write failed: of OUT, of the keep
+/// list, after which OUT stands whole, or to a sink. `NoMemory` alone is free. A call that fails is never hidden: where another
+/// answer comes, no read and no write of the folder, no read of the source and no write to `out` failed. `err` is extended by
 /// exactly the status line, and after `WriteFault` and `NoMemory` both sinks by prefixes. After a refusal the folder is as it was.
-/// `complete` is the other way round: where no count rose, what the words, a told folder and a told source ask for is the answer,
-/// or `NoMemory`.
+/// `complete` is the converse: where no count of faults rose, the answer is the one that the words, a told folder and a told source
+/// require, or `NoMemory`.
 pub fn run<F: Folder, I: Source, O: Sink, E: Sink>(
     alloc: Global,
     words: &Vec<String>,

@@ -113,7 +113,7 @@ pub(crate) fn begins_with_dash(word: &[u8]) -> bool
     }
 }
 
-/// One word, at place `at`; None where it is bad.
+/// The state after one more word, at place `at`; None where the word is bad.
 #[tactic(auto, unfolding(crate::specs::Words::word_step))]
 fn word_step(progress: Progress, at: usize, word: &[u8]) -> Result<Option<Progress>, NoMemory>
     ensures { IfOk result (λ next. next ≡ word_step progress at word.now) }
@@ -149,7 +149,7 @@ fn finish(words: usize, progress: Progress) -> Result<Command, usize>
     }
 }
 
-/// The words after the command's, from left to right.
+/// The state after the words that follow `exec`, read from left to right.
 fn rest_of(alloc: Global, words: &[String]) -> Result<Result<Progress, usize>, NoMemory>
     ensures { IfOk result (λ r. r ≡ rest_of 1 (map string_bytes (drop 1 words.now)) begin) }
 {
@@ -169,7 +169,7 @@ fn rest_of(alloc: Global, words: &[String]) -> Result<Result<Progress, usize>, N
     Ok(Ok(progress))
 }
 
-/// The words after `exec`.
+/// The command of the words after `exec`.
 fn exec_words(alloc: Global, words: &[String]) -> Result<Result<Command, usize>, NoMemory>
     requires { 1 ≤ length words.now }
     ensures { IfOk result (λ r. r ≡ finished (length words.now) (rest_of 1 (map string_bytes (drop 1 words.now)) begin)) }
@@ -180,7 +180,7 @@ fn exec_words(alloc: Global, words: &[String]) -> Result<Result<Command, usize>,
     }
 }
 
-/// What the words ask for, or the place of the first bad word; where a word is missing, the number of words.
+/// The command that the words spell, or the place of the first bad word; where a word is missing, the number of words.
 #[tactic(auto, unfolding(crate::specs::Words::read_words))]
 pub(crate) fn read_words(
     alloc: Global,

@@ -1,4 +1,4 @@
--- The reads of the files and those of the descriptors behind them.
+-- The reads of the files and those of the descriptors after them.
 use Rattle.std.proofs.Common.{ℕ, List, [], ◌∷◌, ◌++◌, Option, Ok, Err, sym, ap, subst, ◌∙◌}
 use Rattle.std.proofs.lemmas.List.{append_assoc}
 use Rattle.il_outside.specs.Faults.{Rose}

@@ -1,4 +1,4 @@
--- What a trim of files writes behaves as they do, by the laws on merges.
+-- The bytes that a trim of files writes behave as the files do, by the laws on merges.
 use Rattle.std.proofs.Common.{◌≡◌, ◌≤◌, ◌<◌, ℕ, zero, suc, ◌+◌, Bool, true, false, List, [], ◌∷◌, length, map, Option, Some, None, nat_le, nat_lt, refl, sym, ap, subst, ◌∙◌, arith}
 use Rattle.std.specs.Prelude.{unwrap_or, if◌then◌else◌}
 use Rattle.std.specs.Option.{is_some, option_map}

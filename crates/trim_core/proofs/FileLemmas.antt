@@ -1,4 +1,4 @@
--- What files were taken as, and what a trim of them is.
+-- The world that files were taken as, and the trim of them.
 use Rattle.std.proofs.Common.{◌≡◌, ℕ, zero, suc, ◌<◌, ◌≤◌, List, [], ◌∷◌, ◌++◌, length, take, Option, Some, None, Result, Ok, Err, refl, sym, ap, subst, ◌∙◌, arith, rules}
 use Rattle.std.specs.Option.{option_map}
 use Rattle.il_base.specs.blob_grammar.Laws.{AreBytes}

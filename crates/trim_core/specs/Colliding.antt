@@ -25,14 +25,14 @@ place_text recs at = assembly_name recs at ++ codes ":" ++ hex_8 (token_of TYPE_
 abbrev pub type_place : List AsmRec → TypeId → List ℕ
 type_place recs t = flat_map (place_text recs) (listed (type_home recs t))
 
--- namespace and name of a type that isn't nested
+-- the namespace and the name of a type that isn't nested
 abbrev pub type_name : List AsmRec → TypeId → List ℕ
 type_name recs t = flat_map (old_name recs) (listed (type_home recs t))
 
 abbrev pub collision_in : List AsmRec → TypeId → TypeId → List ℕ
 collision_in recs first second = type_place recs first ++ codes " " ++ type_place recs second ++ codes " " ++ type_name recs second
 
--- of files that make a world; of others none
+-- the text of a collision, where the files make a world; else none
 abbrev pub collision_by : Option InputError → List AsmRec → TypeId → TypeId → List ℕ
 collision_by None recs first second = collision_in recs first second
 collision_by (Some e) recs first second = []

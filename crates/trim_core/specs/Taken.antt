@@ -1,4 +1,4 @@
--- What files were taken as.
+-- Files, and the world that they were taken as.
 use Rattle.std.specs.Prelude.{◌≡◌, ℕ, List, Some, None, slice_get}
 use Rattle.il_base.specs.blob_grammar.Laws.{AreBytes}
 use Rattle.il_base.specs.declared.world_model.world.World.{World}

@@ -1,4 +1,4 @@
--- Why files and descriptors make no program that can be trimmed.
+-- The refusals of files and descriptors that make no program to be trimmed.
 use Rattle.std.specs.Prelude.{◌≡◌, ℕ, List, [], ◌∷◌, Option, Some, None}
 use Rattle.std.specs.Option.{option_map}
 use Rattle.il_base.specs.declared.limit.TheConstants as limit
@@ -37,16 +37,16 @@ abbrev pub or_refusal : Option Refusal → Option Refusal → Option Refusal
 or_refusal (Some due) later = Some due
 or_refusal None later = later
 
--- of files whose number and lengths are within the limits
+-- the first refusal of files whose number and lengths are within the limits
 abbrev pub short_fault : List (List ℕ) → List (List ℕ) → Option Refusal
 short_fault files descriptors =
     or_refusal (option_map too_long (long_descriptor descriptors))
     (or_refusal (option_map input_refusal (input_fault files))
     (option_map roots_refusal (descriptor_fault (records files) descriptors)))
 
--- In this order: the limits on files, the limit on the length of a named descriptor, the demands on each file, those of linking, the
--- entry point, and the descriptors, of which those that files have embedded come first. (`input_fault` looks at limits again, of
--- which none is passed.)
+-- The first refusal, in this order: the limits on files, the limit on the length of a named descriptor, the demands on each file,
+-- those of linking, the entry point, the descriptors. Embedded descriptors come before named ones. (`input_fault` checks limits
+-- again, of which none is passed.)
 unfoldable pub trim_fault : List (List ℕ) → List (List ℕ) → Option Refusal
 trim_fault files descriptors = or_refusal (option_map input_refusal (limit_fault files)) (short_fault files descriptors)
 
@@ -59,7 +59,7 @@ entry_row (rec ∷ recs) = option_map (at_row 0) (index_in METHOD_DEF rec.entry)
 
 -- ---- answers
 
--- a call refuses as it must, or memory ran out
+-- the refusal of a call is the one that is due, or want of memory
 abbrev pub RefusedBy : Refusal → Refusal → Type 0
 RefusedBy due NoMemory = Unit {0}
 RefusedBy due answer = due ≡ answer

@@ -1,4 +1,4 @@
--- What a trim of files gives, and when it refuses.
+-- The answers of a trim of files.
 use Rattle.std.specs.Prelude.{◌≡◌, ◌≤◌, ℕ, Bool, List, [], length, Option, Some, None, Result, Ok, Err, if◌then◌else◌}
 use Rattle.il_base.specs.declared.world_model.record.AsmRec.{AsmRec}
 use Rattle.rules.specs.declared.link_rules.row_at.RowAt.{RowAt}
@@ -27,7 +27,7 @@ pub record TrimmedProgram (recs : List AsmRec) (entry : Option RowAt) (roots : L
   pub trims : TrimmedWorld recs entry roots opts.internalize (record { bytes = t.bytes; kept = list })
   pub kept : t.kept ≡ list_if opts.keep_list list
 
--- what a trim of a world's assemblies answers
+-- the answer of a trim of a world's assemblies
 abbrev pub TrimsProgram : List AsmRec → Option RowAt → List Root → Opts → Result Trimmed Refusal → Type 0
 TrimsProgram recs entry roots opts (Ok t) = TrimmedProgram recs entry roots opts t
 TrimsProgram recs entry roots opts (Err (Outside place what)) = TrimsWorld recs entry roots opts.internalize (Err (fault.Outside place what))
@@ -39,7 +39,8 @@ TrimsProgram recs entry roots opts (Err refusal) = ⊥
 
 -- ---- files
 
--- The trim is that of the world which the files make with the core library. What it wrote loads and runs as the files do, of which there is one at least.
+-- The result is the trim of the world which the files make with the core library. Its bytes load and run as the files do; there is
+-- at least one file.
 pub record TrimmedFiles (files descriptors : List (List ℕ)) (opts : Opts) (t : Trimmed) : Type 0 where
   pub program : TrimmedProgram (world_of (records files)).recs (entry_row (records files)) (roots_of (records files) descriptors) opts t
   pub behaves : 1 ≤ length files → Behaves files t.bytes program.trims.left program.trims.kept
@@ -48,12 +49,12 @@ abbrev pub TrimsFiles : List (List ℕ) → List (List ℕ) → Opts → Result 
 TrimsFiles files descriptors opts (Ok t) = TrimmedFiles files descriptors opts t
 TrimsFiles files descriptors opts (Err refusal) = TrimsProgram (world_of (records files)).recs (entry_row (records files)) (roots_of (records files) descriptors) opts (Err refusal)
 
--- what a trim of files answers that are refused so, or by nothing
+-- the answer of a trim of files, where this refusal is due, or none
 abbrev pub TrimsUnless : Option Refusal → List (List ℕ) → List (List ℕ) → Opts → Result Trimmed Refusal → Type 0
 TrimsUnless None files descriptors opts answer = TrimsFiles files descriptors opts answer
 TrimsUnless (Some due) files descriptors opts (Ok t) = ⊥
 TrimsUnless (Some due) files descriptors opts (Err answer) = RefusedBy due answer
 
--- what a trim of files with these descriptors answers
+-- the answer of a trim of files with these descriptors
 abbrev pub Trims : List (List ℕ) → List (List ℕ) → Opts → Result Trimmed Refusal → Type 0
 Trims files descriptors opts answer = TrimsUnless (trim_fault files descriptors) files descriptors opts answer

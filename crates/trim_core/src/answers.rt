@@ -3,7 +3,7 @@ ghost use Rattle.trim_core.specs.declared.answers.Refusal.TheVariants as refusal
 
 use il_base::{BadAt, NoMemory, Place, Text, TypeId};
 
-/// What a trim does beside leaving out what isn't needed.
+/// The options of a trim.
 #[derive(Clone, Copy, Debug, PartialEq, Eq)]
 pub struct Opts {
     /// Whether public types of all files but the first become internal.
@@ -12,20 +12,20 @@ pub struct Opts {
     pub keep_list: bool,
 }
 
-/// Why a call gave no result. Files are counted from 0 in the order in which they were given.
+/// The refusals of `trim`. Files are counted from 0 in the order in which they were given.
 #[derive(Clone, Copy, Debug, PartialEq, Eq)]
 pub enum Refusal {
     /// The file has no record: the first demand of II.22 to II.25 that fails, at its offset in the file. Or the files don't
-    /// link: the first demand of linking that fails, at the offset of the row, 0 where it's an assembly that is there twice.
+    /// link: the first demand of linking that fails, at the offset of the row, 0 for a duplicate name of an assembly.
     BadFile { file: u32, at: BadAt },
-    /// What is needed has a form outside the profile, by its number in `il_base::outside`.
+    /// A needed item has a form outside the profile, by its number in `il_base::outside`.
     Outside { place: Place, what: u8 },
-    /// What is needed has a part that names nothing.
+    /// A needed item has a part that names nothing.
     Unresolved { place: Place },
     /// Two types that are needed, of different assemblies, have one full name, and the second can't be renamed. Types are counted
     /// from 0 over the TypeDef rows of all files in order.
     Collision { first: TypeId, second: TypeId },
-    /// A descriptor that isn't one, at the offset in bytes of the first token that isn't allowed there. `source` counts the files
+    /// A malformed descriptor, with the offset in bytes of the first token that isn't allowed there. `source` counts the files
     /// from 0, for the descriptor that a file has embedded, and then the named descriptors.
     BadDescriptor { source: u32, offset: u32 },
     /// More than a limit allows: a limit's number in `il_base::limit`, and what was found.
@@ -44,7 +44,7 @@ impl From<NoMemory> for Refusal {
     }
 }
 
-/// What a trim left.
+/// The result of a trim.
 #[derive(Drop)]
 pub struct Trimmed {
     /// The file that is written.

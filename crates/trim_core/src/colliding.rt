@@ -42,7 +42,7 @@ fn row_in<'a>(rec: &'a AsmRec, row: u32) -> Option<&'a TypeDefRow>
     rec.type_def.get(row as usize)
 }
 
-/// Puts a type's namespace, if it has one, a full stop and its name at the end.
+/// Adds a type's namespace, if it has one, a full stop and its name.
 fn put_full_name(t: &TypeDefRow, out: &mut Text) -> Result<(), NoMemory>
     ensures { OnOk result (out.new ≡ out.old ++ full_name t.now) }
 {
@@ -54,7 +54,7 @@ fn put_full_name(t: &TypeDefRow, out: &mut Text) -> Result<(), NoMemory>
     Ok(())
 }
 
-/// Puts the name of the assembly of a row at the end.
+/// Adds the name of the assembly of a row.
 #[tactic(auto, using(crate::proofs::Lines::none_more))]
 fn put_assembly(recs: &[AsmRec], at: RowAt, out: &mut Text) -> Result<(), NoMemory>
     ensures { OnOk result (out.new ≡ out.old ++ assembly_name recs.now at) }
@@ -65,7 +65,7 @@ fn put_assembly(recs: &[AsmRec], at: RowAt, out: &mut Text) -> Result<(), NoMemo
     }
 }
 
-/// Puts the assembly of a type and its token at the end.
+/// Adds the assembly of a type and its token.
 #[tactic(auto, using(crate::proofs::Lines::place_put))]
 fn put_row(recs: &[AsmRec], at: RowAt, out: &mut Text) -> Result<(), NoMemory>
     ensures { OnOk result (out.new ≡ out.old ++ place_text recs.now at) }
@@ -76,7 +76,7 @@ fn put_row(recs: &[AsmRec], at: RowAt, out: &mut Text) -> Result<(), NoMemory>
     out.extend_from_slice(&hex_8(token))
 }
 
-/// Puts the assembly of a type and its token at the end, by its place in the world.
+/// Adds the assembly of a type and its token, by its place in the world.
 #[tactic(auto, using(crate::proofs::Lines::none_more))]
 fn put_place(recs: &[AsmRec], t: TypeId, out: &mut Text) -> Result<(), NoMemory>
     ensures { OnOk result (out.new ≡ out.old ++ type_place recs.now t) }
@@ -87,7 +87,7 @@ fn put_place(recs: &[AsmRec], t: TypeId, out: &mut Text) -> Result<(), NoMemory>
     }
 }
 
-/// Puts the name of the type in a row at the end.
+/// Adds the name of the type in a row.
 #[tactic(auto, using(crate::proofs::Lines::none_more))]
 fn put_old_name(recs: &[AsmRec], at: RowAt, out: &mut Text) -> Result<(), NoMemory>
     ensures { OnOk result (out.new ≡ out.old ++ old_name recs.now at) }
@@ -101,7 +101,7 @@ fn put_old_name(recs: &[AsmRec], at: RowAt, out: &mut Text) -> Result<(), NoMemo
     }
 }
 
-/// Puts the name of a type at the end, by its place in the world.
+/// Adds the name of a type, by its place in the world.
 #[tactic(auto, using(crate::proofs::Lines::none_more))]
 fn put_name(recs: &[AsmRec], t: TypeId, out: &mut Text) -> Result<(), NoMemory>
     ensures { OnOk result (out.new ≡ out.old ++ type_name recs.now t) }

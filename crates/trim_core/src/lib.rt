@@ -1,5 +1,5 @@
-//! Trims the program of files: in go the bytes of files and of descriptors, out come those of what is left of them, with the keep list,
-//! or the first reason why there is nothing (`specs/Told`). `specs/Trim` defines the answer.
+//! Trims the program of several files: in go the bytes of files and of descriptors, out come those of the trimmed file, with the
+//! keep list, or the first refusal (`specs/Told`). `specs/Trim` defines the answer.
 #![tactic(auto)]
 
 mod answers;

@@ -23,7 +23,7 @@ use std::alloc::Global;
 use trim_laws::spelled_trims::laws::trim_is_spelled;
 use trim_laws::trim_behaves::laws::{files_merge, trims_behave};
 
-/// What is needed of files that were taken as a world: it is linked, and its rows of MethodImpl name rows of it.
+/// A law on the world that files were taken as: it is linked, and its MethodImpl rows name rows that are there.
 fn world_told(files: &Seq<Text>, world: &World)
     requires { IsTaken files.now world.now }
     ensures linked { IsWorld world.now }
@@ -34,14 +34,14 @@ fn world_told(files: &Seq<Text>, world: &World)
     files_told();
 }
 
-/// What is read from memory are bytes. It does nothing.
+/// A law: the elements of a byte slice are below 256. It does nothing.
 fn bytes_told(bytes: &[u8])
     ensures { AreBytes bytes.now }
 {
     let _ = bytes;
 }
 
-/// So are files.
+/// The same law for each of several files.
 fn all_bytes_told(files: &[Text])
     ensures { Bytes files.now }
 {
@@ -61,7 +61,7 @@ fn list_if(alloc: Global, wanted: bool, list: Text) -> Text
     if wanted { list } else { Seq::new(alloc) }
 }
 
-/// What a trim of the world of files gives, from this entry method.
+/// The trim of the world of files, from this entry method.
 fn trim_from(
     alloc: Global,
     world: &World,
@@ -87,7 +87,7 @@ fn trim_from(
     }
 }
 
-/// What a trim of files gives that were taken as this world, with these elements of descriptors.
+/// The trim of files that were taken as this world, with these elements of descriptors.
 pub(crate) fn trim_program(
     alloc: Global,
     files: &Seq<Text>,

@@ -1,6 +1,6 @@
-//! The trim of a linked world. What goes in is the world that a link gave, an entry method by its row, the elements of descriptors,
-//! and whether public types become internal; what comes out is the file of what is left, with the keep list, or the first reason
-//! why there is none. `specs/Trim` defines the answer.
+//! The trim of a linked world. In go the world that a link gave, an entry method by its row, the elements of descriptors, and
+//! whether public types become internal; out comes the trimmed file, with the keep list, or the first refusal. `specs/program_trim/Trim`
+//! defines the answer.
 
 mod answers;
 mod planning;

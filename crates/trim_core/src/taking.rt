@@ -1,4 +1,4 @@
-//! What files were taken as: the records of their world, and the entry method.
+//! The records and the entry method of files that were taken as a world.
 
 ghost use Rattle.std.specs.Prelude.{◌≡◌};
 ghost use Rattle.inputs.specs.Files.{records};

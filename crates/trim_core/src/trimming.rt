@@ -1,4 +1,4 @@
-//! `trim`: leaves out what programs don't need, and merges their files.
+//! `trim`: leaves out the items that programs don't need, and merges their files.
 
 ghost use Rattle.std.specs.Prelude.{◌≡◌};
 ghost use Rattle.std.specs.Option.{option_map};
@@ -17,7 +17,7 @@ use il_base::{Seq, Text, limit};
 use inputs::{InputError, take_files, within_limits};
 use std::alloc::Global;
 
-/// Why files are refused, as it is answered.
+/// The refusal of files, as `trim` answers it.
 fn input_refusal(error: InputError) -> Refusal
     ensures { result ≡ input_refusal error }
 {
@@ -29,7 +29,7 @@ fn input_refusal(error: InputError) -> Refusal
     }
 }
 
-/// That a descriptor has too many bytes, as it is answered.
+/// The refusal of a descriptor with too many bytes, as `trim` answers it.
 fn too_long(found: u64) -> Refusal
     ensures { result ≡ too_long found }
 {
@@ -39,7 +39,7 @@ fn too_long(found: u64) -> Refusal
     }
 }
 
-/// Why a descriptor is refused, as it is answered.
+/// The refusal of a descriptor, as `trim` answers it.
 fn roots_refusal(error: RootsError) -> Refusal
     ensures { result ≡ roots_refusal error }
 {
@@ -99,13 +99,13 @@ fn trim_short(
     }
 }
 
-/// Trims the program of the files, of which the first has the entry point and gives the name, with what these descriptors and the
-/// embedded ones keep, and merges what is left into one file.
+/// Trims the program of the files, and merges what is left into one file. The first file has the entry point and gives the name;
+/// these descriptors and the embedded ones say what is kept besides.
 ///
 /// It refuses with the first of these: a limit on files (1 to 3), one on a named descriptor (4), a demand on a file in its turn
-/// (`BadFile`, `Limit` 5), a demand of linking (`BadFile`), `NoEntry`, a descriptor (`BadDescriptor`),
-/// the first flaw of what is needed (`Outside`, `Unresolved`), `Collision`, and the limits on the file that is
-/// written (5, 7). `NoMemory` alone is free.
+/// (`BadFile`, `Limit` 5), a demand of linking (`BadFile`), `NoEntry`, a descriptor (`BadDescriptor`). After them come the first
+/// flaw of a needed item (`Outside`, `Unresolved`), `Collision`, and the limits on the file that is written (5, 7). `NoMemory`
+/// alone is free.
 #[tactic(auto, unfolding(crate::specs::Told::trim_fault), using(crate::proofs::FileLemmas::limit_due, crate::proofs::FileLemmas::taken_on))]
 pub fn trim(
     alloc: Global,

@@ -1,2 +1,3 @@
-//! A merge that keeps exactly what is marked, and what is so of such merges, as definitions alone: `specs/Merges` has the merge and
-//! its flags, `specs/Reads` what its output's tokens name. Nothing goes in or comes out.
+//! A merge that keeps exactly the marked items, and properties of such merges, as definitions alone:
+//! `specs/marked_merge_rules/Merges` has the merge and its flags, `specs/marked_merge_rules/Reads` what its output's tokens name.
+//! Nothing goes in or comes out.

@@ -5,7 +5,7 @@ use Rattle.std.proofs.Math.ListN.{drop_of_length-le}
 use Rattle.rules.specs.type_rules.Texts.{joined}
 use Rattle.type_names.specs.Commas.{separator}
 
--- those that are left behind a number of others
+-- those that are left after a number of others
 abbrev pub joined_behind : ℕ → List (List ℕ) → List ℕ
 joined_behind i [] = []
 joined_behind i (x ∷ xs) = separator i ++ x ++ joined_behind (suc i) xs

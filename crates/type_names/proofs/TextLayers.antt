@@ -67,5 +67,5 @@ module _ (recs : List AsmRec) (out : List ℕ) where
   pub put_mod : (required : Bool) (by : TypeId) (e : TypeExpr) → out ++ text recs (expr.Mod required by e) ≡ (out ++ text recs e) ++ (modifier_text required ++ definition_text recs (Some by) ++ codes ")")
   put_mod required by e = rw (text_mod recs required by e) (simp append_assoc)
 
--- texts behind others, one level of a type at a time
+-- texts after others, one level of a type at a time
 pub ruleset writing = (put_prim, put_def, put_inst, put_array, put_by_ref, put_var, put_mvar, put_mod)

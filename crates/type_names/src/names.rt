@@ -55,8 +55,8 @@ impl<'a> TypeNames<'a> {
         }
     }
 
-    /// The text of a type: its namespace, a full stop and its name; a nested type behind its encloser and `+`; arguments
-    /// in brackets behind a constructed type, `[]` behind an array's element, `&` behind what is referred to.
+    /// The text of a type: its namespace, a full stop and its name; a nested type after its encloser and `+`; arguments
+    /// in brackets after a constructed type, `[]` after an array's element, `&` after what is referred to.
     pub fn text(&self, alloc: Global, ty: &TypeExpr) -> Result<Text, NoMemory>
         ensures { IfOk result (λ t. t ≡ text self.now ty.now) }
     {

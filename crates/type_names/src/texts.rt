@@ -12,8 +12,8 @@ use il_base::world_model::{AsmRec, TypeExpr, prim_type};
 use il_base::{NoMemory, Seq, Text, TypeId};
 use std::alloc::Global;
 
-/// The text of a type: its namespace, a full stop and its name; a nested type behind its encloser and `+`; arguments in
-/// brackets behind a constructed type, `[]` behind an array's element, `&` behind what is referred to. The last of the
+/// The text of a type: its namespace, a full stop and its name; a nested type after its encloser and `+`; arguments in
+/// brackets after a constructed type, `[]` after an array's element, `&` after what is referred to. The last of the
 /// assemblies is the core library.
 pub fn text(alloc: Global, recs: &[AsmRec], ty: &TypeExpr) -> Result<Text, NoMemory>
     ensures { IfOk result (λ t. t ≡ text recs.now ty.now) }
@@ -139,7 +139,7 @@ fn put_primitive(
     }
 }
 
-/// Puts the number of a generic parameter at the end, behind its sign.
+/// Puts the number of a generic parameter at the end, after its sign.
 fn put_parameter(alloc: Global, sign: &[u8], n: u32, out: &mut Text) -> Result<(), NoMemory>
     ensures { OnOk result (out.new ≡ out.old ++ (sign.now ++ decimal n)) }
 {

@@ -1,4 +1,4 @@
--- The rows of a table by what one of their columns holds.
+-- The rows of a table, grouped by the value in one of their columns.
 use Rattle.std.specs.Prelude.{◌≡◌, ℕ, nat_eq, Bool, List, [], ◌∷◌, Option, None, unwrap_or}
 use Rattle.std.specs.HashMap.{HashMap, get}
 use Rattle.rules.specs.link_rules.Types.{or_else}
@@ -22,7 +22,7 @@ rows_with groups key = rows_of groups.rows key
 abbrev pub AreGroups : List ℕ → Groups → Type 0
 AreGroups keys groups = AreRowsOf keys groups.rows
 
--- what the first of these that has something gives
+-- the first result of a function over these items that isn't None
 abbrev pub first_of : {A B : Type 0} → (A → Option B) → List A → Option B
 first_of look [] = None
 first_of look (x ∷ xs) = or_else (look x) (first_of look xs)

@@ -1,4 +1,4 @@
--- What questions on the types of a world are answered by.
+-- The tables by which questions on the types of a world are answered.
 use Rattle.std.specs.Prelude.{◌≡◌, ℕ, List, map}
 use Rattle.std.specs.List.{AllZip}
 use Rattle.il_base.specs.declared.world_model.record.AsmRec.{AsmRec}
@@ -45,7 +45,7 @@ pub record AreRowTables (rec : AsmRec) (t : RowTables) : Type 0 where
   pub events : AreGroups (event_parents rec) t.events
   pub semantics : AreGroups (associations rec) t.semantics
 
--- of a world that a link gave
+-- the tables of a world that a link gave
 pub record IsTables (t : Tables) : Type 0 where
   pub world : IsWorld t.world.now
   pub tokens : TellTokens t.world.now.recs t.world.now.types

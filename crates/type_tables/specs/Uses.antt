@@ -6,6 +6,6 @@ use Rattle.il_base.specs.declared.world_model.expr.MethodUse.{MethodUse}
 use Rattle.rules.specs.link_rules.Members.{generic_method}
 use Rattle.rules.specs.type_rules.Dispatch.{good_use}
 
--- of an assembly; any other token names none
+-- the method that a token of an assembly names; any other token names none
 abbrev pub use_in : List AsmRec → ℕ → ℕ → Option MethodUse
 use_in recs a token = option_and_then (λ rec. good_use (generic_method recs a rec token)) (slice_get recs a)

@@ -1,4 +1,4 @@
-//! The rows of a table by what one of their columns holds.
+//! The rows of a table, grouped by the value in one of their columns.
 
 ghost use Rattle.std.specs.Prelude.{◌≡◌, ℕ, ◌∷◌, [], ◌++◌, nat_eq, false, IfOk, OnOk, if◌then◌else◌};
 ghost use Rattle.type_tables.specs.Groups.{rows_of, AreRowsOf, rows_with, AreGroups};
@@ -8,7 +8,7 @@ use il_base::{NoMemory, Seq};
 use std::alloc::Global;
 use std::collections::HashMap;
 
-/// The rows of a table, from 0, by what a column holds, those of each value in order.
+/// The rows of a table, from 0, grouped by the value in a column, those of each value in order.
 #[derive(Drop)]
 pub struct Groups {
     rows: HashMap<u32, Seq<u32>>,
@@ -36,7 +36,7 @@ fn put(alloc: Global, rows: &mut HashMap<u32, Seq<u32>>, key: u32, row: u32) -> 
 }
 
 impl Groups {
-    /// The rows by what their column holds: `keys` has it for each row.
+    /// Groups rows by their values in a column: `keys` has the value of each row.
     pub fn of(alloc: Global, keys: &[u32]) -> Result<Groups, NoMemory>
         ensures { IfOk result (AreGroups keys.now) }
     {
@@ -47,7 +47,7 @@ impl Groups {
         Ok(Groups { rows })
     }
 
-    /// The rows, from 0, whose column holds a value.
+    /// The rows, from 0, that have a value in the column.
     pub fn rows_with(&self, key: u32) -> &[u32]
         ensures { result.now ≡ rows_with self.now key }
     {

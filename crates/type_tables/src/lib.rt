@@ -1,5 +1,5 @@
-//! What questions on the types of a world are answered by: the world, its members by name, the rows of types by their
-//! types, each made once; and methods by their ids and rows.
+//! The tables by which questions on the types of a world are answered. They have the world, its members by name and its rows by the
+//! types that these belong to, and are made once. Methods by their ids and rows are here too.
 #![tactic(auto)]
 
 pub mod groups;

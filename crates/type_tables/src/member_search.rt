@@ -1,5 +1,5 @@
-//! Members of the types of several assemblies, by what their type tokens name: the definition and the base of a type,
-//! signatures with their types, a member by its name and signature in a type or in it and its bases.
+//! The search for members of types of several assemblies, by the links of type tokens. It needs the definition and the base of a
+//! type, and signatures with their types; a member is found by its name and signature, in a type alone or also in its bases.
 
 pub mod bases;
 pub mod counted;

@@ -1,5 +1,5 @@
-//! Which types of a world a type can stand for: its base and interfaces, all that these lead to, and the question
-//! itself. What goes in is a world and the tables that are made of it once (`type_tables`).
+//! The types of a world that a type can stand for (I.8.7): its base and interfaces, all types reachable by these, and whether one
+//! type can stand for another. In go the tables of a world (`Tables`).
 
 pub mod interfaces;
 pub mod references;

@@ -1,4 +1,4 @@
-//! What is made once of a world.
+//! The tables that are made once of a world.
 
 ghost use Rattle.std.specs.Prelude.{◌≡◌, slice_get, IfOk, IfSome};
 ghost use Rattle.std.specs.Option.{option_map};
@@ -17,7 +17,7 @@ use il_base::NoMemory;
 use il_base::world_model::{AsmRec, World};
 use std::alloc::Global;
 
-/// Of an assembly: the type of each method, and the rows of tables by the types or members that they belong to.
+/// The tables of an assembly: the type of each method, and the rows of tables by the types or members that they belong to.
 #[derive(Drop)]
 pub struct RowTables {
     /// The first type whose run each method is in, both by their rows from 0.
@@ -34,7 +34,7 @@ pub struct RowTables {
     pub semantics: Groups,
 }
 
-/// An assembly of a world, and what is made of it.
+/// An assembly of a world, with its tables.
 #[derive(Clone, Copy)]
 pub struct Rows<'a> {
     pub scope: Scope<'a>,
@@ -132,7 +132,7 @@ fn rows_of(alloc: Global, all: &[AsmRec]) -> Result<Vec<RowTables>, NoMemory>
 }
 
 impl<'w> Tables<'w> {
-    /// What is made once of a world that a link gave.
+    /// The tables of a world that a link gave.
     pub fn of(alloc: Global, world: &'w World) -> Result<Tables<'w>, NoMemory>
         requires { IsWorld world.now }
         ensures are { IfOk result IsTables }
@@ -146,7 +146,7 @@ impl<'w> Tables<'w> {
         Ok(Tables { world, names, rows })
     }
 
-    /// The assemblies of the world, and what their type tokens name.
+    /// The assemblies of the world, with the links of their type tokens.
     pub fn linked(&self) -> Linked<'_>
         requires { IsTables self.now }
         ensures is { IsLinked result }
@@ -160,7 +160,7 @@ impl<'w> Tables<'w> {
         }
     }
 
-    /// An assembly of the world, by its place from 0, with what is made of it.
+    /// An assembly of the world, by its place from 0, with its tables.
     pub fn rows_at(&self, asm: u32) -> Option<Rows<'_>>
         requires { IsTables self.now }
         ensures there { option_map (λ (r : Rows). r.scope.rec.now) result ≡ slice_get self.now.world.now.recs asm }

@@ -1,4 +1,4 @@
-//! What a trimmer has to know of the values in a body, as definitions in `specs/`: how control goes from each instruction to
+//! What a trimmer has to know of the values in a body, as definitions in `specs/flow_rules/`: how control goes from each instruction to
 //! others, how deep the evaluation stack is, and which `Type` values and names reach which slot. Nothing goes in or comes out.
 
 mod called;

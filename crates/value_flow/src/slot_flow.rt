@@ -1,5 +1,5 @@
 //! Which sources reach which slots of a body. What the instructions do with sources goes in (`Flowing`); out comes the set of
-//! all that is carried, as `specs/Carrying` defines it by walks of one source.
+//! all that is carried, as `specs/slot_flow/Carrying` defines it by walks of one source.
 
 mod facts;
 mod moves;

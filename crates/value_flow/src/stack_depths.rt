@@ -1,5 +1,5 @@
 //! How deep the evaluation stack is at each instruction of a body (III.1.7.4). The ways out of each instruction go in; out come the
-//! depths, or that there are none, as `specs/Depths` defines it.
+//! depths, or that there are none, as `specs/stack_depths/Depths` defines it.
 
 mod exit;
 mod search;

@@ -1,4 +1,4 @@
--- The rows of all tables, in the groups that the code makes of them. `bs` are the bytes of the file.
+-- The rows of all tables, in the groups of `AllTables`. `bs` are the bytes of the file.
 use Rattle.std.specs.Prelude.{ℕ, List}
 use Rattle.il_base.specs.declared.table.TheConstants.{MODULE, TYPE_REF, TYPE_DEF, FIELD, PARAM, INTERFACE_IMPL, MEMBER_REF, CONSTANT, CUSTOM_ATTRIBUTE, FIELD_MARSHAL, DECL_SECURITY, CLASS_LAYOUT, FIELD_LAYOUT, STAND_ALONE_SIG, EVENT_MAP, EVENT, PROPERTY_MAP, PROPERTY, METHOD_SEMANTICS, METHOD_IMPL, MODULE_REF, TYPE_SPEC, IMPL_MAP, FIELD_RVA, ASSEMBLY, ASSEMBLY_PROCESSOR, ASSEMBLY_OS, ASSEMBLY_REF, ASSEMBLY_REF_PROCESSOR, ASSEMBLY_REF_OS, FILE, EXPORTED_TYPE, MANIFEST_RESOURCE, NESTED_CLASS, GENERIC_PARAM, METHOD_SPEC, GENERIC_PARAM_CONSTRAINT}
 use Rattle.world_reader.specs.declared.tables.AssemblyTables.{AssemblyTables}

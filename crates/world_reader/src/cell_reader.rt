@@ -1,6 +1,6 @@
-//! The cells of a file that meets the demands on an assembly (II.22 to II.25). `Assembly` opens it; then it gives the number
-//! in a cell, what that names (a text, a blob, a GUID, a token, a run of rows), and the bytes at an RVA. What each is, is
-//! defined by `record_format`'s `specs/Cells`.
+//! The cells of a file that meets the demands on an assembly (II.22 to II.25). `Assembly` opens it; then it gives the number in a
+//! cell, the item that this names (a text, a blob, a GUID, a token, a run of rows), and the bytes at an RVA.
+//! `rules/specs/record_format/Cells` defines each.
 
 mod assembly;
 mod cells;

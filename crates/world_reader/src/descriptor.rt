@@ -15,7 +15,7 @@ fn is_descriptor(row: &ManifestResourceRow) -> bool
     row.name.as_slice() == b"ILLink.Descriptors.xml".as_slice() && row.implementation == 0
 }
 
-/// The bytes of the resource at an offset, behind their number in four bytes.
+/// The bytes of the resource at an offset, after their number in four bytes.
 #[tactic(auto, unfolding(rules::specs::record_format::Texts::resource_at, il_base::specs::Bytes::bytes_at))]
 fn resource_at(resources: &[u8], at: u32) -> Option<&[u8]>
     ensures { option_map (λ b. b.now) result ≡ texts.resource_at resources.now at }

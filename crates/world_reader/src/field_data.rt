@@ -81,7 +81,7 @@ fn size_by(layouts: &Layouts, fields: &[FieldRow], token: u32) -> Option<u32>
     }
 }
 
-/// As many bytes from an address.
+/// The bytes from an RVA, `size` of them, where they are there.
 fn bytes_at<'a>(file: &Assembly<'a>, rva: u32, size: Option<u32>) -> Option<&'a [u8]>
     ensures { option_map (λ b. b.now) result ≡ option_and_then (image_at file.now rva) size }
 {
@@ -91,7 +91,7 @@ fn bytes_at<'a>(file: &Assembly<'a>, rva: u32, size: Option<u32>) -> Option<&'a 
     }
 }
 
-/// A copy of as many bytes from an address.
+/// A copy of `size` bytes from an RVA, where they are there.
 #[tactic(auto, unfolding(rules::specs::record_format::Parts::bytes_by))]
 fn bytes_by(
     alloc: Global,

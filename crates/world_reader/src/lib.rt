@@ -1,5 +1,5 @@
 //! The record of any assembly: the bytes of a file go in, and its record comes out, or the refusal of the first demand that
-//! the file doesn't meet. Which record that is, `record_format` defines.
+//! the file doesn't meet. The record is defined by `rules/specs/record_format`.
 #![tactic(auto)]
 
 pub mod cell_reader;

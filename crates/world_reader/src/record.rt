@@ -78,9 +78,9 @@ fn assembled(file: &Assembly, tables: AllTables) -> AsmRec
 #[tactic(auto, using(il_base::proofs::lemmas::cli_format::Faults::refusals))]
 pub fn read_record(alloc: Global, bytes: &[u8]) -> Result<AsmRec, TablesError>
     requires { length bytes.now < 2 ^ 32 }
-    // The record, or which refusal it is.
+    // The record, or the refusal of the first demand that fails.
     ensures exact { Read result (record_demands bytes.now) (record_at bytes.now) }
-    // What is answered is a record that the file has.
+    // A record that is answered is one that the file has.
     ensures found { IfOk result (λ r. HasRecord bytes.now r) }
     // A file that has a record is answered with it, unless memory runs out.
     ensures only { (r : AsmRec) → HasRecord bytes.now r → Read result [] r }

@@ -86,7 +86,7 @@ pub struct PropertyTables {
     pub method_semantics: Seq<MethodSemanticsRow>,
 }
 
-/// References to members, and the tables that hang on members of several kinds.
+/// References to members, and the tables whose rows belong to members of several kinds.
 #[derive(Drop)]
 pub struct ExtraTables {
     pub member_ref: Seq<MemberRefRow>,
@@ -96,7 +96,7 @@ pub struct ExtraTables {
     pub impl_map: Seq<ImplMapRow>,
 }
 
-/// The tables of all groups, and what was found by them.
+/// The tables of all groups.
 #[derive(Drop)]
 pub struct AllTables {
     pub assemblies: AssemblyTables,
@@ -236,7 +236,7 @@ fn property_tables(alloc: Global, file: &Assembly) -> Result<PropertyTables, NoM
     })
 }
 
-/// References to members, and the tables that hang on members of several kinds.
+/// References to members, and the tables whose rows belong to members of several kinds.
 #[tactic(auto, unfolding(crate::specs::Tables::extra_tables))]
 fn extra_tables(alloc: Global, file: &Assembly) -> Result<ExtraTables, NoMemory>
     ensures { IfOk result (λ t. t ≡ tables.extra_tables file.now) }

@@ -1,5 +1,5 @@
-//! The texts that the `ldstr` of method bodies name (III.4.16), each once and in the order of their places in `#US`. Which
-//! they are is defined by `record_format`'s `specs/Texts`.
+//! The texts that the `ldstr` of method bodies name (III.4.16), each once and in the order of their places in `#US`.
+//! `rules/specs/record_format/Texts` defines them.
 
 mod texts;
 

@@ -11,7 +11,7 @@ use resolver::type_links::TypeIndex;
 use rules::link_rules::RowAt;
 use std::alloc::Global;
 
-/// An assembly of a world, with what is made of the world once.
+/// An assembly of a world, with the tables of the world.
 #[derive(Clone, Copy)]
 pub struct Site<'a> {
     pub marker: &'a Marker<'a>,

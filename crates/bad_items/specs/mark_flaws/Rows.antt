@@ -1,4 +1,4 @@
--- What is wrong with rows, piece by piece.
+-- The flaws of rows, in pieces.
 use Rattle.std.specs.Prelude.{ℕ, suc, List, [], ◌∷◌, ◌++◌, map, codes, ◌==◌, ◌||◌, Bool, if◌then◌else◌}
 use Rattle.std.specs.List.{list_any}
 use Rattle.il_base.specs.Flags.{has_flag}

@@ -18,7 +18,7 @@ use Rattle.rules.specs.type_rules.Slots.{is_virtual, method_row_at, type_of_meth
 use Rattle.rules.specs.type_rules.Texts.{row_name}
 use Rattle.rules.specs.type_rules.Dispatch.{implied, declares_slot, impl_in, slot_in, class_dispatch}
 
--- what is so of the world of all inputs that link
+-- a property holds of the world of all inputs that link
 abbrev pub InLinked : (List AsmRec → Type 0) → Type 0
 InLinked P = (inputs : List AsmRec) → link_fault_of inputs ≡ None → P (assemblies inputs)
 
@@ -44,7 +44,7 @@ pub record AreMethodRuns (rec : AsmRec) : Type 0 where
   pub never_falls : (k : ℕ) (t : TypeDefRow) → slice_get rec.type_def k ≡ Some t → t.method_list_first ≤ t.method_list_end
   pub meets : (k : ℕ) (t next : TypeDefRow) → slice_get rec.type_def k ≡ Some t → slice_get rec.type_def (suc k) ≡ Some next → t.method_list_end ≡ next.method_list_first
 
--- what is so of the world of all inputs that link and whose runs of methods follow one another, as those of files do
+-- a property holds of the world of all inputs that link and whose runs of methods follow one another, as those of files do
 abbrev pub InRuns : (List AsmRec → Type 0) → Type 0
 InRuns P =
     (inputs : List AsmRec) → link_fault_of inputs ≡ None → ((a : ℕ) (rec : AsmRec) → slice_get inputs a ≡ Some rec → AreMethodRuns rec) → P (assemblies inputs)

@@ -17,7 +17,7 @@ EachAssembly P = (inputs : List AsmRec) → AreRecords inputs → (a : ℕ) (rec
 
 -- ---- what a linked world keeps
 
--- what is so of the world of all such inputs that link
+-- a property holds of the world of all such inputs that link
 abbrev pub InRecords : (List AsmRec → Type 0) → Type 0
 InRecords P = (inputs : List AsmRec) → link_fault_of inputs ≡ None → AreRecords inputs → P (assemblies inputs)
 

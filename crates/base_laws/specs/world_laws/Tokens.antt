@@ -18,11 +18,11 @@ use Rattle.rules.specs.link_rules.Members.{methods_in, fields_in, method_def_use
 use Rattle.rules.specs.link_rules.Linked.{IsWorld}
 use Rattle.rules.specs.mark_rules.Naming.{method_named, field_named}
 
--- what is so of each world that a link gave
+-- a property holds of each world that a link gave
 abbrev pub InWorlds : (World → Type 0) → Type 0
 InWorlds P = (w : World) → IsWorld w → P w
 
--- what is so of each token of each assembly of a world
+-- a property holds of each token of each assembly of a world
 abbrev pub OfTokens : World → (ℕ → AsmRec → ℕ → Type 0) → Type 0
 OfTokens w P = (a : ℕ) (rec : AsmRec) → slice_get w.recs a ≡ Some rec → (token : ℕ) → P a rec token
 

@@ -107,7 +107,7 @@ fn printed_bytes(
     }
 }
 
-/// Puts the bytes of a line, or of a part of it, behind those that were printed.
+/// Appends the bytes of a line, or of a part of it, to those that were printed.
 fn put_line(line: bool, bytes: &[u8], printed: &mut Vec<u8>) -> Result<(), NoMemory>
     ensures { OnOk result (printed.new.items ≡ printed.old.items ++ ended_line line bytes.now) }
 {

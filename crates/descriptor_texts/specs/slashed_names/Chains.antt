@@ -24,7 +24,7 @@ inner_name rec k = codes "/" ++ bare_name rec k
 abbrev pub own_name : AsmRec → ℕ → List ℕ
 own_name rec k = own_or_none (slice_get rec.type_def k)
 
--- the names behind that of the outermost type, of which the last row comes first
+-- the names after that of the outermost type, of which the last row comes first
 unfoldable pub inner_names : AsmRec → List ℕ → List ℕ
 inner_names rec [] = []
 inner_names rec (k ∷ ks) = inner_names rec ks ++ inner_name rec k

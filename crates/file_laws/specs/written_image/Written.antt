@@ -27,7 +27,7 @@ pub record ReadsBack (p : Parts) (bs : List ℕ) : Type 0 where
   pub entry : entry_token_of bs ≡ p.entry
   pub subsystem : subsystem_of bs ≡ p.subsystem
   pub resources : resources_of bs ≡ None
-  -- at an address in the code stands what was put there, with other bytes behind it
+  -- at an address in the code stands what was put there, with other bytes after it
   pub code : (before after : List ℕ) → p.code ≡ before ++ after
       → (rest : List ℕ) × (image_tail bs (code_rva + length before) ≡ Some (after ++ rest))
   -- and where only some bytes are asked for, these alone

@@ -1,4 +1,4 @@
--- What the laws of this crate say of a grammar, of what its blobs give, and of the spelling that is written.
+-- What the laws of `blob_grammar` say of a grammar, of what its blobs give, and of the spelling that is written.
 use Rattle.std.specs.Prelude.{◌≡◌, ◌⊎◌, ℕ, suc, ◌<◌, ◌≤◌, List, [], ◌∷◌, ◌++◌, length, take, drop, slice_index, Result, Ok, Err}
 
 -- The bytes of a list are numbers below 256.
@@ -16,12 +16,12 @@ pub record IsFirstBad {A : Type 0} (grammar : A → List ℕ → Type 0) (bytes 
   pub begun : (x : A) × (more : List ℕ) × grammar x (take at bytes ++ more)
   pub never : (x : A) (other : List ℕ) → grammar x other → take (suc at) other ≡ take (suc at) bytes → ⊥
 
--- A float is in front: R4 is 12 and R8 13.
+-- The bytes begin with a float: R4 is 12 and R8 13.
 abbrev pub IsFloat : List ℕ → Type 0
 IsFloat [] = ⊥
 IsFloat (b ∷ _) = (b ≡ 12) ⊎ (b ≡ 13)
 
--- What is bad at the front of some bytes: 1 says a float, 5 leaves it open.
+-- What the number of a fault says of the bytes from its place on: 1 that a float is there, 5 nothing.
 abbrev pub IsKind : ℕ → List ℕ → Type 0
 IsKind what bytes = (what ≡ 5) ⊎ ((what ≡ 1) × IsFloat bytes)
 

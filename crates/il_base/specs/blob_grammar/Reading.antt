@@ -1,4 +1,4 @@
--- Reading a blob from left to right, with the first byte that no value allows. The laws of this crate tie it to the
+-- Reading a blob from left to right, with the first byte that no value allows. The laws of `blob_grammar` tie it to the
 -- grammar.
 use Rattle.std.specs.Prelude.{ℕ, zero, suc, ◌+◌, ◌-◌, ◌*◌, ◌/◌, ◌%◌, nat_lt, ◌==◌, Bool, true, false, List, [], ◌∷◌, length, drop, Option, Some, None, Result, Ok, Err, if◌then◌else◌}
 use Rattle.il_base.specs.Bytes.{compressed_at}
@@ -16,7 +16,7 @@ use Rattle.il_base.specs.blob_grammar.Signatures.{element, levels}
 abbrev pub Fault : Type 0
 Fault = ℕ × ℕ
 
--- A reader gives a value and the bytes behind it.
+-- A reader gives a value and the bytes after it.
 abbrev pub Reader : Type 0 → Type 0
 Reader A = List ℕ → Result (A × List ℕ) Fault
 
@@ -68,7 +68,7 @@ types_at one (suc n) bs = do
   ss ← types_at one n s.1
   Ok (s.0 ∷ ss.0, ss.1)
 
--- a type that holds no other, behind its first byte
+-- a type that holds no other, after its first byte
 abbrev pub leaf_by : Element → ℕ → Reader Sig
 leaf_by e.Primitive b bs = Ok (sig.Prim b, bs)
 leaf_by e.ValueType b bs = do
@@ -100,7 +100,7 @@ instance_at inner bs = do
   ss ← types_at inner n.0 n.1
   Ok (Inst value.0 token.0 ss.0, ss.1)
 
--- a type behind its first byte, where `inner` reads the types that it holds
+-- a type after its first byte, where `inner` reads the types that it holds
 abbrev pub type_by : Reader Sig → Element → ℕ → Reader Sig
 type_by inner e.Vector b bs = do
   s ← inner bs
@@ -153,7 +153,7 @@ unfoldable pub field_at : Reader Sig
 field_at [] = cut
 field_at (b ∷ bs) = if b == 6 then type_at levels bs else bad bs
 
--- types behind a leading byte and a count
+-- types after a leading byte and a count
 unfoldable pub counted_at : ℕ → Reader (List Sig)
 counted_at lead [] = cut
 counted_at lead (b ∷ bs) = if b == lead then (number_at bs >>= λ n. types_at (type_at levels) n.0 n.1) else bad bs

@@ -55,7 +55,7 @@ mutual
     instance : (room : ℕ) (value : Bool) (token : ℕ) (ss : List Sig) (ts ns bs : List ℕ) → IsToken token ts → IsNumber (length ss) ns → AreTypes room ss bs
         → IsType (suc room) (Inst value token ss) (21 ∷ class_byte value ∷ (ts ++ ns ++ bs))
 
-  -- types one behind another
+  -- types one after another
   pub data AreTypes : ℕ → List Sig → List ℕ → Type 0 where
     none : (room : ℕ) → AreTypes room [] []
     more : (room : ℕ) (s : Sig) (ss : List Sig) (front bs : List ℕ) → IsType room s front → AreTypes room ss bs → AreTypes room (s ∷ ss) (front ++ bs)

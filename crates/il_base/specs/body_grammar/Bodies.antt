@@ -53,7 +53,7 @@ aligned n = (n + 3) / 4 * 4
 abbrev pub clause_size : Bool → ℕ
 clause_size fat = if fat then 24 else 12
 
--- the number of small clauses, by the section's size in one byte; two bytes behind it aren't looked at
+-- the number of small clauses, by the section's size in one byte; two bytes after it aren't looked at
 unfoldable pub small_section_at : ℕ → List ℕ → Result ℕ Fault
 small_section_at at bs =
     field_at 1 bs (at + 1) >>= λ size.
@@ -71,7 +71,7 @@ fat_section_at at bs =
     if (front + 65536 * high) % 24 == 4 then Ok ((front + 65536 * high) / 24) else Err (fault (at + 3) BODY))
     else Err (fault (at + 1) BODY)
 
--- whether the section at a place is fat, and how many clauses it has. A section behind which another stands has no reading.
+-- whether the section at a place is fat, and how many clauses it has. A section with another after it has no reading.
 unfoldable pub section_at : ℕ → List ℕ → Result (Bool × ℕ) Fault
 section_at at bs =
     field_at 1 bs at >>= λ kind.
@@ -120,12 +120,12 @@ fat_clause_at at bs =
 abbrev pub clause_at : Bool → ℕ → List ℕ → Result Handler Fault
 clause_at fat at bs = if fat then fat_clause_at at bs else small_clause_at at bs
 
--- the clause that was read goes on, a fault ends with those before
+-- after a clause that was read come the others; a fault ends the list with the clauses before it
 abbrev pub clauses_then : List Handler → Result Handler Fault → (Handler → List Handler × Option Fault) → List Handler × Option Fault
 clauses_then before (Ok h) next = next h
 clauses_then before (Err f) next = (before, Some f)
 
--- so many clauses from a place on, behind those before, up to the first fault
+-- so many clauses from a place on, after those before, up to the first fault
 unfoldable pub clauses_after : ℕ → Bool → ℕ → List ℕ → List Handler → List Handler × Option Fault
 clauses_after zero fat at bs before = (before, None)
 clauses_after (suc n) fat at bs before =
@@ -135,8 +135,8 @@ abbrev pub unless : List Handler → Option Fault → Result (List Handler) Faul
 unless hs None = Ok hs
 unless hs (Some f) = Err f
 
--- The clauses that were read, the first of which stands at a place. The first that doesn't meet the rules comes before
--- a fault behind them.
+-- The clauses that were read, the first of which stands at a place, where all meet the rules. The first clause that doesn't is the
+-- fault, before any fault in the bytes after them.
 abbrev pub accepted : ℕ → ℕ → Option ℕ → List Handler × Option Fault → Result (List Handler) Fault
 accepted at step None read = unless read.0 read.1
 accepted at step (Some i) read = Err (fault (at + i * step) BODY)

@@ -29,7 +29,7 @@ abbrev pub distances : ℕ → List ℕ → List ℕ
 distances end [] = []
 distances end (t ∷ ts) = little_bytes 4 (distance end t) ++ distances end ts
 
--- the bytes of an operand behind an opcode that ends at an IL offset
+-- the bytes of an operand after an opcode that ends at an IL offset
 unfoldable pub operand_bytes : Inline → ℕ → Operand → List ℕ
 operand_bytes ShortInlineVar next (operand.Slot n) = n % 256 ∷ []
 operand_bytes InlineVar next (operand.Slot n) = little_bytes 2 (n % 65536)
@@ -87,7 +87,7 @@ section_head true n reserved = 0x41 ∷ (4 + 24 * n) % 256 ∷ (4 + 24 * n) / 25
 abbrev pub flags_byte : Bool → Bool → ℕ
 flags_byte sects init = 3 + (if sects then 8 else 0) + (if init then 16 else 0)
 
--- a header, by whether a section stands behind the code, and the size of the code
+-- a header, by whether a section stands after the code, and the size of the code
 unfoldable pub header_bytes : Body → Bool → ℕ → List ℕ
 header_bytes b sects size =
     if b.tiny then (2 + 4 * size) % 256 ∷ []
@@ -104,7 +104,7 @@ pub record Filler : Type 0 where
   pub pad : List ℕ
   pub reserved : List ℕ
 
--- a handler section behind the bytes that stand between it and the code
+-- a handler section after the bytes that stand between it and the code
 abbrev pub section_bytes : List ℕ → List ℕ → Body → List ℕ
 section_bytes pad reserved b = pad ++ section_head b.fat_handlers (length b.handlers) reserved ++ clauses_bytes b.fat_handlers b.handlers
 
@@ -127,7 +127,7 @@ writing b size = record { sects = has_section b; pad = padding (12 + size); rese
 abbrev pub body_bytes : Body → List ℕ
 body_bytes b = body_spelling (writing b (length (code_bytes b.code))) b
 
--- what may stand in a spelling beside the body: no section behind a tiny header, one where the body needs it, and as
+-- what may stand in a spelling beside the body: no section after a tiny header, one where the body needs it, and as
 -- many bytes before it as lead to the next multiple of 4
 pub record IsFiller (f : Filler) (b : Body) : Type 0 where
   pub tiny : b.tiny ≡ true → f.sects ≡ false

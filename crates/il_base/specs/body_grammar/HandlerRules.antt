@@ -23,7 +23,7 @@ is_same r s = r.from == s.from && r.to == s.to
 unfoldable pub lies_strictly_in : Range → Range → Bool
 lies_strictly_in r s = lies_in r s && not (is_same r s)
 
--- disjoint, or one in the other
+-- two ranges are disjoint, or one lies in the other
 unfoldable pub nest : Range → Range → Bool
 nest r s = are_disjoint r s || lies_in r s || lies_in s r
 
@@ -32,7 +32,7 @@ abbrev pub begins : List Instr → ℕ → Bool
 begins [] at = false
 begins (i ∷ is) at = i.at == at || begins is at
 
--- the same, before the code ends
+-- an instruction of the code begins there, before the code ends
 abbrev pub is_start : List Instr → ℕ → ℕ → Bool
 is_start code size at = nat_lt at size && begins code at
 
@@ -72,11 +72,11 @@ is_clause start size h =
     is_range start size (try_of h) && is_range start size (handler_of h)
     && are_disjoint (try_of h) (handler_of h) && not (is_same (try_of h) (handler_of h))
 
--- clause i of all keeps both
+-- clause i keeps its own rules, and those beside each clause of the body
 unfoldable pub meets_rules : (ℕ → Bool) → ℕ → List Handler → ℕ → Handler → Bool
 meets_rules start size all i h = is_clause start size h && fits_beside_all i h 0 all
 
--- the first clause from number i on that doesn't
+-- the first clause from number i on that doesn't meet the rules
 unfoldable pub offender_from : (ℕ → Bool) → ℕ → List Handler → ℕ → List Handler → Option ℕ
 offender_from start size all i [] = None
 offender_from start size all i (h ∷ hs) =

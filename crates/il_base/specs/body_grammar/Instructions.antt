@@ -1,4 +1,4 @@
--- Instructions (III.1.2): what stands behind an opcode, and the instructions of a body one after another.
+-- Instructions (III.1.2): what stands after an opcode, and the instructions of a body one after another.
 -- An IL offset counts bytes from the start of the code, a place counts bytes from the start of the body.
 use Rattle.std.specs.Prelude.{ℕ, zero, suc, ◌+◌, ◌-◌, ◌*◌, ◌%◌, ◌^◌, ◌==◌, nat_lt, List, [], ◌∷◌, ◌++◌, length, drop, Option, Some, None, Result, Ok, pos, ◌-ℤ◌, option_map, option_and_then, if◌then◌else◌}
 use Rattle.std.specs.Int.{w8, w32, w64, cast_signed}
@@ -35,7 +35,7 @@ switch_at next bs =
     if nat_lt (length bs) (4 + 4 * n) then None
     else Some (operand.Targets (targets n (next + (4 + 4 * n)) (drop 4 bs)), 4 + 4 * n)) (number_at 4 bs 0)
 
--- the operand of an opcode, whose last byte ends at an IL offset, and how many bytes of those behind the opcode it
+-- the operand of an opcode, whose last byte ends at an IL offset, and how many bytes of those after the opcode it
 -- takes. A target is relative to the end of the instruction.
 unfoldable pub operand_at : Inline → ℕ → ℕ → List ℕ → Option (Operand × ℕ)
 operand_at InlineNone op next bs = Some (operand.None, 0)
@@ -58,7 +58,7 @@ opcode_at place bs =
     if first == 254 then (need (number_at 1 bs 1) (fault place BODY) >>= λ second. Ok (65024 + second, 2))
     else Ok (first, 1)
 
--- its form and inline argument
+-- the form and the inline argument of an opcode
 unfoldable pub kind_at : ℕ → ℕ → Result (Form × Inline) Fault
 kind_at place op = need (kind_of op) (fault place (if is_float op then FLOAT else INSTRUCTION))
 
@@ -70,7 +70,7 @@ instr_at at place bs =
     need (operand_at kind.1 op.0 (at + op.1) (drop op.1 bs)) (fault place BODY) >>= λ o.
     Ok (record { at = at; form = kind.0; opcode = op.0; operand = o.0 }, op.1 + o.1)
 
--- The instructions to the end of the bytes, behind those that stand before an IL offset; base is the place of the
+-- The instructions to the end of the bytes, after those that stand before an IL offset; base is the place of the
 -- code. Each takes a byte at least, so a bound on their number is the number of bytes.
 unfoldable pub code_after : ℕ → ℕ → ℕ → List Instr → List ℕ → Result (List Instr) Fault
 code_after bound base at before [] = Ok before

@@ -64,7 +64,7 @@ arrays =
     ∷ run 0x90 0x97 Elem InlineNone ∷ run 0x9a 0x9f Elem InlineNone ∷ one 0xa2 Elem InlineNone
     ∷ run 0xa3 0xa4 Elem InlineTok ∷ []
 
--- what a managed reference leads to
+-- loads and stores through managed pointers
 unfoldable pub indirect : List Row
 indirect =
     run 0x46 0x4d Indirect InlineNone ∷ run 0x50 0x55 Indirect InlineNone

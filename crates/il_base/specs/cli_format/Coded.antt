@@ -4,7 +4,7 @@ use Rattle.il_base.specs.declared.table.TheConstants.{MODULE, TYPE_REF, TYPE_DEF
 use Rattle.il_base.specs.declared.cli_format.column.CodedIndex.{CodedIndex}
 use Rattle.il_base.specs.declared.cli_format.column.CodedIndex.TheVariants.{TypeDefOrRef, HasConstant, HasCustomAttribute, HasFieldMarshal, HasDeclSecurity, MemberRefParent, HasSemantics, MethodDefOrRef, MemberForwarded, Implementation, CustomAttributeType, ResolutionScope, TypeOrMethodDef}
 
--- the tables that its tags name, in order of the tags, from the first one that names a table on
+-- the tables that the tags of a coded index name, in order of the tags, from the first tag that names a table on
 abbrev pub targets_of : CodedIndex → List ℕ
 targets_of TypeDefOrRef = TYPE_DEF ∷ TYPE_REF ∷ TYPE_SPEC ∷ []
 targets_of HasConstant = FIELD ∷ PARAM ∷ PROPERTY ∷ []
@@ -22,7 +22,7 @@ targets_of CustomAttributeType = METHOD_DEF ∷ MEMBER_REF ∷ []
 targets_of ResolutionScope = MODULE ∷ MODULE_REF ∷ ASSEMBLY_REF ∷ TYPE_REF ∷ []
 targets_of TypeOrMethodDef = TYPE_DEF ∷ METHOD_DEF ∷ []
 
--- how many of its low bits are the tag
+-- how many low bits of a coded index are its tag
 abbrev pub tag_bits_of : CodedIndex → ℕ
 tag_bits_of TypeDefOrRef = 2
 tag_bits_of HasConstant = 2

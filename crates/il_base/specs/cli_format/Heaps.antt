@@ -16,7 +16,7 @@ text_at bs = option_and_then (λ n. good_text (take n bs)) (position (λ b. b ==
 unfoldable pub string_of : List ℕ → ℕ → Option (List ℕ)
 string_of h at = if (at == 0) && (length h == 0) then Some [] else text_at (drop at h)
 
--- the bytes at the front behind their length, a compressed number
+-- the bytes at the front after their length, a compressed number
 unfoldable pub counted_at : List ℕ → Option (List ℕ)
 counted_at bs = option_and_then (λ n. bytes_at bs n.1 n.0) (compressed_at bs)
 

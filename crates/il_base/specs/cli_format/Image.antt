@@ -14,7 +14,7 @@ use Rattle.il_base.specs.cli_format.Demand.{Demand, demand, each_below, bad, num
 unfoldable pub signature_place : List ℕ → ℕ
 signature_place bs = number 4 bs 0x3c
 
--- the place of the optional header, behind the signature and the COFF header of 20 bytes
+-- the place of the optional header, after the signature and the COFF header of 20 bytes
 unfoldable pub optional_place : List ℕ → ℕ
 optional_place bs = signature_place bs + 24
 
@@ -78,7 +78,7 @@ mapped bs rva len = option_and_then (place_in rva len) (section_of (sections_of 
 
 -- ---- the CLI header (II.25.3.3)
 
--- its place, 72 bytes from the RVA of directory 14
+-- the place of the CLI header, 72 bytes from the RVA of directory 14
 unfoldable pub cli_place : List ℕ → ℕ
 cli_place bs = unwrap_or (mapped bs (number 4 bs (directory_place bs)) 72) 0
 

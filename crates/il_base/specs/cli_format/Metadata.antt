@@ -21,7 +21,7 @@ use Rattle.il_base.specs.cli_format.Heaps.{string_of, blob_of}
 abbrev pub bad_at : ℕ → ℕ → TablesError
 bad_at offset why = Bad (bad offset why)
 
--- what a call that ran out of memory, or refuses, says of the first fault
+-- an error of a call is want of memory, or the first fault
 unfoldable pub Refused : TablesError → Option TablesError → Type 0
 Refused NoMemory fault = Unit {0}
 Refused (Bad b) fault = fault ≡ Some (Bad b)
@@ -41,7 +41,7 @@ root_demands bs base =
     ++ demand ((version_length bs % 4 == 0) && nat_le (version_length bs) 256) (bad_at base BAD_ROOT)
     ++ demand (nat_le (20 + version_length bs) (length bs)) (bad_at base BAD_ROOT)
 
--- the header of a stream lies in the metadata, its name has at most 32 bytes, and zeros stand behind them
+-- the header of a stream lies in the metadata, its name has at most 32 bytes, and zeros stand after them
 unfoldable pub header_fits : List ℕ → ℕ → Bool
 header_fits bs h =
     nat_le (h + header_size bs h) (length bs)
@@ -55,7 +55,7 @@ stream_fits bs s earlier =
     && agrees s earlier
     && not (name_number s.name == name_number Uncompressed)
 
--- a stream whose header is at a place, behind earlier ones
+-- a stream whose header is at a place, after earlier ones
 unfoldable pub stream_demands : List ℕ → ℕ → ℕ → List Stream → List (Demand TablesError)
 stream_demands bs base h earlier =
     demand (header_fits bs h) (bad_at (base + h) BAD_STREAM)
@@ -121,7 +121,7 @@ heap_demands bs base =
 
 -- ---- cells
 
--- what a number in a column names is there; 0 names nothing, where it may stand
+-- a number in a column names an item or a row that is there; 0 names nothing, in a column that allows it
 unfoldable pub names_item : List ℕ → Column → ℕ → Bool
 names_item bs U8 n = true
 names_item bs U16 n = true
@@ -135,7 +135,7 @@ names_item bs (Run t) n = nat_le 1 n && nat_le n (rows_of (tables_stream bs) t +
 names_item bs (Coded index) n = names_coded (tables_stream bs) index n
 names_item bs (CodedOrNone index) n = (n == 0) || names_coded (tables_stream bs) index n
 
--- why it is refused
+-- the reason for which a number in a column is refused
 unfoldable pub why_not : Column → ℕ
 why_not Text = BAD_HEAP
 why_not Blob = BAD_HEAP

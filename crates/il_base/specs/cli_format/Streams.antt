@@ -19,7 +19,7 @@ named name =
 
 -- ---- the root (II.24.2.1)
 
--- the bytes of the version text, with the zeros behind it
+-- the bytes of the version text, with the zeros after it
 unfoldable pub version_length : List ℕ → ℕ
 version_length bs = number 4 bs 12
 
@@ -36,7 +36,7 @@ streams_place bs = 20 + version_length bs
 unfoldable pub name_length : List ℕ → ℕ → ℕ
 name_length bs h = unwrap_or (position (λ b. b == 0) (take 33 (drop (h + 8) bs))) (length (take 33 (drop (h + 8) bs)))
 
--- the zeros behind the name
+-- the zeros after the name
 unfoldable pub padding_length : List ℕ → ℕ → ℕ
 padding_length bs h = 4 - name_length bs h % 4
 
@@ -77,7 +77,7 @@ name_number Other = 6
 unfoldable pub repeats : Stream → Stream → Bool
 repeats s t = (name_number s.name == name_number t.name) && nat_lt (name_number s.name) 5
 
--- no byte is in both
+-- two streams have no byte in common
 unfoldable pub apart : Stream → Stream → Bool
 apart s t = s.size == 0 || t.size == 0 || nat_le (s.offset + s.size) t.offset || nat_le (t.offset + t.size) s.offset
 
@@ -93,14 +93,14 @@ unfoldable pub stream_called : StreamName → List Stream → Option Stream
 stream_called name [] = None
 stream_called name (s ∷ ss) = if name_number s.name == name_number name then Some s else stream_called name ss
 
--- where it begins, and 0 where there is none
+-- the place of a heap, and 0 where there is none
 unfoldable pub heap_place : List ℕ → StreamName → ℕ
 heap_place bs name = unwrap_or (option_map (λ s. s.offset) (stream_called name (streams_of bs))) 0
 
 unfoldable pub heap_size : List ℕ → StreamName → ℕ
 heap_size bs name = unwrap_or (option_map (λ s. s.size) (stream_called name (streams_of bs))) 0
 
--- its bytes: a heap that is missing is empty
+-- the bytes of a heap: one that is missing is empty
 unfoldable pub heap : List ℕ → StreamName → List ℕ
 heap bs name = take (heap_size bs name) (drop (heap_place bs name) bs)
 

@@ -76,16 +76,16 @@ row_width ts t = widths ts (columns_of t)
 
 -- ---- places of tables, rows and cells
 
--- the tables stand behind the row counts, one behind the other
+-- the tables stand after the row counts, one after the other
 unfoldable pub table_place : List ℕ → ℕ → ℕ
 table_place ts zero = count_place ts 64
 table_place ts (suc t) = table_place ts t + rows_of ts t * row_width ts t
 
--- the table's start, plus the row's number less one times the row's width
+-- the place of a row: the table's start, plus the row's number less one times the row's width
 unfoldable pub row_place : List ℕ → ℕ → ℕ → ℕ
 row_place ts t r = table_place ts t + (r - 1) * row_width ts t
 
--- the row's place, plus the widths of the columns before
+-- the place of a cell: the row's place, plus the widths of the columns before
 unfoldable pub cell_place : List ℕ → ℕ → ℕ → ℕ → ℕ
 cell_place ts t r c = row_place ts t r + widths ts (take c (columns_of t))
 
@@ -109,11 +109,11 @@ cell_of ts t r c = if has_cell ts t r c then Some (cell_number ts t r c) else No
 unfoldable pub target_of : CodedIndex → ℕ → Option ℕ
 target_of index tag = if nat_le (first_tag_of index) tag then slice_get (targets_of index) (tag - first_tag_of index) else None
 
--- a row from 1 to the table's number of rows
+-- the table has a row of this number: rows go from 1 to the table's number of rows
 unfoldable pub names_row : List ℕ → ℕ → ℕ → Bool
 names_row ts t n = nat_le 1 n && nat_le n (rows_of ts t)
 
--- the tag in its low bits names a table, and the rest a row of it
+-- a coded index names a row: the tag in its low bits names a table, and the rest a row of that table
 unfoldable pub names_coded : List ℕ → CodedIndex → ℕ → Bool
 names_coded ts index n =
     unwrap_or (option_map (λ t. names_row ts t (n / 2 ^ tag_bits_of index)) (target_of index (n % 2 ^ tag_bits_of index))) false

@@ -32,7 +32,7 @@ agree a b = if a then b else not b
 
 -- ---- rows
 
--- The runs begin at these rows, each where the one before ends; the last end behind the last rows.
+-- The runs begin at these rows, each where the one before ends; the last end past the last rows.
 abbrev pub runs_meet : ℕ → ℕ → List TypeDefRow → Bool
 runs_meet field method [] = (field == 2) && (method == METHOD_COUNT + 1)
 runs_meet field method (t ∷ ts) =

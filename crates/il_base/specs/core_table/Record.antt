@@ -70,7 +70,7 @@ field_rows fs = map field_row fs
 abbrev pub method_rows : List CoreMethod → List MethodDefRow
 method_rows ms = map method_row ms
 
--- the members of the types, each type's behind those of the types before it
+-- the members of the types, each type's after those of the types before it
 unfoldable pub all_fields : List CoreType → List FieldRow
 all_fields [] = []
 all_fields (t ∷ ts) = field_rows (fields_of t.members) ++ all_fields ts

@@ -1,7 +1,7 @@
--- A table of what a function has for the numbers from 0 on.
+-- A table of a function's values at the numbers from 0 on.
 use Rattle.std.specs.Prelude.{◌≡◌, ℕ, List, Option, Some, None, slice_get}
 
--- what a table has for a number, and past its end what the function has
+-- the table's value at a number, and past the table's end the function's
 abbrev pub near_or : Option (Option ℕ) → Option ℕ → Option ℕ
 near_or (Some found) far = found
 near_or None far = far

@@ -11,7 +11,7 @@ use Rattle.il_base.specs.declared.world_model.expr.TypeExpr as expr
 abbrev pub arg_or : List TypeExpr → ℕ → TypeExpr → TypeExpr
 arg_or args n other = unwrap_or (slice_get args n) other
 
--- one level, with what each type that it holds becomes in its place
+-- one level of a type, with each type that it holds replaced by its substituted form
 abbrev pub subst_layer : List TypeExpr → List TypeExpr → TypeExpr-F TypeExpr → TypeExpr
 subst_layer targs margs (TypeExpr-F.Prim n) = expr.Prim n
 subst_layer targs margs (TypeExpr-F.Def t) = expr.Def t

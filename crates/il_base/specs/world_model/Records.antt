@@ -34,7 +34,7 @@ unfoldable pub names_row : AsmRec → List ℕ → ℕ → Bool
 names_row rec tables token =
     list_any (λ t. t == table_of token) tables && nat_le 1 (row_of token) && nat_le (row_of token) (rows_in rec (table_of token))
 
--- what a token in a column names is there (II.24.2.6); 0 names nothing, where it may be
+-- a token in a column names a row that is there (II.24.2.6); 0 names nothing, in a column that allows it
 unfoldable pub names : AsmRec → Column → ℕ → Bool
 names rec (Index t) token = names_row rec (t ∷ []) token
 names rec (IndexOrNone t) token = (token == 0) || names_row rec (t ∷ []) token

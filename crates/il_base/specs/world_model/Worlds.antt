@@ -38,7 +38,7 @@ abbrev pub known_or : {A : Type 0} → Option (Known A) → Known A
 known_or None = Bad Unresolved
 known_or (Some k) = k
 
--- all of them, or why the first bad one is bad
+-- all values of a list, or why the first bad one is bad
 abbrev pub all_known : {A : Type 0} → List (Known A) → Known (List A)
 all_known [] = Good []
 all_known (x ∷ xs) = known_then (λ y. known_map (λ ys. y ∷ ys) (all_known xs)) x
@@ -103,7 +103,7 @@ link_place count row recs a token =
 
 -- ---- what a token of an assembly names; None where there is no such row
 
--- in these links of assemblies
+-- the type that a token names, by these links
 unfoldable pub type_link_at : List AsmRec → List TypeLink → ℕ → ℕ → Option (Known TypeExpr)
 type_link_at recs links a token = option_map (λ (l : TypeLink). l.to) (option_and_then (slice_get links) (link_place type_rows type_row recs a token))
 

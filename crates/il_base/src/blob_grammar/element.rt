@@ -26,7 +26,7 @@ pub enum Element {
 }
 
 impl Element {
-    /// What a byte says.
+    /// What the first byte of a type says (II.23.1.16).
     pub fn of(byte: u8) -> Element
         ensures { result ≡ element byte }
     {

@@ -7,7 +7,7 @@ pub struct Fault {
     pub what: u8,
 }
 
-/// The inline argument of an instruction: what stands behind its opcode (III.1.2), or what the opcode stands for.
+/// The inline argument of an instruction: what stands after its opcode (III.1.2), or what the opcode stands for.
 #[derive(Clone, Copy, Debug, PartialEq, Eq)]
 pub enum Inline {
     /// No bytes and no operand.
@@ -41,7 +41,7 @@ pub enum Inline {
 pub struct Row {
     /// The first opcode of the run.
     pub from: u16,
-    /// The last.
+    /// The last opcode of the run.
     pub to: u16,
     pub form: Form,
     pub inline: Inline,
@@ -54,7 +54,7 @@ pub struct Header {
     pub tiny: bool,
     /// InitLocals.
     pub init: bool,
-    /// MoreSects: a handler section stands behind the code.
+    /// MoreSects: a handler section stands after the code.
     pub sects: bool,
     pub max_stack: u16,
     /// The size of the code in bytes.
@@ -68,6 +68,6 @@ pub struct Header {
 pub struct Range {
     /// The offset of its first byte.
     pub from: u64,
-    /// The offset of the byte behind its last.
+    /// The offset of the byte past its last.
     pub to: u64,
 }

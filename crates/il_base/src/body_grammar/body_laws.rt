@@ -6,7 +6,7 @@ ghost use Rattle.il_base.specs.declared.body_grammar.body.Fault.{Fault};
 ghost use Rattle.il_base.specs.body_grammar.FirstFault.{IsFirstFault};
 ghost use Rattle.il_base.specs.body_grammar.BodySpelling.{HasSpelling, IsSpelledBy, body_bytes};
 
-/// Whatever spells a body is read as that body, also with other bytes behind it.
+/// Whatever spells a body is read as that body, also with other bytes after it.
 pub fn spelled_body_is_read()
     ensures { (text : List ℕ) (b : Body) (rest : List ℕ) → IsSpelledBy text b → body_at (text ++ rest) ≡ Ok (b, length text) }
 {}
@@ -22,7 +22,7 @@ pub fn written_body_is_spelled()
     ensures { (b : Body) → HasSpelling b → IsSpelledBy (body_bytes b) b }
 {}
 
-/// What is written of a body is read again as that body, also with other bytes behind it.
+/// What is written of a body is read again as that body, also with other bytes after it.
 pub fn written_body_is_read()
     ensures { (b : Body) (rest : List ℕ) → HasSpelling b → body_at (body_bytes b ++ rest) ≡ Ok (b, length (body_bytes b)) }
 {}

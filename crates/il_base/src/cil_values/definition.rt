@@ -28,7 +28,7 @@ pub struct Method {
     pub body: Option<Known<Code>>,
 }
 
-/// What a field has at first (II.16.3.2). A static field begins as the number of its bytes where its type is a number, else as
+/// The initial value of a field (II.16.3.2). A static field begins as the number of its bytes where its type is a number, else as
 /// zero; InitializeArray takes the bytes whatever the field's type is.
 #[derive(Drop)]
 pub enum First {

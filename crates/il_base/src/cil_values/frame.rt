@@ -57,7 +57,7 @@ pub enum Waits {
     Starts(TypeExpr),
     /// The initializer of the entry's type has ended, and the entry is entered.
     Opens(TypeExpr, MethodUse),
-    /// A member of the core library that called goes on; its arguments.
+    /// A member of the core library, with its arguments, goes on with the result of the method that it called.
     Core(CoreCall, Seq<Value>),
 }
 

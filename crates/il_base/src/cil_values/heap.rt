@@ -36,7 +36,7 @@ impl Heap {
         }
     }
 
-    /// Puts an object behind those that are there, and gives its number. A heap has at most 4294967295 objects: more are
+    /// Appends an object to those that are there, and gives its number. A heap has at most 4294967295 objects: more are
     /// answered as want of memory.
     pub fn add(&mut self, o: Obj) -> Result<u32, NoMemory>
         ensures place { IfOk result (λ at. at ≡ length self.old) }

@@ -36,6 +36,6 @@ pub enum Shape {
     FieldHandle,
     /// Any other value type, by the cells of its instances.
     Structure(Seq<Layout>),
-    /// Nothing: VOID, a value type with a field that has no meaning, what is no type.
+    /// Nothing: VOID, a value type with a field that has no meaning, or anything that is no type.
     NoValue,
 }

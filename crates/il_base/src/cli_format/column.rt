@@ -25,7 +25,7 @@ pub enum Column {
     CodedOrNone(CodedIndex),
 }
 
-/// Tables of which a cell can name a row (II.24.2.6).
+/// A kind of coded index, which stands for the tables whose rows it can name (II.24.2.6).
 #[derive(Clone, Copy, Debug, PartialEq, Eq)]
 pub enum CodedIndex {
     TypeDefOrRef,

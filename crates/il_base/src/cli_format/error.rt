@@ -1,14 +1,14 @@
 use crate::{BadAt, NoMemory};
 use std::alloc::{AllocError, AllocFailed};
 
-/// Why tables aren't read.
+/// The error of reading tables.
 #[derive(Clone, Copy, Debug, PartialEq, Eq)]
 pub enum TablesError {
     /// The file is refused.
     Bad(BadAt),
     /// A table has more rows than 1048576.
     Rows {
-        /// How many it has.
+        /// The number of its rows.
         found: u64,
     },
     /// The allocator refused.

@@ -3,7 +3,7 @@ ghost use Rattle.il_base.specs.cli_format.Columns.{sort_key_of};
 
 use crate::cli_format::key::SortKey::{ByOne, ByTwo, Strictly, Unsorted};
 
-/// By which of its columns, counted from 0, a table is sorted (II.22).
+/// The columns, counted from 0, by which a table is sorted (II.22).
 #[derive(Clone, Copy, Debug, PartialEq, Eq)]
 pub enum SortKey {
     /// The table isn't sorted.

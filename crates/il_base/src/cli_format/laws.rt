@@ -1,4 +1,4 @@
-//! What the definitions say, in plain words: laws without code.
+//! Laws on the demands that a file meets: functions without code, whose contracts state them.
 
 ghost use Rattle.std.specs.Prelude.{◌≡◌, ℕ, ◌+◌, ◌<◌, ◌≤◌, ◌↔◌, List, ◌∷◌, ◌++◌, length, true, false, Some, None};
 ghost use Rattle.std.specs.List.{AllByRecursion};

@@ -6,7 +6,7 @@ ghost use Rattle.il_base.specs.core_table.Record.{core_record};
 use crate::core_table::types::{METHOD_COUNT, TYPE_COUNT, TYPES};
 
 /// The core record's tables: as many rows as the core table has types, fields and methods; each type's runs begin where
-/// those of the type before it end, and the last runs end behind the last rows (II.22.37).
+/// those of the type before it end, and the last runs end past the last rows (II.22.37).
 pub fn rows()
     ensures types { length core_record.type_def ≡ TYPE_COUNT }
     ensures fields { length core_record.field ≡ 1 }

@@ -1,4 +1,4 @@
-//! What the core table is made of.
+//! The data of the core table: types, fields, methods and signatures.
 
 use crate::core_table::names::CoreName;
 
@@ -42,7 +42,7 @@ pub struct CoreMethod {
     pub params: CoreParams,
 }
 
-/// Which members a type has.
+/// The members of a type, by a name for each list of members.
 #[derive(Clone, Copy, Debug, PartialEq, Eq)]
 pub enum CoreMembers {
     NoMethods,

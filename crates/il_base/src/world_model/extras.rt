@@ -1,4 +1,4 @@
-//! Rows that hang on members. Indices are tokens (the table's number in the high byte), 0 for none; names are UTF-8.
+//! Rows that belong to members. Indices are tokens (the table's number in the high byte), 0 for none; names are UTF-8.
 
 use crate::Text;
 use crate::world_model::known::Known;
@@ -42,7 +42,7 @@ pub struct DeclSecurityRow {
 /// A row of FieldLayout (II.22.16).
 #[derive(Drop)]
 pub struct FieldLayoutRow {
-    /// Bytes.
+    /// The offset in bytes.
     pub offset: u32,
     /// A Field token.
     pub field: u32,

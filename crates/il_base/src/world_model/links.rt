@@ -21,7 +21,7 @@ pub enum LinkKind {
     Field,
 }
 
-/// The items behind the first `count`.
+/// The items after the first `count`.
 fn behind<T>(items: &[T], count: usize) -> &[T]
     ensures { result.now ≡ drop count items.now }
 {
@@ -48,7 +48,7 @@ fn below<T>(items: &[T], count: usize, at: Option<u32>) -> Option<&T>
     }
 }
 
-/// The links behind those of an assembly's rows.
+/// The links after those of an assembly's rows.
 fn behind_rows<'a, T>(kind: LinkKind, rec: &AsmRec, links: &'a [T]) -> &'a [T]
     ensures { result.now ≡ drop (rows_in kind rec.now) links.now }
 {
@@ -70,7 +70,7 @@ fn behind_rows<'a, T>(kind: LinkKind, rec: &AsmRec, links: &'a [T]) -> &'a [T]
     }
 }
 
-/// The links behind those of the rows of these assemblies.
+/// The links after those of the rows of these assemblies.
 fn behind_all<'a, T>(kind: LinkKind, recs: &[AsmRec], links: &'a [T]) -> &'a [T]
     ensures { result.now ≡ drop (sum_by (rows_in kind) recs.now) links.now }
 {

@@ -26,7 +26,7 @@ pub struct MethodDefRow {
     pub signature: Known<MethodSig>,
     /// The first Param row of the method, from 1.
     pub param_list_first: u32,
-    /// The row behind its last.
+    /// The row past its last.
     pub param_list_end: u32,
     /// None where `rva` is 0.
     pub body: Option<Known<Body>>,
@@ -82,7 +82,7 @@ pub struct PropertyMapRow {
     pub parent: u32,
     /// The first Property row, from 1.
     pub property_list_first: u32,
-    /// The row behind the last.
+    /// The row past the last.
     pub property_list_end: u32,
 }
 
@@ -102,7 +102,7 @@ pub struct EventMapRow {
     pub parent: u32,
     /// The first Event row, from 1.
     pub event_list_first: u32,
-    /// The row behind the last.
+    /// The row past the last.
     pub event_list_end: u32,
 }
 

@@ -34,11 +34,11 @@ pub struct TypeDefRow {
     pub extends: u32,
     /// The first Field row of the type, from 1.
     pub field_list_first: u32,
-    /// The row behind its last.
+    /// The row past its last.
     pub field_list_end: u32,
     /// The first MethodDef row of the type, from 1.
     pub method_list_first: u32,
-    /// The row behind its last.
+    /// The row past its last.
     pub method_list_end: u32,
 }
 

@@ -47,7 +47,7 @@ pub(crate) fn layout_of(field: u32, cells: &[Layout]) -> Option<&Layout>
     None
 }
 
-/// The cell of a field among those of a struct. A cell behind 4294967295 others is answered as want of memory.
+/// The cell of a field among those of a struct. A cell after 4294967295 others is answered as want of memory.
 fn cell_with(alloc: Global, field: u32, cells: &[Layout]) -> Result<Option<StructCell>, NoMemory>
     ensures { IfOk result (λ c. option_map cell_by c ≡ struct_cell_in (cell.Field field) (shapes.Structure cells.now)) }
 {

@@ -16,7 +16,7 @@ abbrev pub by_two : Arg-F Arg → Arg-F Arg → List Sought
 by_two (Arg-F.Text t) asm = by_assembly t asm
 by_two _ asm = []
 
--- the type that the arguments behind the first name
+-- the type that the arguments after the first name
 abbrev pub sought_by : List (Arg-F Arg) → List Sought
 sought_by [] = []
 sought_by (t ∷ []) = by_one t
@@ -26,11 +26,11 @@ sought_by (t ∷ asm ∷ x ∷ xs) = []
 abbrev pub member_in : Option (List ℕ) → List Sought → List Dependency
 member_in name found = map (λ s. of_member s name) found
 
--- behind a name
+-- after a name
 abbrev pub member_by : Option (List ℕ) → List (Arg-F Arg) → List Dependency
 member_by name [] = of_member own_type name ∷ []
 member_by name (x ∷ xs) = member_in name (sought_by (x ∷ xs))
 
--- behind kinds
+-- after kinds
 abbrev pub kinds_in : ℕ → List Sought → List Dependency
 kinds_in n found = map (λ s. of_kinds s n) found

@@ -1,4 +1,4 @@
-//! What the arguments of DynamicDependencyAttribute name.
+//! The dependencies that the arguments of DynamicDependencyAttribute name.
 
 ghost use Rattle.std.specs.Prelude.{◌≡◌, ◌∷◌, map, IfOk};
 ghost use Rattle.attr_blobs.specs.declared.value.Arg.{out-Arg};
@@ -12,7 +12,7 @@ use attribute_values::dependency_forms::dependency::{Dependency, Sought};
 use il_base::{NoMemory, Seq, Text};
 use std::alloc::Global;
 
-/// How many values the low 32 bits have.
+/// The number of values of the low 32 bits.
 const LOW_BITS: u64 = 0x1_0000_0000;
 
 /// A copy of a text, if there is one.
@@ -100,7 +100,7 @@ fn by_two(alloc: Global, t: &Arg, asm: &Arg) -> Result<Option<Sought>, NoMemory>
     }
 }
 
-/// The type that arguments behind the first name.
+/// The type that arguments after the first name.
 fn sought_by(alloc: Global, args: &[Arg]) -> Result<Option<Sought>, NoMemory>
     ensures { IfOk result (λ s. map sought_told (listed s) ≡ sought_by (map out-Arg args.now)) }
 {
@@ -181,7 +181,7 @@ fn kinds_in(alloc: Global, n: u64, args: &[Arg]) -> Result<Option<Dependency>, N
     }
 }
 
-/// The dependency that a first argument and those behind it name.
+/// The dependency that a first argument and those after it name.
 #[tactic(auto, using(crate::proofs::lemmas::item_dependencies::Forming::member_is, crate::proofs::lemmas::item_dependencies::Forming::kinds_are))]
 fn by_first(alloc: Global, first: &Arg, rest: &[Arg]) -> Result<Option<Dependency>, NoMemory>
     ensures { IfOk result (λ d. map dependency_told (listed d) ≡ dependency_by (out-Arg first.now ∷ map out-Arg rest.now)) }

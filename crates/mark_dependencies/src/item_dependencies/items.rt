@@ -45,7 +45,7 @@ fn dependent_token(item: Item, row: u32) -> Result<Option<u32>, NoMemory>
     }
 }
 
-/// Puts the dependencies of an item of the reader's assembly at the end, by its row from 0.
+/// Adds the dependencies of an item of the reader's assembly, by its row from 0.
 #[tactic(auto, using(crate::proofs::lemmas::item_dependencies::Lists::none_more))]
 fn add_in(
     alloc: Global,
@@ -67,7 +67,7 @@ fn add_in(
     }
 }
 
-/// Puts the dependencies of an item in a row at the end.
+/// Adds the dependencies of an item in a row.
 #[tactic(auto, using(crate::proofs::lemmas::item_dependencies::Lists::none_more))]
 fn add_at<'a>(
     alloc: Global,
@@ -89,7 +89,7 @@ fn add_at<'a>(
     Ok(())
 }
 
-/// Puts the dependencies of an item at the end, if it has a row.
+/// Adds the dependencies of an item, if it has a row.
 #[tactic(auto, using(crate::proofs::lemmas::item_dependencies::Lists::none_more))]
 fn add_dependencies<'a>(
     alloc: Global,

@@ -38,7 +38,7 @@ fn dependency_of_row(
     }
 }
 
-/// Puts the dependency that the value of a row names at the end.
+/// Adds the dependency that the value of a row names.
 fn add_of_row(
     alloc: Global,
     reader: &Reader<'_>,
@@ -58,7 +58,7 @@ fn add_of_row(
     }
 }
 
-/// Puts the dependency that a row names at the end, if it is a DynamicDependencyAttribute.
+/// Adds the dependency that a row names, if it is a DynamicDependencyAttribute.
 #[tactic(auto, using(crate::proofs::lemmas::item_dependencies::Lists::none_more))]
 fn add_if_called(
     alloc: Global,
@@ -76,7 +76,7 @@ fn add_if_called(
     Ok(())
 }
 
-/// Puts the dependency that the row in a place, from 0, names at the end.
+/// Adds the dependency that the row in a place, from 0, names.
 #[tactic(auto, using(crate::proofs::lemmas::item_dependencies::Lists::none_more))]
 fn add_at(
     alloc: Global,
@@ -93,7 +93,7 @@ fn add_at(
     }
 }
 
-/// Puts the dependencies that rows, by their places from 0, name at the end.
+/// Adds the dependencies that rows, by their places from 0, name.
 fn add_each(
     alloc: Global,
     reader: &Reader<'_>,
@@ -109,7 +109,7 @@ fn add_each(
     Ok(())
 }
 
-/// Puts the dependencies of the row with a token at the end.
+/// Adds the dependencies of the row with a token.
 pub(crate) fn add_of_token(
     alloc: Global,
     reader: &Reader<'_>,

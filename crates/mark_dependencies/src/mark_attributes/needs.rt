@@ -1,4 +1,4 @@
-//! What the attributes of an item mark.
+//! The items that the attributes of an item mark.
 
 ghost use Rattle.std.specs.Prelude.{◌≡◌, ◌++◌, OnOk};
 ghost use Rattle.std.specs.List.{flat_map};
@@ -61,8 +61,8 @@ fn add_needs<'a>(
     }
 }
 
-/// Puts what the attributes of a marked item mark at the end: of each whose constructor is in an input that constructor with its
-/// owner and arguments, the fields and setters that its value names, and the types in the value.
+/// Adds the facts that the attributes of a marked item give. An attribute whose constructor is in an input marks that constructor
+/// with its owner and arguments, the fields and setters that its value names, and the types in the value.
 pub fn attribute_needs<'a>(
     alloc: Global,
     marker: &'a Marker<'a>,

@@ -1,4 +1,4 @@
-//! What rows of CustomAttribute mark.
+//! The items that rows of CustomAttribute mark.
 
 ghost use Rattle.std.specs.Prelude.{◌≡◌, ◌++◌, [], slice_get, OnOk};
 ghost use Rattle.std.specs.List.{flat_map, filter};

@@ -1,4 +1,4 @@
-//! What the value of an attribute marks.
+//! The items that the value of an attribute marks.
 
 ghost use Rattle.std.specs.Prelude.{◌≡◌, ◌++◌, OnOk};
 ghost use Rattle.rules.specs.mark_rules.Naming.{mark_types};

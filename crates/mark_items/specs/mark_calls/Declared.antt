@@ -1,4 +1,4 @@
--- What a method overrides, piece by piece.
+-- The methods that a method overrides, in pieces.
 use Rattle.std.specs.Prelude.{ℕ, List, ◌++◌}
 use Rattle.std.specs.List.{flat_map}
 use Rattle.il_base.specs.declared.world_model.expr.MethodUse.{MethodUse}
@@ -21,6 +21,6 @@ overridden_at recs at = flat_map (overridden recs at) (listed (method_row_at rec
 abbrev pub declared_facts : List AsmRec → RowAt → List Fact
 declared_facts recs at = each_row (declared_in recs at) recs
 
--- what a row whose body is the method marks
+-- the facts that a row gives whose body is the method
 abbrev pub body_facts : List AsmRec → ℕ → AsmRec → MethodImplRow → MethodUse → List Fact
 body_facts recs a rec row body = of_method_use body ++ flat_map of_method_use (listed (good_use (generic_method recs a rec row.declaration)))

@@ -1,4 +1,4 @@
--- What the search for an interface slot finds, piece by piece.
+-- The methods that the search for an interface slot finds, in pieces.
 use Rattle.std.specs.Prelude.{List, [], Option, Bool, if◌then◌else◌}
 use Rattle.std.specs.List.{list_any, flat_map}
 use Rattle.std.specs.Option.{option_and_then}

@@ -1,4 +1,4 @@
--- What members need, piece by piece.
+-- The needs of members, in pieces.
 use Rattle.std.specs.Prelude.{List, [], ◌∷◌, ◌++◌, map, slice_get, Bool, if◌then◌else◌}
 use Rattle.std.specs.List.{flat_map, filter}
 use Rattle.il_base.specs.declared.world_model.record.AsmRec.{AsmRec}

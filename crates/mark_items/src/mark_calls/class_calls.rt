@@ -1,4 +1,4 @@
-//! What a class slot may run (II.10.3), for types that are instantiated and for those that have to have a method for it.
+//! The methods that a class slot may run (II.10.3), for instantiated types, and for types that must have a method for it.
 
 ghost use Rattle.std.specs.Prelude.{◌≡◌, ◌++◌, IfOk, OnOk};
 ghost use Rattle.std.specs.List.{list_any};
@@ -43,7 +43,7 @@ pub(crate) fn open_type(all: &[AsmRec], at: RowAt) -> Result<TypeExpr, NoMemory>
     Ok(TypeExpr::Def(id))
 }
 
-/// What a type answers a slot with.
+/// The method with which a type answers a slot.
 fn dispatched(
     alloc: Global,
     marker: &Marker<'_>,
@@ -60,7 +60,7 @@ fn dispatched(
     Ok(found)
 }
 
-/// The answer of a class slot from a type, the type's parameters left open; None for a method that is no class slot.
+/// The method with which a type, its parameters left open, answers a class slot; None for a method that is no class slot.
 #[tactic(auto, unfolding(rules::specs::mark_rules::Calls::class_answer))]
 fn class_answer(
     alloc: Global,
@@ -82,7 +82,7 @@ fn class_answer(
     dispatched(alloc, marker, slots, t, b)
 }
 
-/// Puts at the end what a class slot runs for an instantiated type.
+/// Marks the method that a class slot runs for an instantiated type.
 #[tactic(auto, unfolding(rules::specs::mark_rules::Calls::class_runs))]
 pub fn add_class_runs(
     alloc: Global,
@@ -110,7 +110,7 @@ fn is_concrete(t: &TypeDefRow) -> bool
     !has_type_flag(t.flags, type_flags::ABSTRACT) && !has_type_flag(t.flags, type_flags::INTERFACE)
 }
 
-/// Abstract, of a method's flags (II.23.1.10).
+/// Whether a method is abstract, by its flags (II.23.1.10).
 fn is_abstract_method(m: &MethodDefRow) -> bool
     ensures { result ≡ is_abstract_method m.now }
 {
@@ -147,7 +147,7 @@ pub(crate) fn answers_abstract(marker: &Marker<'_>, t: RowAt, b: RowAt) -> bool
     is_concrete_at(marker.tables.world.recs.as_slice(), t) && is_abstract_at(marker, b)
 }
 
-/// Puts at the end what a marked type has for an abstract class slot (II.10.1.4).
+/// Marks the method that a marked type has for an abstract class slot (II.10.1.4).
 #[tactic(auto, unfolding(rules::specs::mark_rules::Calls::class_fills), using(crate::proofs::lemmas::mark_calls::Lists::none_more))]
 pub fn add_class_fills(
     alloc: Global,

@@ -53,7 +53,7 @@ fn add_declaration(
     }
 }
 
-/// Marks what a row whose body is the method names: body and declaration.
+/// Marks the body and the declaration of a row whose body is the method.
 #[tactic(auto, using(crate::proofs::lemmas::mark_calls::Lists::two_put))]
 fn add_both(
     marker: &Marker<'_>,
@@ -71,7 +71,7 @@ fn add_both(
     add_declaration(marker, asm, rec, row, facts)
 }
 
-/// Marks what a row names, where its body is the method.
+/// Marks the body and the declaration of a row, where its body is the method.
 #[tactic(auto, using(crate::proofs::lemmas::mark_calls::Lists::none_more))]
 fn add_row(
     marker: &Marker<'_>,
@@ -95,7 +95,7 @@ fn add_row(
     Ok(())
 }
 
-/// Marks what a row of an assembly, by its number from 0, names, where its body is the method.
+/// Marks the body and the declaration of a row of an assembly, by its number from 0, where its body is the method.
 fn add_numbered(
     marker: &Marker<'_>,
     at: RowAt,
@@ -114,7 +114,7 @@ fn add_numbered(
     }
 }
 
-/// Marks what these rows of an assembly name whose body is the method.
+/// Marks the bodies and declarations of those of these rows of an assembly whose body is the method.
 fn add_among(
     marker: &Marker<'_>,
     at: RowAt,
@@ -133,7 +133,7 @@ fn add_among(
     Ok(())
 }
 
-/// Marks what the rows of an assembly name whose body is the method, by the numbers of their bodies.
+/// Marks the bodies and declarations of the rows of an assembly whose body is the method; the rows are found by their bodies.
 fn add_rows(
     marker: &Marker<'_>,
     at: RowAt,
@@ -154,7 +154,7 @@ fn add_rows(
     Ok(())
 }
 
-/// Puts what the rows of all assemblies name whose body is a method at the end.
+/// Marks the bodies and declarations of the rows of all assemblies whose body is the method.
 pub(crate) fn add_declared(
     marker: &Marker<'_>,
     at: RowAt,

@@ -76,7 +76,7 @@ fn is_base_of(alloc: Global, marker: &Marker<'_>, c: RowAt, t: RowAt) -> Result<
     is_among_bases(alloc, marker, c, start)
 }
 
-/// Puts what a type and its bases have for a slot in an instance at the end.
+/// Adds the method that a type, or the nearest of its bases, has for a slot in an interface instance.
 fn add_from_choice(
     alloc: Global,
     marker: &Marker<'_>,
@@ -101,7 +101,7 @@ fn add_from_choice(
     }
 }
 
-/// Puts what the search finds for an instance of the slot's interface at the end.
+/// Adds the methods that the search finds for an instance of the slot's interface.
 fn add_with(
     alloc: Global,
     marker: &Marker<'_>,
@@ -128,7 +128,7 @@ fn add_with(
     add_from_choice(alloc, marker, slots, b, m, signature, &choice, found)
 }
 
-/// Puts what the search finds for these instances at the end.
+/// Adds the methods that the search finds for these instances.
 fn add_all_with(
     alloc: Global,
     marker: &Marker<'_>,
@@ -151,7 +151,7 @@ fn add_all_with(
     Ok(())
 }
 
-/// Puts what the search finds from a type for each instance that an interface row is or implies at the end, for a slot of
+/// Adds the methods that the search finds from a type for each instance that an interface row is or implies, for a slot of
 /// this owner.
 fn add_by(
     alloc: Global,
@@ -184,7 +184,7 @@ fn add_by(
     )
 }
 
-/// Puts what the search finds from a type for each instance that an interface row is or implies at the end.
+/// Adds the methods that the search finds from a type for each instance that an interface row is or implies.
 #[tactic(auto, using(crate::proofs::lemmas::mark_calls::Lists::none_more))]
 fn add_for(
     alloc: Global,
@@ -208,7 +208,7 @@ fn add_for(
     add_by(alloc, marker, slots, b, c, owner, m, e, found)
 }
 
-/// Puts what the search finds for an interface row that names this type at the end, from the row's class.
+/// Adds the methods that the search finds for an interface row that names this type, from the row's class.
 #[tactic(auto, using(crate::proofs::lemmas::mark_calls::Lists::none_more))]
 fn add_named(
     alloc: Global,
@@ -232,7 +232,7 @@ fn add_named(
     add_for(alloc, marker, slots, b, &open, e, found)
 }
 
-/// Puts what the search finds for an interface row at the end, from the row's class.
+/// Adds the methods that the search finds for an interface row, from the row's class.
 fn add_row(
     alloc: Global,
     marker: &Marker<'_>,
@@ -258,7 +258,7 @@ fn add_row(
     }
 }
 
-/// Puts what the search finds for an interface row of a type or of one of its bases at the end.
+/// Adds the methods that the search finds for an interface row of a type or of one of its bases.
 fn add_searched(
     alloc: Global,
     marker: &Marker<'_>,

@@ -19,7 +19,7 @@ use type_tables::member_search::bases::{definition, is_interface};
 use virtual_calls::impls::same_row;
 use virtual_calls::nearest::type_count;
 
-/// Puts the definition of an interface at the end; any other type adds nothing.
+/// Adds the definition of an interface; any other type adds nothing.
 fn add_interface(all: &[AsmRec], ty: &TypeExpr, rows: &mut Vec<RowAt>) -> Result<(), NoMemory>
     ensures { OnOk result (rows.new.items ≡ rows.old.items ++ interface_home all.now ty.now) }
 {
@@ -36,7 +36,7 @@ fn add_interface(all: &[AsmRec], ty: &TypeExpr, rows: &mut Vec<RowAt>) -> Result
     }
 }
 
-/// Puts the definition of the interface that a row, from 0, names at the end.
+/// Adds the definition of the interface that a row, from 0, names.
 fn add_row(asm: &Assembly<'_>, k: u32, rows: &mut Vec<RowAt>) -> Result<(), NoMemory>
     requires { IsAssembly asm.now }
     ensures { OnOk result (rows.new.items ≡ rows.old.items ++ option_map_or (definition_in (recs_of asm.now) (place_of asm.now) (rec_of asm.now)) (slice_get (rec_of asm.now).interface_impl k) []) }
@@ -50,7 +50,7 @@ fn add_row(asm: &Assembly<'_>, k: u32, rows: &mut Vec<RowAt>) -> Result<(), NoMe
     }
 }
 
-/// Puts the definitions of the interfaces that these rows, from 0, name at the end.
+/// Adds the definitions of the interfaces that these rows, from 0, name.
 fn add_rows(asm: &Assembly<'_>, ks: &[u32], rows: &mut Vec<RowAt>) -> Result<(), NoMemory>
     requires { IsAssembly asm.now }
     ensures { OnOk result (rows.new.items ≡ rows.old.items ++ flat_map (λ k. option_map_or (definition_in (recs_of asm.now) (place_of asm.now) (rec_of asm.now)) (slice_get (rec_of asm.now).interface_impl k) []) ks.now) }
@@ -61,7 +61,7 @@ fn add_rows(asm: &Assembly<'_>, ks: &[u32], rows: &mut Vec<RowAt>) -> Result<(),
     Ok(())
 }
 
-/// Puts the definitions of the interfaces that a type's rows name at the end.
+/// Adds the definitions of the interfaces that a type's rows name.
 fn add_interfaces(marker: &Marker<'_>, at: RowAt, rows: &mut Vec<RowAt>) -> Result<(), NoMemory>
     requires { IsMarker marker.now }
     ensures { OnOk result (rows.new.items ≡ rows.old.items ++ interface_rows (all_of marker.now) at) }
@@ -75,7 +75,7 @@ fn add_interfaces(marker: &Marker<'_>, at: RowAt, rows: &mut Vec<RowAt>) -> Resu
     Ok(())
 }
 
-/// What one step from some types leads to, one after the other.
+/// The definitions one step from some types, those of each type in order.
 fn led_by(alloc: Global, marker: &Marker<'_>, types: &[RowAt]) -> Result<Vec<RowAt>, NoMemory>
     requires { IsMarker marker.now }
     ensures { IfOk result (λ led. led.items ≡ flat_map (interface_rows (all_of marker.now)) types.now) }
@@ -94,7 +94,7 @@ pub(crate) fn is_among(rows: &[RowAt], at: RowAt) -> bool
     rows.iter().any(|other| same_row(at, *other))
 }
 
-/// Puts a row at the end, where it isn't among them.
+/// Adds a row, where it isn't among them.
 fn add_new(found: &mut Vec<RowAt>, at: RowAt) -> Result<(), NoMemory>
     ensures { OnOk result (found.new.items ≡ add_new same_row found.old.items at) }
 {
@@ -105,7 +105,7 @@ fn add_new(found: &mut Vec<RowAt>, at: RowAt) -> Result<(), NoMemory>
     Ok(())
 }
 
-/// Puts some rows at the end, each where it isn't among them.
+/// Adds some rows, each where it isn't among them.
 fn add_all(found: &mut Vec<RowAt>, rows: &[RowAt]) -> Result<(), NoMemory>
     ensures { OnOk result (found.new.items ≡ add_all same_row found.old.items rows.now) }
 {
@@ -115,7 +115,7 @@ fn add_all(found: &mut Vec<RowAt>, rows: &[RowAt]) -> Result<(), NoMemory>
     Ok(())
 }
 
-/// Puts what the types from a place on lead to at the end, where it isn't among them.
+/// Adds the definitions one step from those at `start` and after it, where they aren't there yet.
 fn add_round(
     alloc: Global,
     marker: &Marker<'_>,
@@ -131,7 +131,7 @@ fn add_round(
     Ok(())
 }
 
-/// What a type leads to in at most so many steps, itself first. It ends as soon as a round finds nothing new.
+/// All definitions reachable from a type in at most `steps` steps, itself first. The search ends as soon as a round finds nothing new.
 fn led_to(
     alloc: Global,
     marker: &Marker<'_>,

@@ -1,4 +1,4 @@
-//! What an interface slot may run (II.12.2), for types that are instantiated and for those that have to have a method for it.
+//! The methods that an interface slot may run (II.12.2), for instantiated types, and for types that must have a method for it.
 
 ghost use Rattle.std.specs.Prelude.{◌≡◌, ◌++◌, map, IfOk, OnOk};
 ghost use Rattle.std.specs.List.{flat_map};
@@ -24,7 +24,7 @@ use std::alloc::Global;
 use virtual_calls::class_slots::class_dispatch;
 use virtual_calls::slots::{Slots, slot_of_method};
 
-/// What a type answers the slot of a method with.
+/// The method with which a type answers the slot of a method.
 fn dispatched_from(
     alloc: Global,
     marker: &Marker<'_>,
@@ -43,7 +43,7 @@ fn dispatched_from(
     class_dispatch(alloc, &marker.tables, slots, &open, slot)
 }
 
-/// Puts what a type answers the slot of a method with at the end.
+/// Adds the method with which a type answers the slot of a method.
 fn add_dispatched(
     alloc: Global,
     marker: &Marker<'_>,
@@ -66,7 +66,7 @@ fn add_dispatched(
     }
 }
 
-/// What a type answers the slots of these methods with.
+/// The methods with which a type answers the slots of these methods.
 fn all_dispatched(
     alloc: Global,
     marker: &Marker<'_>,
@@ -95,8 +95,8 @@ fn mark_methods(all: &[AsmRec], rows: &[RowAt], facts: &mut Facts) -> Result<(),
     Ok(())
 }
 
-/// Puts at the end what an interface slot runs for an instantiated type by way of a marked interface row: what the search
-/// finds first, and what the type dispatches that to.
+/// Marks the methods that an interface slot runs for an instantiated type through a marked interface row: those that the search
+/// finds first, and those with which the type answers their slots.
 #[tactic(auto, unfolding(rules::specs::mark_rules::Calls::interface_runs), using(crate::proofs::lemmas::mark_calls::Lists::both_mapped))]
 pub fn add_interface_runs(
     alloc: Global,
@@ -118,7 +118,7 @@ pub fn add_interface_runs(
     mark_methods(all, then.as_slice(), facts)
 }
 
-/// Marks what a type answers an interface slot with by way of an interface row.
+/// Marks the methods with which a type answers an interface slot through an interface row.
 fn add_answers(
     alloc: Global,
     marker: &Marker<'_>,
@@ -137,7 +137,7 @@ fn add_answers(
     mark_methods(marker.tables.world.recs.as_slice(), then.as_slice(), facts)
 }
 
-/// Puts at the end what a marked type has for an abstract interface slot by way of a marked interface row (II.10.1.4).
+/// Marks the methods that a marked type has for an abstract interface slot through a marked interface row (II.10.1.4).
 #[tactic(auto, unfolding(rules::specs::mark_rules::Calls::interface_fills), using(crate::proofs::lemmas::mark_calls::Lists::none_more))]
 pub fn add_interface_fills(
     alloc: Global,

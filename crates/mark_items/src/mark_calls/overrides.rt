@@ -41,7 +41,7 @@ fn add_overridden(
     }
 }
 
-/// Marks what a method in a row overrides by name.
+/// Marks the nearest inherited method that the method in a row overrides by name.
 #[tactic(auto, using(crate::proofs::lemmas::mark_calls::Lists::none_more))]
 fn add_overridden_at(
     alloc: Global,
@@ -58,8 +58,8 @@ fn add_overridden_at(
     }
 }
 
-/// Puts what a marked method overrides at the end: the nearest inherited method that it overrides by name, and the declaration
-/// of each MethodImpl row of any class whose body it is.
+/// Marks the methods that a marked method overrides: the nearest inherited method by name, and the declaration of each MethodImpl
+/// row of any class whose body it is.
 #[tactic(auto, unfolding(rules::specs::mark_rules::Calls::overrides_of), using(crate::proofs::lemmas::mark_calls::Lists::two_put))]
 pub fn add_overrides(
     alloc: Global,

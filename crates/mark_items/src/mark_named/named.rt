@@ -1,4 +1,4 @@
-//! What the named arguments of an attribute mark (II.23.3).
+//! The fields and setters that the named arguments of an attribute mark (II.23.3).
 
 ghost use Rattle.std.specs.Prelude.{◌≡◌, ◌++◌, ◌∷◌, OnOk};
 ghost use Rattle.std.specs.List.{flat_map};
@@ -92,7 +92,7 @@ fn add_member(
     }
 }
 
-/// Puts the fields and setters that named arguments set at the end, each with the type in which it was found.
+/// Adds the fields and setters that named arguments set, each with the type in which it was found.
 pub fn add_members(
     alloc: Global,
     marker: &Marker<'_>,

@@ -1,4 +1,4 @@
-//! Which types the instructions of a method make and show (III.4.21).
+//! The types that the instructions of a method make and show (III.4.21).
 
 ghost use Rattle.std.specs.Prelude.{◌≡◌, ◌++◌, map, OnOk};
 ghost use Rattle.std.specs.List.{flat_map};
@@ -66,7 +66,7 @@ fn make_named(asm: &Assembly<'_>, token: u32, facts: &mut Facts) -> Result<(), N
     }
 }
 
-/// Makes the type instantiated that a token makes.
+/// Makes a type instantiated: the one of which the token's instruction makes objects.
 #[tactic(auto, unfolding(crate::specs::mark_needs::Forms::made_as))]
 fn make_as(asm: &Assembly<'_>, shows: Shows, token: u32, facts: &mut Facts) -> Result<(), NoMemory>
     requires { IsAssembly asm.now }
@@ -81,7 +81,7 @@ fn make_as(asm: &Assembly<'_>, shows: Shows, token: u32, facts: &mut Facts) -> R
     }
 }
 
-/// Makes the type instantiated that an instruction with a token makes.
+/// Makes a type instantiated: the one of which an instruction with a token makes objects.
 fn make_by(asm: &Assembly<'_>, form: Form, token: u32, facts: &mut Facts) -> Result<(), NoMemory>
     requires { IsAssembly asm.now }
     ensures { OnOk result (facts.new ≡ facts.old ++ makes_by (recs_of asm.now) (place_of asm.now) (rec_of asm.now) form (Operand.Token token)) }
@@ -91,7 +91,7 @@ fn make_by(asm: &Assembly<'_>, form: Form, token: u32, facts: &mut Facts) -> Res
     Ok(())
 }
 
-/// Makes the type instantiated that an instruction makes.
+/// Makes a type instantiated: the one of which an instruction makes objects.
 #[tactic(auto, using(crate::proofs::lemmas::mark_needs::FormCases::tokenless, crate::proofs::lemmas::mark_needs::Lists::none_more))]
 fn make_instruction(asm: &Assembly<'_>, instr: &Instr, facts: &mut Facts) -> Result<(), NoMemory>
     requires { IsAssembly asm.now }
@@ -107,7 +107,7 @@ fn make_instruction(asm: &Assembly<'_>, instr: &Instr, facts: &mut Facts) -> Res
     }
 }
 
-/// Makes the types instantiated that a method makes.
+/// Makes the types instantiated of which a method's code makes objects.
 fn make_in(asm: &Assembly<'_>, m: &MethodDefRow, facts: &mut Facts) -> Result<(), NoMemory>
     requires { IsAssembly asm.now }
     ensures { OnOk result (facts.new ≡ facts.old ++ made_in (recs_of asm.now) (place_of asm.now) (rec_of asm.now) m.now) }
@@ -118,7 +118,7 @@ fn make_in(asm: &Assembly<'_>, m: &MethodDefRow, facts: &mut Facts) -> Result<()
     Ok(())
 }
 
-/// Puts the types that a marked method makes at the end.
+/// Adds the types that a marked method makes.
 #[tactic(auto, unfolding(rules::specs::mark_rules::Calls::makes), using(crate::proofs::lemmas::mark_needs::Lists::none_more))]
 pub fn add_makes(marker: &Marker<'_>, at: RowAt, facts: &mut Facts) -> Result<(), NoMemory>
     requires { IsMarker marker.now }
@@ -170,7 +170,7 @@ fn show_handled(asm: &Assembly<'_>, token: u32, facts: &mut Facts) -> Result<(),
     show_type(asm, token, facts)
 }
 
-/// Shows what a token shows.
+/// Shows the type that the token of an instruction shows.
 #[tactic(auto, unfolding(crate::specs::mark_needs::Forms::shown_as))]
 fn show_as(
     asm: &Assembly<'_>,
@@ -197,7 +197,7 @@ fn show_as(
     }
 }
 
-/// Shows what an instruction with a token shows.
+/// Shows the type that an instruction with a token shows.
 fn show_by(
     asm: &Assembly<'_>,
     code: u16,
@@ -213,7 +213,7 @@ fn show_by(
     Ok(())
 }
 
-/// Shows what an instruction shows.
+/// Shows the type that an instruction shows.
 #[tactic(auto, using(crate::proofs::lemmas::mark_needs::Lists::none_more))]
 fn show_instruction(asm: &Assembly<'_>, instr: &Instr, facts: &mut Facts) -> Result<(), NoMemory>
     requires { IsAssembly asm.now }
@@ -229,7 +229,7 @@ fn show_instruction(asm: &Assembly<'_>, instr: &Instr, facts: &mut Facts) -> Res
     }
 }
 
-/// Shows what the instructions of a method show.
+/// Shows the types that the instructions of a method show.
 pub(crate) fn show_code(
     asm: &Assembly<'_>,
     m: &MethodDefRow,

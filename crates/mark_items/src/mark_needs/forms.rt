@@ -1,11 +1,11 @@
-//! Which type an instruction makes or shows, by its form.
+//! The type that an instruction makes or shows, by its form.
 
 ghost use Rattle.std.specs.Prelude.{◌≡◌};
 ghost use Rattle.mark_items.specs.mark_needs.Forms.{shows_of};
 
 use il_base::Form;
 
-/// What the token of an instruction shows.
+/// The type that the token of an instruction shows.
 #[derive(Clone, Copy, Debug, PartialEq, Eq)]
 pub enum Shows {
     /// The owner of a method, which `newobj` makes.
@@ -19,7 +19,7 @@ pub enum Shows {
     Nothing,
 }
 
-/// What the token of an instruction of this form shows.
+/// The type that the token of an instruction of this form shows.
 #[tactic(auto, unfolding(crate::specs::mark_needs::Forms::shows_of))]
 pub fn shows_of(form: Form) -> Shows
     ensures { result ≡ shows_of form }

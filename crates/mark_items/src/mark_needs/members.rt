@@ -1,4 +1,4 @@
-//! What a marked property or event needs, and what a method is an accessor of (II.22.28, II.22.34, II.22.13).
+//! The needs of a marked property or event, and the property or event of an accessor (II.22.28, II.22.34, II.22.13).
 
 ghost use Rattle.std.specs.Prelude.{◌≡◌, ◌++◌, [], slice_get, OnOk};
 ghost use Rattle.std.specs.List.{flat_map};
@@ -44,7 +44,7 @@ fn add_event_owner(marker: &Marker<'_>, at: RowAt, facts: &mut Facts) -> Result<
     mark_owner(marker.tables.world.recs.as_slice(), at.asm, owner, facts)
 }
 
-/// Puts what a marked property needs at the end: its type, and the types of its signature.
+/// Adds the needs of a marked property: its type, and the types of its signature.
 #[tactic(auto, unfolding(rules::specs::mark_rules::Properties::property_needs), using(crate::proofs::lemmas::mark_needs::Lists::two_put))]
 pub fn add_property_needs(
     alloc: Global,
@@ -61,7 +61,7 @@ pub fn add_property_needs(
     parts.mark(facts)
 }
 
-/// Puts what a marked event needs at the end: its type, and its event type.
+/// Adds the needs of a marked event: its type, and its event type.
 #[tactic(auto, unfolding(rules::specs::mark_rules::Properties::event_needs), using(crate::proofs::lemmas::mark_needs::Lists::two_put))]
 pub fn add_event_needs(
     alloc: Global,
@@ -116,7 +116,7 @@ fn mark_event(
     }
 }
 
-/// Marks what a row of MethodSemantics, from 0, has its method for.
+/// Marks the property or event in a row, from 0, of MethodSemantics.
 #[tactic(auto, using(crate::proofs::lemmas::mark_needs::Lists::two_put))]
 fn mark_association(
     all: &[AsmRec],
@@ -136,7 +136,7 @@ fn mark_association(
     }
 }
 
-/// Marks what rows of MethodSemantics, from 0, have their methods for.
+/// Marks the properties and events in rows, from 0, of MethodSemantics.
 fn mark_associations(
     all: &[AsmRec],
     rec: &AsmRec,

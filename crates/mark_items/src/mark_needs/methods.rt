@@ -1,4 +1,4 @@
-//! What a marked method needs of its type and its parts, and the initializers that methods and static fields need.
+//! The needs of a marked method: its type and its parts; and the initializers that methods and static fields need.
 
 ghost use Rattle.std.specs.Prelude.{◌≡◌, ◌++◌, Some, OnOk};
 ghost use Rattle.rules.specs.link_rules.Cycles.{is_static_field};
@@ -29,7 +29,7 @@ fn add_owner(marker: &Marker<'_>, at: RowAt, facts: &mut Facts) -> Result<(), No
     }
 }
 
-/// Puts what a marked method needs at the end: its type, and what its signature, constraints and body name.
+/// Adds the needs of a marked method: its type, and what its signature, constraints and body name.
 #[tactic(auto, unfolding(rules::specs::mark_rules::Calls::method_needs), using(crate::proofs::lemmas::mark_needs::Lists::two_put))]
 pub fn add_method_needs(
     alloc: Global,
@@ -63,7 +63,7 @@ fn add_initializer(
     }
 }
 
-/// Puts the initializer of a marked method's type at the end.
+/// Adds the initializer of a marked method's type.
 #[tactic(auto, unfolding(rules::specs::mark_rules::Calls::method_starts))]
 pub fn add_method_starts(
     alloc: Global,
@@ -81,14 +81,14 @@ pub fn add_method_starts(
     }
 }
 
-/// Static, of a field's flags (II.23.1.5).
+/// Whether a field is static, by its flags (II.23.1.5).
 fn is_static_field(f: &FieldRow) -> bool
     ensures { result ≡ is_static_field f.now }
 {
     has_flag(f.flags, field_flags::STATIC)
 }
 
-/// Puts the initializer of a marked static field's type at the end.
+/// Adds the initializer of a marked static field's type.
 #[tactic(auto, unfolding(rules::specs::mark_rules::Calls::field_starts))]
 pub fn add_field_starts(
     alloc: Global,

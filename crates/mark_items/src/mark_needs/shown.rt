@@ -1,4 +1,4 @@
-//! Which types a marked item shows, and the encloser that a shown type shows.
+//! The types that a marked item shows, and the encloser that a shown type shows.
 
 ghost use Rattle.std.specs.Prelude.{◌≡◌, ◌++◌, map, OnOk};
 ghost use Rattle.std.specs.List.{flat_map};
@@ -26,7 +26,7 @@ use rules::link_rules::RowAt;
 use std::alloc::Global;
 use type_tables::member_search::homes::type_home;
 
-/// Puts the parts of an item in which a generic argument is shown at the end.
+/// Adds the parts of an item in which a generic argument is shown.
 #[tactic(auto, using(crate::proofs::lemmas::mark_needs::Lists::none_more))]
 fn add_showing_parts(
     alloc: Global,
@@ -49,7 +49,7 @@ fn add_showing_parts(
     }
 }
 
-/// Shows what the code of a method shows.
+/// Shows the types that the code of a method shows.
 fn show_method(marker: &Marker<'_>, at: RowAt, facts: &mut Facts) -> Result<(), NoMemory>
     requires { IsMarker marker.now }
     ensures { OnOk result (facts.new ≡ facts.old ++ map shown (shown_by_method (all_of marker.now) at)) }
@@ -63,7 +63,7 @@ fn show_method(marker: &Marker<'_>, at: RowAt, facts: &mut Facts) -> Result<(), 
     show_code(&asm, m, facts)
 }
 
-/// Shows what the code of an item shows, where it is a method.
+/// Shows the types that the code of an item shows, where it is a method.
 fn show_by_item(
     marker: &Marker<'_>,
     item: Item,
@@ -84,7 +84,7 @@ fn show_by_item(
     }
 }
 
-/// Puts what an item in a row shows at the end.
+/// Adds the types that an item in a row shows.
 #[tactic(auto, using(crate::proofs::lemmas::mark_needs::Lists::both_mapped))]
 fn add_shows(
     alloc: Global,
@@ -102,7 +102,7 @@ fn add_shows(
     show_by_item(marker, item, at, facts)
 }
 
-/// Puts what a marked item shows at the end: generic arguments, and the types that its code makes, boxes or has handles of.
+/// Adds the types that a marked item shows: generic arguments, and the types that its code makes, boxes or has handles of.
 #[tactic(auto, unfolding(rules::specs::mark_rules::Shown::item_shows), using(crate::proofs::lemmas::mark_needs::Lists::none_more))]
 pub fn add_item_shows(
     alloc: Global,
@@ -150,7 +150,7 @@ fn add_encloser(marker: &Marker<'_>, at: RowAt, facts: &mut Facts) -> Result<(),
     show_encloser(marker.tables.world.recs.as_slice(), at.asm, around, facts)
 }
 
-/// Puts what a shown type shows at the end: its encloser.
+/// Adds the types that a shown type shows: its encloser.
 #[tactic(auto, unfolding(rules::specs::mark_rules::Shown::encloser_shown), using(crate::proofs::lemmas::mark_needs::Lists::none_more))]
 pub fn add_encloser_shown(
     marker: &Marker<'_>,

@@ -1,4 +1,4 @@
-//! What a marked type, field or interface row needs (II.22.37, II.22.15, II.22.23).
+//! The needs of a marked type, field or interface row (II.22.37, II.22.15, II.22.23).
 
 ghost use Rattle.std.specs.Prelude.{◌≡◌, ◌++◌, ◌∷◌, [], map, OnOk};
 ghost use Rattle.std.specs.List.{flat_map, filter};
@@ -50,7 +50,7 @@ fn add_encloser(marker: &Marker<'_>, at: RowAt, facts: &mut Facts) -> Result<(),
     mark_owner(marker.tables.world.recs.as_slice(), at.asm, around, facts)
 }
 
-/// Puts what a marked type needs at the end: its encloser, what its Extends names, and the constraints of its parameters.
+/// Adds the needs of a marked type: its encloser, what its Extends names, and the constraints of its parameters.
 #[tactic(auto, unfolding(rules::specs::mark_rules::Types::type_needs), using(crate::proofs::lemmas::mark_needs::Lists::two_put))]
 pub fn add_type_needs(
     alloc: Global,
@@ -132,7 +132,7 @@ fn add_layout(
     mark_fields(all, with_static, rows.as_slice(), facts)
 }
 
-/// Puts what the layout of a marked value type needs at the end (II.13, II.14.3).
+/// Adds the needs of the layout of a marked value type (II.13, II.14.3).
 #[tactic(auto, unfolding(rules::specs::mark_rules::Types::layout_needs))]
 pub fn add_layout_needs(
     alloc: Global,
@@ -162,7 +162,7 @@ fn add_field_owner(marker: &Marker<'_>, at: RowAt, facts: &mut Facts) -> Result<
     mark_owner(marker.tables.world.recs.as_slice(), at.asm, owner, facts)
 }
 
-/// Puts what a marked field needs at the end: its type, and what its signature names.
+/// Adds the needs of a marked field: its type, and what its signature names.
 #[tactic(auto, unfolding(rules::specs::mark_rules::Types::field_needs), using(crate::proofs::lemmas::mark_needs::Lists::two_put))]
 pub fn add_field_needs(
     alloc: Global,
@@ -179,7 +179,7 @@ pub fn add_field_needs(
     parts.mark(facts)
 }
 
-/// Puts what a marked interface row needs at the end: the interface that it names.
+/// Adds the needs of a marked interface row: the interface that it names.
 #[tactic(auto, unfolding(rules::specs::mark_rules::Types::impl_needs))]
 pub fn add_impl_needs(
     alloc: Global,

@@ -1,4 +1,4 @@
-//! What a marked item in a row needs.
+//! The needs of a marked item in a row.
 
 ghost use Rattle.std.specs.Prelude.{◌≡◌, ◌++◌, OnOk};
 ghost use Rattle.rules.specs.mark_rules.Marking.{row_needs};
@@ -16,7 +16,7 @@ use mark_parts::mark_tables::marker::Marker;
 use rules::link_rules::RowAt;
 use std::alloc::Global;
 
-/// Puts what a marked type in a row needs at the end.
+/// Adds the needs of a marked type in a row.
 #[tactic(auto, using(crate::proofs::lemmas::mark_steps::Lists::two_put))]
 fn add_type(
     alloc: Global,
@@ -31,7 +31,7 @@ fn add_type(
     add_layout_needs(alloc, marker, at, facts)
 }
 
-/// Puts what a marked method in a row makes, overrides, and has to have initialized at the end.
+/// Adds the facts on the types that a marked method makes, the methods that it overrides, and the initializer of its type.
 #[tactic(auto, using(crate::proofs::lemmas::mark_steps::Lists::two_put))]
 fn add_calls(
     alloc: Global,
@@ -47,7 +47,7 @@ fn add_calls(
     add_overrides(alloc, marker, at, facts)
 }
 
-/// Puts what a marked method in a row needs at the end.
+/// Adds the needs of a marked method in a row.
 #[tactic(auto, using(crate::proofs::lemmas::mark_steps::Lists::two_put))]
 fn add_method(
     alloc: Global,
@@ -63,7 +63,7 @@ fn add_method(
     add_accessed(marker, at, facts)
 }
 
-/// Puts what a marked field in a row needs at the end.
+/// Adds the needs of a marked field in a row.
 #[tactic(auto, using(crate::proofs::lemmas::mark_steps::Lists::two_put))]
 fn add_field(
     alloc: Global,
@@ -78,8 +78,7 @@ fn add_field(
     add_field_starts(alloc, marker, at, facts)
 }
 
-/// Puts what a marked item in a row needs at the end; its attributes, its dependencies and what descriptors keep with it aren't
-/// part of it.
+/// Adds the needs of a marked item in a row, without those of its attributes, its dependencies and descriptors.
 #[tactic(auto, using(crate::proofs::lemmas::mark_steps::Lists::none_more))]
 pub fn add_row_needs(
     alloc: Global,

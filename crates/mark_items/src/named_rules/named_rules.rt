@@ -10,8 +10,7 @@ use mark_parts::mark_facts::facts::Facts;
 use rules::link_rules::RowAt;
 use std::alloc::Global;
 
-/// The rules of marking on attributes, on dependencies and on what descriptors keep, for a world and the elements of
-/// descriptors.
+/// The rules of marking on attributes, dependencies and descriptors, for a world and the elements of descriptors.
 pub trait NamedRules {
     // the assemblies of the world
     ghost recs_of: { Self → List AsmRec };
@@ -19,19 +18,19 @@ pub trait NamedRules {
     // the elements of descriptors
     ghost roots_of: { Self → List Root };
 
-    /// Puts what the attributes of a marked item need at the end (II.22.10).
+    /// Adds the needs of the attributes of a marked item (II.22.10).
     fn add_attributes(&self, alloc: Global, item: Item, facts: &mut Facts) -> Result<(), NoMemory>
         ensures { OnOk result (facts.new ≡ facts.old ++ attribute_needs (recs_of self.now) item) };
 
-    /// Puts what the dependencies of a marked item need at the end.
+    /// Adds the needs of the dependencies of a marked item.
     fn add_dependencies(&self, alloc: Global, item: Item, facts: &mut Facts) -> Result<(), NoMemory>
         ensures { OnOk result (facts.new ≡ facts.old ++ dependency_needs (recs_of self.now) item) };
 
-    /// Puts what descriptors keep where an item is marked at the end.
+    /// Adds the facts that descriptors give once an item is marked.
     fn add_waiting(&self, alloc: Global, item: Item, facts: &mut Facts) -> Result<(), NoMemory>
         ensures { OnOk result (facts.new ≡ facts.old ++ waiting_facts (recs_of self.now) (roots_of self.now) item) };
 
-    /// Puts the facts that hold at the start at the end, from an entry method by its row.
+    /// Adds the facts that hold at the start, from an entry method by its row.
     fn add_start(
         &self,
         alloc: Global,

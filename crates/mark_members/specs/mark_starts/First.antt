@@ -1,4 +1,4 @@
--- What is marked first.
+-- The items that are marked first.
 use Rattle.std.specs.Prelude.{List, ◌∷◌, ◌++◌, map, Option}
 use Rattle.il_base.specs.declared.ids.Item.TheVariants as item
 use Rattle.il_base.specs.declared.world_model.record.AsmRec.{AsmRec}
@@ -10,7 +10,7 @@ use Rattle.rules.specs.mark_rules.Facts.Fact.{marked}
 use Rattle.rules.specs.mark_rules.Places.{marks_method}
 use Rattle.rules.specs.mark_rules.Roots.{module_facts, entry_facts}
 
--- a method that a type's run has
+-- a method is marked, where it is in a type's run
 abbrev pub method_facts : List AsmRec → RowAt → List Fact
 method_facts recs at = map (λ t. marks_method recs at) (listed (type_of_method recs at))
 

@@ -1,11 +1,11 @@
-//! Which kinds flags name, and which members they count (II.23.1.5, II.23.1.10).
+//! The kinds that flags name, and the members that they name (II.23.1.5, II.23.1.10).
 
 ghost use Rattle.std.specs.Prelude.{◌≡◌, ◌<◌};
 ghost use Rattle.rules.specs.mark_rules.Members.{is_public_access, is_private_access, counts, pair};
 
 use il_base::{access_of, has_type_flag, method_flags};
 
-/// Of two kinds, the public one and the other, which of them flags name: as bits 1 and 2.
+/// Two kinds, the public one and the other, as bits 1 and 2: whether flags name them.
 pub(crate) fn pair(kinds: u32, public: u32, other: u32) -> u32
     requires public { 0 < public }
     requires other { 0 < other }
@@ -28,8 +28,8 @@ pub(crate) fn is_private_access(flags: u16) -> bool
     access_of(flags) == method_flags::PRIVATE
 }
 
-/// Whether a member of the type itself, or of one of its bases, counts: a public one by bit 1 of two, another one by bit 2, where
-/// private ones of bases don't.
+/// Whether a member of the type itself, or of one of its bases, counts: a public one by bit 1 of `two`, another one by bit 2.
+/// Private members of bases never count.
 pub(crate) fn counts(own: bool, two: u32, flags: u16) -> bool
     ensures { result ≡ counts own two flags }
 {

@@ -30,7 +30,7 @@ fn field_counts_at(all: &[AsmRec], own: bool, two: u32, at: RowAt) -> bool
     }
 }
 
-/// Puts those of these fields that count at the end.
+/// Adds those of these fields that count.
 fn add_counted(
     all: &[AsmRec],
     own: bool,
@@ -48,7 +48,7 @@ fn add_counted(
     Ok(())
 }
 
-/// Puts the fields of a type, or of one of its bases, that count at the end.
+/// Adds the fields of a type, or of one of its bases, that count.
 fn add_fields_from(
     alloc: Global,
     marker: &Marker<'_>,

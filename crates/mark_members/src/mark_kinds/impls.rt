@@ -14,7 +14,7 @@ use rules::link_rules::RowAt;
 use rules::mark_rules::member_kinds;
 use std::alloc::Global;
 
-/// Puts a row of InterfaceImpl, from 0, at the end, where it is there.
+/// Adds a row of InterfaceImpl, from 0, where it is there.
 fn add_impl(rec: &AsmRec, asm: u32, k: u32, found: &mut Vec<RowAt>) -> Result<(), NoMemory>
     ensures { OnOk result (found.new.items ≡ found.old.items ++ impl_at rec.now asm k) }
 {
@@ -27,7 +27,7 @@ fn add_impl(rec: &AsmRec, asm: u32, k: u32, found: &mut Vec<RowAt>) -> Result<()
     }
 }
 
-/// Puts rows of InterfaceImpl, from 0, at the end.
+/// Adds rows of InterfaceImpl, from 0.
 fn add_impls(rec: &AsmRec, asm: u32, rows: &[u32], found: &mut Vec<RowAt>) -> Result<(), NoMemory>
     ensures { OnOk result (found.new.items ≡ found.old.items ++ flat_map (impl_at rec.now asm) rows.now) }
 {
@@ -37,7 +37,7 @@ fn add_impls(rec: &AsmRec, asm: u32, rows: &[u32], found: &mut Vec<RowAt>) -> Re
     Ok(())
 }
 
-/// Puts the interface rows of a type itself at the end.
+/// Adds the interface rows of a type itself.
 fn add_impls_of_type(marker: &Marker<'_>, at: RowAt, found: &mut Vec<RowAt>) -> Result<(), NoMemory>
     requires { IsMarker marker.now }
     ensures { OnOk result (found.new.items ≡ found.old.items ++ impls_of_type (all_of marker.now) at) }

@@ -40,7 +40,7 @@ fn with_bases(
     Ok(types)
 }
 
-/// Puts the definition of a type at the end, where it has one.
+/// Adds the definition of a type, where it has one.
 fn add_home(all: &[AsmRec], ty: &TypeExpr, rows: &mut Vec<RowAt>) -> Result<(), NoMemory>
     ensures { OnOk result (rows.new.items ≡ rows.old.items ++ homes all.now ty.now) }
 {

@@ -103,7 +103,7 @@ fn event_counts(
     ))
 }
 
-/// Puts those of these properties that count at the end.
+/// Adds those of these properties that count.
 fn add_properties(
     alloc: Global,
     marker: &Marker<'_>,
@@ -124,7 +124,7 @@ fn add_properties(
     Ok(())
 }
 
-/// Puts those of these events that count at the end.
+/// Adds those of these events that count.
 fn add_events(
     alloc: Global,
     marker: &Marker<'_>,

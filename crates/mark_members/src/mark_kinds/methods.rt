@@ -108,7 +108,7 @@ fn method_counts_at(all: &[AsmRec], own: bool, two: u32, at: RowAt) -> bool
     }
 }
 
-/// Puts those of these methods that count at the end.
+/// Adds those of these methods that count.
 fn add_counted(
     all: &[AsmRec],
     own: bool,
@@ -126,7 +126,7 @@ fn add_counted(
     Ok(())
 }
 
-/// Puts the methods of a type, or of one of its bases, that count at the end.
+/// Adds the methods of a type, or of one of its bases, that count.
 fn add_methods_from(
     alloc: Global,
     marker: &Marker<'_>,

@@ -27,7 +27,7 @@ pub fn add_module(all: &[AsmRec], facts: &mut Facts) -> Result<(), NoMemory>
     }
 }
 
-/// Marks a method that a type's run has.
+/// Marks a method, where it is in a type's run.
 #[tactic(auto, using(crate::proofs::lemmas::mark_starts::Lists::none_more))]
 fn add_method(marker: &Marker<'_>, at: RowAt, facts: &mut Facts) -> Result<(), NoMemory>
     requires { IsMarker marker.now }
@@ -56,7 +56,7 @@ pub fn add_entry(
     }
 }
 
-/// Puts the primary assembly, its first type and the entry method at the end.
+/// Adds the primary assembly, its first type and the entry method.
 #[tactic(auto, using(crate::proofs::lemmas::mark_starts::Lists::first_then, crate::proofs::lemmas::mark_starts::Lists::two_put))]
 pub fn add_first(
     marker: &Marker<'_>,

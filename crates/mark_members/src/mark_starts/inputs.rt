@@ -47,8 +47,8 @@ pub fn input_named(all: &[AsmRec], name: &[u8]) -> Result<Option<u32>, NoMemory>
     Ok(Some(asm))
 }
 
-/// Puts what a descriptor keeps of an assembly that it names without a type at the end: all types but `<Module>`, with all their
-/// members.
+/// Adds the facts that a descriptor gives which names an assembly without a type: all its types but `<Module>` are kept, with all
+/// their members.
 #[tactic(auto, using(crate::proofs::lemmas::mark_starts::Lists::none_more))]
 pub fn add_input(
     alloc: Global,

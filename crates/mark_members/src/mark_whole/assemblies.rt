@@ -78,7 +78,7 @@ fn add_types(
     Ok(())
 }
 
-/// Puts every type of an assembly but `<Module>` at the end, with all its members.
+/// Adds every type of an assembly but `<Module>`, with all its members.
 #[tactic(auto, using(crate::proofs::lemmas::mark_whole::Lists::none_more))]
 pub fn add_assembly(
     alloc: Global,

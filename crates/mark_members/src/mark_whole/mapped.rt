@@ -82,7 +82,7 @@ pub fn add_events(
     Ok(())
 }
 
-/// Puts all properties and events of a type at the end, with their accessors.
+/// Adds all properties and events of a type, with their accessors.
 #[tactic(auto, using(crate::proofs::lemmas::mark_whole::Lists::two_put))]
 pub(crate) fn add_mapped(
     alloc: Global,

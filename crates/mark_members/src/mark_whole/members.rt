@@ -27,7 +27,7 @@ pub fn mark_fields(all: &[AsmRec], rows: &[RowAt], facts: &mut Facts) -> Result<
     Ok(())
 }
 
-/// Puts all fields of a type at the end.
+/// Adds all fields of a type.
 pub fn add_fields(
     alloc: Global,
     marker: &Marker<'_>,
@@ -41,7 +41,7 @@ pub fn add_fields(
     mark_fields(marker.tables.world.recs.as_slice(), rows.as_slice(), facts)
 }
 
-/// Puts all methods, fields, properties and events of a type at the end; no nested types and no interface rows.
+/// Adds all methods, fields, properties and events of a type; no nested types and no interface rows.
 #[tactic(auto, using(crate::proofs::lemmas::mark_whole::Lists::two_put))]
 pub fn add_members(
     alloc: Global,
@@ -57,7 +57,7 @@ pub fn add_members(
     add_mapped(alloc, marker, t, facts)
 }
 
-/// Puts the members of a type that a value of `preserve` names at the end.
+/// Adds the members of a type that a value of `preserve` names.
 #[tactic(auto, using(crate::proofs::lemmas::mark_whole::Lists::none_more))]
 pub fn add_preserved(
     alloc: Global,

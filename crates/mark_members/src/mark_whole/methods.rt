@@ -86,7 +86,7 @@ pub fn keep_methods(
     Ok(())
 }
 
-/// Puts all methods of a type at the end.
+/// Adds all methods of a type.
 pub fn add_methods(
     alloc: Global,
     marker: &Marker<'_>,

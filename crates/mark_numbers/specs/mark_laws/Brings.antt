@@ -1,4 +1,4 @@
--- What a fact brings, by numbers, where the facts of a set are known. A rule with several premises is brought by its first one.
+-- The facts that a fact brings, by numbers, where the facts of a set are known. A rule with several premises belongs to its first one.
 use Rattle.std.specs.Prelude.{◌≡◌, ◌<◌, ℕ, List, Some, Option, Bool, IsTrue, ◌↔◌}
 use Rattle.std.specs.List.{Contains}
 use Rattle.il_base.specs.declared.world_model.record.AsmRec.{AsmRec}
@@ -16,7 +16,7 @@ pub record Known (recs : List AsmRec) (have : ℕ → Bool) (f : Fact) : Type 0 
   pub there : IsTrue (is_there recs f)
   pub known : IsTrue (have (number_of recs f))
 
--- what a fact gives, alone or with known ones
+-- the facts that follow from one fact, alone or with known ones
 pub data Gives (recs : List AsmRec) (roots : List Root) (have : ℕ → Bool) (a : Fact) : Fact → Type 0 where
   alone : (f : Fact) → Contains (one recs roots a) f → Gives recs roots have a f
   with_one : (b f : Fact) → Known recs have b → Contains (two recs a b) f → Gives recs roots have a f

@@ -2,9 +2,8 @@ ghost use Rattle.mark_numbers.specs.mark_laws.Brings.{StaysBelow, IsMonotone, Ma
 
 use crate::laws::numbers_told;
 
-/// In a world that a link gave, what facts bring is below the bound of its numbers, and more known facts bring no less. A fact
-/// that is there is marked, as the rules of marking have it, exactly where its number follows from those of the facts that are
-/// given.
+/// A law, for a world that a link gave. The numbers that facts bring are below the bound, and more known facts bring no fewer. The
+/// rules of marking derive a fact that is there exactly where its number follows from those of the facts at the start.
 pub fn marks_told()
     ensures below { StaysBelow }
     ensures monotone { IsMonotone }

@@ -27,7 +27,7 @@ named_told (named.Field u) = naming.Named.field u
 abbrev pub part_told : Part → naming.Part
 part_told p = record { token = p.token; at = p.at; named = known_map named_told p.named }
 
--- what is said of a type
+-- the fact on a type
 abbrev pub said_of : Said → TypeId → rules.Fact
 said_of said.Marked t = rules.Fact.marked (item.Typ t)
 said_of said.Shown t = rules.Fact.shown t

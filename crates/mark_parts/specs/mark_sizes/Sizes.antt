@@ -7,6 +7,6 @@ use Rattle.rules.specs.link_rules.Signatures.{names_at}
 use Rattle.rules.specs.link_rules.Cycles.{is_static_field}
 use Rattle.rules.specs.mark_rules.Attributes.{expr_size}
 
--- in bytes; none of a static field
+-- the size of a field's type in bytes; a static field has none
 abbrev pub size_by : List AsmRec → ℕ → AsmRec → FieldRow → List ℕ
 size_by recs a rec f = if is_static_field f then [] else expr_size (known_then (sig_expr (names_at recs a rec)) f.signature) ∷ []

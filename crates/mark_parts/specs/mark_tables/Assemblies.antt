@@ -1,4 +1,4 @@
--- The assemblies of a world with what is made of them.
+-- The assemblies of a world with their tables.
 use Rattle.std.specs.Prelude.{◌≡◌, ℕ, List, Some, slice_get}
 use Rattle.std.specs.List.{AllZip}
 use Rattle.il_base.specs.declared.world_model.record.AsmRec.{AsmRec}

@@ -8,7 +8,7 @@ use Rattle.type_tables.specs.declared.groups.Groups.{Groups}
 use Rattle.type_tables.specs.Groups.{AreGroups}
 use Rattle.type_tables.specs.Uses.{use_in}
 
--- 0 where a token names none
+-- the number of the method that a token names, 0 where it names none
 abbrev pub number_of : Option MethodUse → ℕ
 number_of None = 0
 number_of (Some u) = u.method.0
@@ -16,7 +16,7 @@ number_of (Some u) = u.method.0
 abbrev pub body_numbers : List AsmRec → ℕ → AsmRec → List ℕ
 body_numbers recs a rec = map (λ (r : MethodImplRow). number_of (use_in recs a r.body)) rec.method_impl
 
--- those of these assemblies, of which the first has the number a
+-- the numbers of the bodies of these assemblies' rows; the assemblies are numbered from a
 abbrev pub numbers_from : List AsmRec → ℕ → List AsmRec → List (List ℕ)
 numbers_from recs a [] = []
 numbers_from recs a (rec ∷ rest) = body_numbers recs a rec ∷ numbers_from recs (suc a) rest

@@ -1,4 +1,4 @@
-//! Type references to the core library, by way of enclosers.
+//! Type references to the core library, through enclosers.
 
 ghost use Rattle.std.specs.Prelude.{◌≡◌};
 ghost use Rattle.rules.specs.mark_rules.Attributes.{is_core_ref};

@@ -11,14 +11,14 @@ use crate::mark_facts::facts::Facts;
 use il_base::world_model::TypeExpr;
 use il_base::{Item, NoMemory, TypeId};
 
-/// What is said of a type.
+/// The facts on a type: marked, or shown.
 #[derive(Clone, Copy)]
 pub enum Said {
     Marked,
     Shown,
 }
 
-/// Puts what is said of a type at the end.
+/// Adds such a fact on a type.
 pub fn say(facts: &mut Facts, said: Said, id: TypeId) -> Result<(), NoMemory>
     ensures { OnOk result (facts.new ≡ facts.old ++ said_of said id ∷ []) }
 {
@@ -28,7 +28,7 @@ pub fn say(facts: &mut Facts, said: Said, id: TypeId) -> Result<(), NoMemory>
     }
 }
 
-/// Says something of each definition that a type names: its own, and those of its arguments, elements and modifiers.
+/// Adds such a fact on each definition that a type names: its own, and those of its arguments, elements and modifiers.
 #[cycle(saying)]
 #[tactic(auto, using(crate::proofs::lemmas::mark_facts::ExprLayers::saying))]
 pub fn say_types(facts: &mut Facts, said: Said, ty: &TypeExpr) -> Result<(), NoMemory>
@@ -52,7 +52,7 @@ pub fn say_types(facts: &mut Facts, said: Said, ty: &TypeExpr) -> Result<(), NoM
     }
 }
 
-/// Says something of each definition that types name.
+/// Adds such a fact on each definition that types name.
 #[cycle(saying)]
 pub fn say_all(facts: &mut Facts, said: Said, types: &[TypeExpr]) -> Result<(), NoMemory>
     ensures { OnOk result (facts.new ≡ facts.old ++ flat_map (λ e. map (said_of said) (types_in e)) types.now) }

@@ -1,6 +1,6 @@
 use il_base::{Item, TypeId};
 
-/// What marking says of an item or a type.
+/// A fact of marking, on an item or a type.
 #[derive(Clone, Copy, Debug, PartialEq, Eq)]
 pub enum Fact {
     /// The item is needed.

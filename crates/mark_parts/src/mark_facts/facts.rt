@@ -40,7 +40,7 @@ impl Facts {
         self.listed.as_slice()
     }
 
-    /// Puts a fact at the end.
+    /// Adds a fact.
     #[tactic(auto, using(crate::proofs::lemmas::mark_facts::Lists::one_more))]
     pub fn push(&mut self, fact: Fact) -> Result<(), NoMemory>
         ensures { OnOk result (self.new ≡ self.old ++ fact_told fact ∷ []) }
@@ -49,21 +49,21 @@ impl Facts {
         Ok(())
     }
 
-    /// Puts at the end that an item is marked.
+    /// Adds the fact that an item is marked.
     pub fn mark(&mut self, item: Item) -> Result<(), NoMemory>
         ensures { OnOk result (self.new ≡ self.old ++ marked item ∷ []) }
     {
         self.push(Fact::Marked(item))
     }
 
-    /// Puts at the end that a type is instantiated.
+    /// Adds the fact that a type is instantiated.
     pub fn instantiate(&mut self, id: TypeId) -> Result<(), NoMemory>
         ensures { OnOk result (self.new ≡ self.old ++ instantiated id ∷ []) }
     {
         self.push(Fact::Instantiated(id))
     }
 
-    /// Puts at the end that a type is shown.
+    /// Adds the fact that a type is shown.
     pub fn show(&mut self, id: TypeId) -> Result<(), NoMemory>
         ensures { OnOk result (self.new ≡ self.old ++ shown id ∷ []) }
     {

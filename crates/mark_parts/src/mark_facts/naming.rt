@@ -1,4 +1,4 @@
-//! What parts of items name.
+//! The items that parts name, marked.
 
 ghost use Rattle.std.specs.Prelude.{◌≡◌, ◌++◌, OnOk};
 ghost use Rattle.rules.specs.mark_rules.Naming.{of_expr, of_exprs, of_method_use, of_field_use, of_named, of_known, of_parts};

@@ -1,6 +1,6 @@
 use il_base::world_model::{FieldUse, Known, MethodUse, TypeExpr};
 
-/// What a part of an item names.
+/// A type or a member that a part of an item names.
 #[derive(Drop)]
 pub enum Named {
     Type(TypeExpr),

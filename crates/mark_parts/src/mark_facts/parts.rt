@@ -47,7 +47,7 @@ impl Parts {
         self.listed.as_slice()
     }
 
-    /// Puts a part at the end.
+    /// Adds a part.
     #[tactic(auto, using(crate::proofs::lemmas::mark_facts::Lists::one_more))]
     pub fn push(&mut self, part: Part) -> Result<(), NoMemory>
         ensures { OnOk result (self.new ≡ self.old ++ part_told part ∷ []) }
@@ -56,7 +56,7 @@ impl Parts {
         Ok(())
     }
 
-    /// Puts a type of a row at the end.
+    /// Adds a type of a row.
     pub fn push_type(&mut self, token: u32, ty: TypeExpr) -> Result<(), NoMemory>
         ensures { OnOk result (self.new ≡ self.old ++ good_part token (naming.Named.type ty) ∷ []) }
     {
@@ -67,7 +67,7 @@ impl Parts {
         })
     }
 
-    /// Puts a bad part of a row at the end.
+    /// Adds a bad part of a row.
     pub fn push_bad(&mut self, token: u32, why: BadKind) -> Result<(), NoMemory>
         ensures { OnOk result (self.new ≡ self.old ++ bad_part token why ∷ []) }
     {
@@ -78,7 +78,7 @@ impl Parts {
         })
     }
 
-    /// Puts what an operand or a cell names at the end.
+    /// Adds the parts that an operand or a cell names.
     pub fn push_known(&mut self, token: u32, at: u32, named: Known<Named>) -> Result<(), NoMemory>
         ensures { OnOk result (self.new ≡ self.old ++ record { token = token; at = at; named = known_map named_told named } ∷ []) }
     {

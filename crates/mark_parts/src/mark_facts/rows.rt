@@ -107,7 +107,7 @@ pub fn is_core(all: &[AsmRec], item: Item) -> Result<bool, NoMemory>
 }
 
 impl Facts {
-    /// Puts at the end that the item of a row is marked.
+    /// Adds the fact that the item of a row is marked.
     pub fn mark_row(&mut self, all: &[AsmRec], kind: Kind, at: RowAt) -> Result<(), NoMemory>
         ensures { OnOk result (self.new ≡ self.old ++ marked (item_at all.now kind at) ∷ []) }
     {
@@ -115,7 +115,7 @@ impl Facts {
         self.mark(item)
     }
 
-    /// Puts at the end that the type of a row is instantiated.
+    /// Adds the fact that the type of a row is instantiated.
     pub fn instantiate_row(&mut self, all: &[AsmRec], at: RowAt) -> Result<(), NoMemory>
         ensures { OnOk result (self.new ≡ self.old ++ instantiated (type_id all.now at.asm at.row) ∷ []) }
     {

@@ -20,7 +20,7 @@ use std::alloc::Global;
 use type_tables::member_search::counted::sum;
 use type_tables::member_search::method_types::open_method_type;
 
-/// Static, of a method's flags (II.23.1.10).
+/// Whether a method is static, by its flags (II.23.1.10).
 pub fn is_static(m: &MethodDefRow) -> bool
     ensures { result ≡ is_static m.now }
 {

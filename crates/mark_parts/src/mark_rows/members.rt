@@ -59,7 +59,7 @@ pub fn fields_of_type(alloc: Global, marker: &Marker<'_>, at: RowAt) -> Result<V
     Ok(rows)
 }
 
-/// Puts the properties of a row of PropertyMap, from 0, at the end.
+/// Adds the properties of a row of PropertyMap, from 0.
 fn add_properties(rec: &AsmRec, asm: u32, k: u32, rows: &mut Vec<RowAt>) -> Result<(), NoMemory>
     ensures { OnOk result (rows.new.items ≡ rows.old.items ++ properties_at rec.now asm k) }
 {
@@ -109,7 +109,7 @@ pub fn properties_of_type(
     Ok(rows)
 }
 
-/// Puts the events of a row of EventMap, from 0, at the end.
+/// Adds the events of a row of EventMap, from 0.
 fn add_events(rec: &AsmRec, asm: u32, k: u32, rows: &mut Vec<RowAt>) -> Result<(), NoMemory>
     ensures { OnOk result (rows.new.items ≡ rows.old.items ++ events_at rec.now asm k) }
 {

@@ -32,7 +32,7 @@ fn count_in(rec: &AsmRec, members: Members) -> usize
     }
 }
 
-/// Puts the rows of an assembly from `start` to before `end` at the end.
+/// Adds the rows of an assembly from `start` to before `end`.
 fn add_rows(asm: u32, start: u32, end: u32, rows: &mut Vec<RowAt>) -> Result<(), NoMemory>
     ensures { OnOk result (rows.new.items ≡ rows.old.items ++ map (at_row asm) (range_with_len start (end - start))) }
 {
@@ -42,7 +42,7 @@ fn add_rows(asm: u32, start: u32, end: u32, rows: &mut Vec<RowAt>) -> Result<(),
     Ok(())
 }
 
-/// Puts the rows of a run that are there at the end.
+/// Adds the rows of a run that are there.
 #[tactic(auto, using(crate::proofs::lemmas::mark_rows::Running::as_long))]
 pub(crate) fn add_run(
     rec: &AsmRec,

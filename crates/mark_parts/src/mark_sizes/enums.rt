@@ -19,7 +19,7 @@ use rules::link_rules::RowAt;
 use std::alloc::Global;
 use type_tables::member_search::method_types::open_type;
 
-/// Static, of a field's flags (II.23.1.5).
+/// Whether a field is static, by its flags (II.23.1.5).
 fn is_static(f: &FieldRow) -> bool
     ensures { result ≡ is_static_field f.now }
 {

@@ -14,7 +14,7 @@ use type_tables::member_search::counted::row_of;
 use type_tables::member_search::linked::Scope;
 use type_tables::tables::RowTables;
 
-/// An assembly of a world, and what is made of it.
+/// An assembly of a world, with its tables.
 #[derive(Clone, Copy)]
 pub struct Assembly<'a> {
     pub world: &'a World,

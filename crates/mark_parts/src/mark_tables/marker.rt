@@ -12,17 +12,17 @@ use std::alloc::Global;
 use type_tables::groups::Groups;
 use type_tables::tables::Tables;
 
-/// A world with what is made of it once.
+/// A world with its tables.
 #[derive(Drop)]
 pub struct Marker<'w> {
     pub tables: Tables<'w>,
     pub rows: Vec<OwnerRows>,
-    /// Of each assembly its MethodImpl rows by the numbers of the methods that are their bodies.
+    /// The MethodImpl rows of each assembly by the numbers of the methods that are their bodies.
     pub impls: Vec<Groups>,
 }
 
 impl<'w> Marker<'w> {
-    /// What is made once of a world that a link gave.
+    /// The tables of a world that a link gave.
     pub fn of(alloc: Global, world: &'w World) -> Result<Marker<'w>, NoMemory>
         requires { IsWorld world.now }
         ensures is { IfOk result IsMarker }
@@ -38,7 +38,7 @@ impl<'w> Marker<'w> {
         })
     }
 
-    /// An assembly of the world, by its place from 0, with what is made of it.
+    /// An assembly of the world, by its place from 0, with its tables.
     pub fn assembly_at(&self, asm: u32) -> Option<Assembly<'_>>
         requires { IsMarker self.now }
         ensures there { option_map rec_of result ≡ slice_get self.now.tables.world.now.recs asm }

@@ -1,4 +1,4 @@
-//! Of an assembly, the rows by what they belong to.
+//! The rows of an assembly, grouped by the types or members that they belong to.
 
 ghost use Rattle.std.specs.Prelude.{IfOk};
 ghost use Rattle.std.specs.List.{AllZip};
@@ -14,7 +14,8 @@ use std::alloc::Global;
 use type_tables::groups::Groups;
 use type_tables::member_search::owners::field_owners;
 
-/// Of an assembly: the types that have fields and that enclose others, and the rows of tables by what they belong to.
+/// The tables of an assembly: the types that have fields and that enclose others, and the rows of tables by the types or members
+/// that they belong to.
 #[derive(Drop)]
 pub struct OwnerRows {
     /// The first type whose run each field is in, both by their rows from 0.

@@ -51,13 +51,13 @@ abbrev pub interface_by : Rule → List AsmRec → RowAt → RowAt → RowAt →
 interface_by rule.Runs recs = interface_runs recs
 interface_by rule.Fills recs = interface_fills recs
 
--- what a type gives with the slots of these types
+-- the facts that follow from a type with the slots of these types
 abbrev pub given_by : Known → Rule → RowAt → List RowAt → List Fact
 given_by k rule t types =
     flat_map (λ c. flat_map (slot_gives (recs_in k) (knows k) (class_by rule (recs_in k) t)) (own_slots (recs_in k) c)) types
     ++ flat_map (λ c. flat_map (row_gives (recs_in k) (knows k) (interface_by rule (recs_in k) t)) (own_rows (recs_in k) c)) types
 
--- what a type gives with slots
+-- the facts that follow from a type with slots
 abbrev pub slots_and_rows : Known → Rule → RowAt → List Fact
 slots_and_rows k rule t = with_slots (recs_in k) (knows k) (class_by rule (recs_in k)) t ++ with_rows (recs_in k) (knows k) (interface_by rule (recs_in k)) t
 
@@ -70,6 +70,6 @@ homes recs e = listed (home_of recs e)
 abbrev pub row_at : ℕ → ℕ → InterfaceImplRow → List RowAt
 row_at asm k row = at_row asm k ∷ []
 
--- what an interface row of a marked type marks, by its number from 0
+-- the facts that an interface row of a marked type gives, by its number from 0
 abbrev pub named_row : List AsmRec → (Item → Bool) → ℕ → AsmRec → ℕ → InterfaceImplRow → List Fact
 named_row recs known a rec k row = flat_map (named_known recs known (at_row a k)) (listed (good_type (token_type recs a rec row.interface)))

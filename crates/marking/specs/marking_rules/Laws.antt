@@ -1,4 +1,4 @@
--- The two lists are what facts bring.
+-- The laws of the two lists: they have the facts that follow from each fact.
 use Rattle.std.specs.Prelude.{ℕ, List, Bool, ◌⊎◌, ◌↔◌}
 use Rattle.std.specs.List.{Contains}
 use Rattle.il_base.specs.declared.world_model.world.World.{World}
@@ -10,6 +10,6 @@ use Rattle.marking.specs.marking_rules.Lists.{alone_list, joined_list}
 abbrev pub ListsBring : Type 0
 ListsBring = (w : World) (roots : List Root) (have : ℕ → Bool) (n c : ℕ) → Contains (alone_list w roots n) c ⊎ Contains (joined_list w have n) c ↔ Brings w roots have n c
 
--- where more is known, no less is brought with it
+-- where more facts are known, no fewer follow
 abbrev pub JoinedMore : Type 0
 JoinedMore = (w : World) (few many : ℕ → Bool) (n c : ℕ) → IsWithin few many → Contains (joined_list w few n) c → Contains (joined_list w many n) c

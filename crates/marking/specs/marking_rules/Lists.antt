@@ -1,4 +1,4 @@
--- What the fact with a number brings, as numbers of facts that are there.
+-- The facts that follow from the fact with a number, as numbers of facts that are there.
 use Rattle.std.specs.Prelude.{ℕ, List, Bool}
 use Rattle.std.specs.List.{flat_map}
 use Rattle.il_base.specs.declared.world_model.record.AsmRec.{AsmRec}
@@ -23,10 +23,10 @@ alone_by recs roots a = numbers_in recs (one recs roots a)
 abbrev pub joined_by : List AsmRec → (ℕ → Bool) → Fact → List ℕ
 joined_by recs have a = numbers_in recs (fact_with recs (known_in recs have) a)
 
--- alone
+-- the numbers that follow from one number alone
 abbrev pub alone_list : World → List Root → ℕ → List ℕ
 alone_list w roots n = flat_map (alone_by w.recs roots) (listed (fact_numbered w n))
 
--- with the facts of a set
+-- the numbers that follow from one number with the facts of a set
 abbrev pub joined_list : World → (ℕ → Bool) → ℕ → List ℕ
 joined_list w have n = flat_map (joined_by w.recs have) (listed (fact_numbered w n))

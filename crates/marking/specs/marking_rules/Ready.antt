@@ -1,4 +1,4 @@
--- What the rules over numbers rest on, and what follows for them.
+-- The premises of the rules over numbers, and what follows from them.
 use Rattle.std.specs.Prelude.{◌≡◌, ◌<◌, ℕ, List, [], Bool, false}
 use Rattle.std.proofs.Common.{inl, inr}
 use Rattle.std.specs.List.{Contains}

@@ -131,7 +131,7 @@ fn mark_rows(
     Ok(())
 }
 
-/// Puts the interface rows of a type for known interfaces at the end, with the interfaces that they name.
+/// Adds the interface rows of a type for known interfaces, with the interfaces that they name.
 pub(crate) fn add_with_interfaces(
     alloc: Global,
     k: &Known<'_>,

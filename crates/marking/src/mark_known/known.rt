@@ -15,7 +15,7 @@ use rules::link_rules::RowAt;
 use virtual_calls::impls::same_row;
 use virtual_calls::slots::Slots;
 
-/// A world with what is made of it, and the facts that are known, by their numbers.
+/// A world with its tables, and the facts that are known, by their numbers.
 #[derive(Clone, Copy)]
 pub struct Known<'a> {
     pub marker: &'a Marker<'a>,

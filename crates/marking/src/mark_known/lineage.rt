@@ -17,7 +17,7 @@ use std::alloc::Global;
 use type_tables::member_search::bases::definition;
 use virtual_calls::nearest::{base_of, type_count};
 
-/// Puts the definition of a type at the end, if it has one.
+/// Adds the definition of a type, if it has one.
 pub(crate) fn add_home(all: &[AsmRec], ty: &TypeExpr, rows: &mut Vec<RowAt>) -> Result<(), NoMemory>
     ensures { OnOk result (rows.new.items ≡ rows.old.items ++ homes all.now ty.now) }
 {

@@ -17,7 +17,7 @@ use std::alloc::Global;
 use type_tables::methods::{method_home, use_at};
 use virtual_calls::slots::{Slots, slot_of_method};
 
-/// Puts the slot of a method at the end, if it has one.
+/// Adds the slot of a method, if it has one.
 fn add_slot(
     marker: &Marker<'_>,
     slots: &Slots,
@@ -36,7 +36,7 @@ fn add_slot(
     }
 }
 
-/// Puts the slots of these methods at the end.
+/// Adds the slots of these methods.
 fn add_slots(
     marker: &Marker<'_>,
     slots: &Slots,
@@ -52,7 +52,7 @@ fn add_slots(
     Ok(())
 }
 
-/// Puts the slot of a method that is named at the end.
+/// Adds the slot of the method that a row names.
 fn add_used(
     marker: &Marker<'_>,
     slots: &Slots,
@@ -69,7 +69,7 @@ fn add_used(
     }
 }
 
-/// Puts the slot that a row declares at the end.
+/// Adds the slot that a row declares.
 fn add_declared(
     marker: &Marker<'_>,
     slots: &Slots,
@@ -89,7 +89,7 @@ fn add_declared(
     }
 }
 
-/// Puts the slot that a row of an assembly, by its number from 0, declares at the end.
+/// Adds the slot that a row of an assembly, by its number from 0, declares.
 fn add_declared_at(
     marker: &Marker<'_>,
     slots: &Slots,
@@ -109,7 +109,7 @@ fn add_declared_at(
     }
 }
 
-/// Puts the slots that these rows of an assembly declare at the end.
+/// Adds the slots that these rows of an assembly declare.
 fn add_all_declared(
     marker: &Marker<'_>,
     slots: &Slots,
@@ -129,7 +129,7 @@ fn add_all_declared(
     Ok(())
 }
 
-/// Puts the slots that the MethodImpl rows of a type declare at the end.
+/// Adds the slots that the MethodImpl rows of a type declare.
 fn add_declared_slots(
     marker: &Marker<'_>,
     slots: &Slots,

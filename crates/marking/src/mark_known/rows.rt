@@ -1,4 +1,4 @@
-//! What a type gives with interface slots and interface rows that are known (II.12.2).
+//! The facts that follow from a type with interface slots and interface rows that are known (II.12.2).
 
 ghost use Rattle.std.specs.Prelude.{◌≡◌, ◌++◌, ◌∷◌, [], slice_get, Some, IfOk, OnOk};
 ghost use Rattle.std.specs.List.{flat_map};
@@ -25,7 +25,7 @@ use std::alloc::Global;
 use type_tables::member_search::bases::{definition, is_interface};
 use type_tables::subtypes::rounds::implied;
 
-/// Puts an interface row of an assembly, by its number from 0, at the end, if it is there.
+/// Adds an interface row of an assembly, by its number from 0, if it is there.
 fn add_row_at(asm: u32, rec: &AsmRec, k: u32, rows: &mut Vec<RowAt>) -> Result<(), NoMemory>
     ensures { OnOk result (rows.new.items ≡ rows.old.items ++ option_map_or (row_at asm k) (slice_get rec.now.interface_impl k) []) }
 {
@@ -38,7 +38,7 @@ fn add_row_at(asm: u32, rec: &AsmRec, k: u32, rows: &mut Vec<RowAt>) -> Result<(
     }
 }
 
-/// Puts these interface rows of an assembly at the end.
+/// Adds these interface rows of an assembly.
 fn add_rows_at(asm: u32, rec: &AsmRec, ks: &[u32], rows: &mut Vec<RowAt>) -> Result<(), NoMemory>
     ensures { OnOk result (rows.new.items ≡ rows.old.items ++ flat_map (λ k. option_map_or (row_at asm k) (slice_get rec.now.interface_impl k) []) ks.now) }
 {
@@ -48,7 +48,7 @@ fn add_rows_at(asm: u32, rec: &AsmRec, ks: &[u32], rows: &mut Vec<RowAt>) -> Res
     Ok(())
 }
 
-/// Puts the interface rows of a type at the end.
+/// Adds the interface rows of a type.
 fn add_own_rows(marker: &Marker<'_>, c: RowAt, rows: &mut Vec<RowAt>) -> Result<(), NoMemory>
     requires { IsMarker marker.now }
     ensures { OnOk result (rows.new.items ≡ rows.old.items ++ own_rows (all_of marker.now) c) }
@@ -72,7 +72,7 @@ fn own_rows(alloc: Global, marker: &Marker<'_>, c: RowAt) -> Result<Vec<RowAt>, 
     Ok(rows)
 }
 
-/// Puts the methods of an interface instance at the end.
+/// Adds the methods of an interface instance.
 fn add_methods_of(
     alloc: Global,
     marker: &Marker<'_>,
@@ -93,7 +93,7 @@ fn add_methods_of(
     }
 }
 
-/// Puts the methods of these interface instances at the end.
+/// Adds the methods of these interface instances.
 fn add_methods(
     alloc: Global,
     marker: &Marker<'_>,
@@ -155,7 +155,7 @@ fn row_methods(alloc: Global, marker: &Marker<'_>, r: RowAt) -> Result<Vec<RowAt
     }
 }
 
-/// Puts what a type gives with an interface slot and an interface row at the end.
+/// Adds the facts that a type gives with an interface slot and an interface row.
 fn add_interface(
     alloc: Global,
     k: &Known<'_>,
@@ -174,7 +174,7 @@ fn add_interface(
     }
 }
 
-/// Puts what a type gives with an interface slot and an interface row at the end, where the slot is known.
+/// Adds the facts that a type gives with an interface slot and an interface row, where the slot is known.
 #[tactic(auto, using(crate::proofs::lemmas::mark_known::Lists::none_more))]
 fn add_slot(
     alloc: Global,
@@ -195,7 +195,7 @@ fn add_slot(
     Ok(())
 }
 
-/// Puts what a type gives with an interface row and those of these slots that are known at the end.
+/// Adds the facts that a type gives with an interface row and those of these slots that are known.
 fn add_slots(
     alloc: Global,
     k: &Known<'_>,
@@ -214,7 +214,7 @@ fn add_slots(
     Ok(())
 }
 
-/// Puts what a type gives with an interface row and the slots of its interfaces at the end.
+/// Adds the facts that a type gives with an interface row and the slots of its interfaces.
 fn add_row_slots(
     alloc: Global,
     k: &Known<'_>,
@@ -231,7 +231,7 @@ fn add_row_slots(
     Ok(())
 }
 
-/// Puts what a type gives with an interface row at the end, where the row is known.
+/// Adds the facts that a type gives with an interface row, where the row is known.
 #[tactic(auto, using(crate::proofs::lemmas::mark_known::Lists::none_more))]
 fn add_row(
     alloc: Global,
@@ -251,7 +251,7 @@ fn add_row(
     Ok(())
 }
 
-/// Puts what a type gives with those of these interface rows that are known at the end.
+/// Adds the facts that a type gives with those of these interface rows that are known.
 fn add_rows(
     alloc: Global,
     k: &Known<'_>,
@@ -269,7 +269,7 @@ fn add_rows(
     Ok(())
 }
 
-/// Puts what a type gives with the interface rows of one of its bases at the end.
+/// Adds the facts that a type gives with the interface rows of one of its bases.
 fn add_own(
     alloc: Global,
     k: &Known<'_>,
@@ -286,7 +286,7 @@ fn add_own(
     Ok(())
 }
 
-/// Puts what a type gives with the interface rows of these types at the end.
+/// Adds the facts that a type gives with the interface rows of these types.
 pub(crate) fn add_with_rows(
     alloc: Global,
     k: &Known<'_>,

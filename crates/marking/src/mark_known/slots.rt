@@ -1,4 +1,4 @@
-//! What a type gives with class slots that are known (II.10.3).
+//! The facts that follow from a type with class slots that are known (II.10.3).
 
 ghost use Rattle.std.specs.Prelude.{◌≡◌, ◌++◌, OnOk};
 ghost use Rattle.std.specs.List.{flat_map};
@@ -17,13 +17,13 @@ use std::alloc::Global;
 /// The rules for a type and a slot.
 #[derive(Clone, Copy, Debug, PartialEq, Eq)]
 pub enum Rule {
-    /// What the slot runs for an instantiated type.
+    /// The method that a call of the slot runs for an instantiated type.
     Runs,
-    /// What a marked type has for an abstract slot (II.10.1.4).
+    /// The method that a marked type has for an abstract slot (II.10.1.4).
     Fills,
 }
 
-/// Puts what a type gives with a class slot at the end.
+/// Adds the facts that a type gives with a class slot.
 fn add_class(
     alloc: Global,
     k: &Known<'_>,
@@ -41,7 +41,7 @@ fn add_class(
     }
 }
 
-/// Puts what a type gives with a class slot at the end, where the slot is known.
+/// Adds the facts that a type gives with a class slot, where the slot is known.
 #[tactic(auto, using(crate::proofs::lemmas::mark_known::Lists::none_more))]
 fn add_slot(
     alloc: Global,
@@ -61,7 +61,7 @@ fn add_slot(
     Ok(())
 }
 
-/// Puts what a type gives with those of these class slots that are known at the end.
+/// Adds the facts that a type gives with those of these class slots that are known.
 fn add_slots(
     alloc: Global,
     k: &Known<'_>,
@@ -79,7 +79,7 @@ fn add_slots(
     Ok(())
 }
 
-/// Puts what a type gives with the class slots that one of its bases has at the end.
+/// Adds the facts that a type gives with the class slots that one of its bases has.
 fn add_own(
     alloc: Global,
     k: &Known<'_>,
@@ -96,7 +96,7 @@ fn add_own(
     Ok(())
 }
 
-/// Puts what a type gives with the class slots of these types at the end.
+/// Adds the facts that a type gives with the class slots of these types.
 pub(crate) fn add_with_slots(
     alloc: Global,
     k: &Known<'_>,

@@ -1,4 +1,4 @@
-//! What a fact gives with all known items.
+//! The facts that follow from one fact with all known items.
 
 ghost use Rattle.std.specs.Prelude.{◌≡◌, ◌++◌, IfOk, OnOk};
 ghost use Rattle.std.specs.List.{flat_map};
@@ -20,7 +20,7 @@ use rules::link_rules::RowAt;
 use std::alloc::Global;
 use type_tables::member_search::homes::type_home;
 
-/// Puts what a type gives with the slots of these types at the end.
+/// Adds the facts that a type gives with the slots of these types.
 #[tactic(auto, using(crate::proofs::lemmas::mark_known::Lists::two_put))]
 fn add_by(
     alloc: Global,
@@ -37,7 +37,7 @@ fn add_by(
     add_with_rows(alloc, k, rule, t, types, facts)
 }
 
-/// Puts what a type gives with slots at the end.
+/// Adds the facts that a type gives with slots.
 fn add_calls(
     alloc: Global,
     k: &Known<'_>,
@@ -53,7 +53,7 @@ fn add_calls(
     Ok(())
 }
 
-/// Puts what a marked type gives at the end.
+/// Adds the facts that a marked type gives.
 #[tactic(auto, using(crate::proofs::lemmas::mark_known::Lists::three_put))]
 fn add_type(alloc: Global, k: &Known<'_>, t: RowAt, facts: &mut Facts) -> Result<(), NoMemory>
     requires { IsKnown k.now }
@@ -63,7 +63,7 @@ fn add_type(alloc: Global, k: &Known<'_>, t: RowAt, facts: &mut Facts) -> Result
     add_calls(alloc, k, Rule::Fills, t, facts)
 }
 
-/// Puts what a marked type gives at the end, where it is there.
+/// Adds the facts that a marked type gives, where it is there.
 #[tactic(auto, using(crate::proofs::lemmas::mark_known::Lists::none_more))]
 fn add_for_type(alloc: Global, k: &Known<'_>, id: TypeId, facts: &mut Facts) -> Result<(), NoMemory>
     requires { IsKnown k.now }
@@ -76,7 +76,7 @@ fn add_for_type(alloc: Global, k: &Known<'_>, id: TypeId, facts: &mut Facts) -> 
     add_type(alloc, k, t, facts)
 }
 
-/// Puts what an instantiated type gives at the end, where it is there.
+/// Adds the facts that an instantiated type gives, where it is there.
 #[tactic(auto, using(crate::proofs::lemmas::mark_known::Lists::none_more))]
 fn add_for_made(alloc: Global, k: &Known<'_>, id: TypeId, facts: &mut Facts) -> Result<(), NoMemory>
     requires { IsKnown k.now }
@@ -89,7 +89,7 @@ fn add_for_made(alloc: Global, k: &Known<'_>, id: TypeId, facts: &mut Facts) -> 
     add_calls(alloc, k, Rule::Runs, t, facts)
 }
 
-/// Puts what a fact gives with known items at the end.
+/// Adds the facts that a fact gives with known items.
 #[tactic(auto, unfolding(base_laws::specs::known_laws::Known::fact_with), using(crate::proofs::lemmas::mark_known::Lists::none_more))]
 pub fn add_with(alloc: Global, k: &Known<'_>, fact: Fact, facts: &mut Facts) -> Result<(), NoMemory>
     requires { IsKnown k.now }

@@ -2,8 +2,8 @@ ghost use Rattle.marking.specs.marking_rules.Laws.{ListsBring, JoinedMore};
 
 use base_laws::known_laws::laws::tries_enough;
 
-/// What the fact with a number brings, alone or with known ones, is in the two lists; where more is known,
-/// no less is in the second.
+/// A law: the two lists have exactly the facts that follow from the fact with a number, alone or with known ones. Where more is
+/// known, the second has no less.
 pub fn lists_bring()
     ensures bring { ListsBring }
     ensures more { JoinedMore }

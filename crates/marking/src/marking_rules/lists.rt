@@ -1,4 +1,4 @@
-//! What the fact with a number brings, as numbers.
+//! The facts that follow from the fact with a number, as numbers.
 
 ghost use Rattle.std.specs.Prelude.{◌≡◌, ◌++◌, map, IfOk, OnOk};
 ghost use Rattle.closure.specs.Facts.{facts_in};
@@ -19,7 +19,7 @@ use mark_parts::mark_facts::facts::Facts;
 use mark_parts::mark_tables::marker::Marker;
 use std::alloc::Global;
 
-/// Puts the number of a fact at the end, where its item or type is there.
+/// Adds the number of a fact, where its item or type is there.
 fn add_number(numbers: &Numbers<'_>, fact: Fact, found: &mut Seq<u32>) -> Result<(), NoMemory>
     requires { AreNumbers numbers.now }
     ensures { OnOk result (found.new ≡ found.old ++ number_list numbers.now.world.now.recs (fact_told fact)) }
@@ -47,7 +47,7 @@ pub fn numbers_of(
     Ok(found)
 }
 
-/// What a fact brings alone.
+/// The numbers of the facts that follow from one fact alone.
 fn brought_by_one<N: NamedRules>(
     alloc: Global,
     marker: &Marker<'_>,
@@ -67,7 +67,7 @@ fn brought_by_one<N: NamedRules>(
     Ok(found)
 }
 
-/// What the fact with a number brings alone.
+/// The numbers of the facts that follow from the fact with a number alone.
 pub(crate) fn alone<N: NamedRules>(
     alloc: Global,
     marker: &Marker<'_>,
@@ -87,7 +87,7 @@ pub(crate) fn alone<N: NamedRules>(
     }
 }
 
-/// What a fact brings with known ones.
+/// The numbers of the facts that follow from one fact with known ones.
 fn brought_with(alloc: Global, k: &Known<'_>, fact: Fact) -> Result<Seq<u32>, NoMemory>
     requires { IsKnown k.now }
     ensures { IfOk result (λ ns. ns ≡ joined_by (recs_in k.now) (facts_in k.now.have.now) (fact_told fact)) }
@@ -98,7 +98,7 @@ fn brought_with(alloc: Global, k: &Known<'_>, fact: Fact) -> Result<Seq<u32>, No
     Ok(found)
 }
 
-/// What the fact with a number brings with known ones.
+/// The numbers of the facts that follow from the fact with a number and known ones.
 pub(crate) fn joined(alloc: Global, k: &Known<'_>, n: u32) -> Result<Seq<u32>, NoMemory>
     requires known { IsKnown k.now }
     requires recs { k.now.numbers.now.world.now ≡ k.now.marker.now.tables.world.now }

@@ -14,7 +14,7 @@ abbrev pub MembersStand : Type 0
 MembersStand =
     (internal : Bool) (recs : List AsmRec) (kept : Kept) (left : AsmRec) → restricted internal recs kept ≡ Some left → InputsAreRecords recs → length left.member_ref ≡ length (member_refs (output_of recs kept).mets)
 
--- So has each type, with the core library behind the inputs: `types` of ReferencesStand.
+-- So has each type, with the core library after the inputs: `types` of ReferencesStand.
 abbrev pub TypesStand : Type 0
 TypesStand =
     (internal : Bool) (inputs : List AsmRec) (kept : Kept) (left : AsmRec) → restricted internal (assemblies inputs) kept ≡ Some left → InputsAreRecords (assemblies inputs)

@@ -38,7 +38,7 @@ TypeTokensStand =
     → IsFirstFlaw recs entry (Marks recs entry roots) None → ReferencesStand (output_of recs kept) left → RowsFit left
     → (a : ℕ) (rec : AsmRec) (token : ℕ) → IsMet recs kept a rec token → 1 ≤ moved_type (output_of recs kept) a rec token
 
--- what is so of the record that is left of records, where exactly what is marked is kept
+-- a property holds of the record that is left of records, where exactly the marked items are kept
 abbrev pub OfMarked : (AsmRec → Type 0) → Type 0
 OfMarked P =
     (internal : Bool) (recs : List AsmRec) (entry : Option RowAt) (roots : List Root) (kept : Kept) (left : AsmRec) → restricted internal recs kept ≡ Some left → InputsAreRecords recs → AreMarked recs entry roots kept

@@ -1,6 +1,6 @@
 ghost use Rattle.merge_laws.specs.merged_rows_move.Laws.{MovesCore, MovesMembers, MovesMarks, MovesBases, MovesInterfaces, MovesImpls, MovesNames, MovesTypes, MovesSignatures};
 
-/// A law: the core library's types, members and primitives stand behind the kept rows. It does nothing.
+/// A law: the core library's types, members and primitives stand after the kept rows. It does nothing.
 pub fn core_moves()
     ensures { MovesCore }
 {}

@@ -5,7 +5,7 @@ pub fn members_stand()
     ensures { MembersStand }
 {}
 
-/// A law: so has each type, with the core library behind the inputs. It does nothing.
+/// A law: so has each type, with the core library after the inputs. It does nothing.
 pub fn types_stand()
     ensures { TypesStand }
 {}

@@ -48,6 +48,6 @@ rows_in k t =
     else if t == table.ASSEMBLY || t == table.MODULE then at_row 0 0 ∷ []
     else []
 
--- what the token of an input's row becomes by these tables
+-- the new token of an input's row, by these tables
 abbrev pub token_by : KeptTables → ℕ → ℕ → Option ℕ
 token_by k a token = option_and_then (λ j. place_token (table_of token) (rows_in k (table_of token)) (at_row a j)) (index_in (table_of token) token)

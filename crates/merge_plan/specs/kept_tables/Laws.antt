@@ -1,4 +1,4 @@
--- What the tables of an output say of tokens.
+-- The law of new tokens, by the tables of an output.
 use Rattle.std.specs.Prelude.{◌≡◌, ℕ, List}
 use Rattle.il_base.specs.declared.world_model.record.AsmRec.{AsmRec}
 use Rattle.rules.specs.merge_rules.Numbers.{Kept}

@@ -7,7 +7,7 @@ use Rattle.rules.specs.declared.link_rules.row_at.RowAt.{RowAt}
 use Rattle.rules.specs.link_rules.Types.{at_row}
 use Rattle.rules.specs.merge_rules.Rows.{place_token}
 
--- what a token of this table becomes among these rows
+-- the new token of a token of this table, among these rows
 abbrev pub token_in : ℕ → List RowAt → ℕ → ℕ → Option ℕ
 token_in t rows a token = option_and_then (λ k. place_token t rows (at_row a k)) (index_in t token)
 

@@ -1,4 +1,4 @@
--- What addresses after bodies need of their size.
+-- The law of addresses after bodies: they depend on the size of the bodies modulo 2^32.
 use Rattle.std.specs.Prelude.{◌≡◌, ℕ, ◌%◌}
 use Rattle.rules.specs.merge_rules.Refs.{Output}
 use Rattle.rules.specs.merge_rules.Restricted.{field_rvas}

@@ -1,4 +1,4 @@
--- Methods with the addresses of their bodies, over what code holds.
+-- Methods with the addresses of their bodies, as the code holds them.
 use Rattle.std.specs.Prelude.{◌≡◌, ℕ, ◌+◌, ◌%◌, List, [], ◌∷◌, length, Option, Some, None}
 use Rattle.il_base.specs.declared.body.Body.{Body}
 use Rattle.il_base.specs.body_grammar.BodySpelling.{body_bytes}
@@ -10,7 +10,7 @@ use Rattle.rules.specs.file_layout.Bodies.{code_behind, rva_at}
 use Rattle.rules.specs.merge_rules.Restricted.{put_rva, bodies_of, placed_methods}
 use Rattle.merge_plan.specs.declared.method_places.places.Placed.{Placed}
 
--- how many bytes there are with a body after so many
+-- how many bytes the bodies take with one more body after so many bytes
 abbrev pub size_behind : ℕ → Option (Known Body) → ℕ
 size_behind before None = before
 size_behind before (Some (Good b)) = aligned 4 before + length (body_bytes b)

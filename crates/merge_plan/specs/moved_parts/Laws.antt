@@ -1,4 +1,4 @@
--- What is moved by new tokens is what a merge leaves, where these are the tokens of the output.
+-- The law of moving: parts that are moved by the tokens of the output are those that a merge leaves.
 use Rattle.std.specs.Prelude.{◌≡◌, ℕ}
 use Rattle.il_base.specs.declared.sig.Sig.{Sig}
 use Rattle.il_base.specs.declared.sig.MethodSig.{MethodSig}
@@ -17,7 +17,7 @@ use Rattle.rules.specs.merge_rules.Rows.{run_at, kept_params}
 use Rattle.merge_plan.specs.declared.moved_parts.tokens.NewTokens.{NewTokens}
 use Rattle.merge_plan.specs.moved_parts.Moves.{new_token, sig_by, method_sig_by, body_by, field_by, method_by, property_by, event_by}
 
--- they are the tokens that the output has for those of an assembly
+-- the new tokens are those that the output has for the tokens of an assembly
 pub record AreNewTokens (o : Output) (a : ℕ) (rec : AsmRec) (t : NewTokens) : Type 0 where
   pub classes : (token : ℕ) → new_token t.classes token ≡ number_token o (class_number o.recs a rec token)
   pub modifiers : (token : ℕ) → new_token t.modifiers token ≡ number_token o (modifier_number o.recs a rec token)

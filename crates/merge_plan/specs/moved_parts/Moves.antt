@@ -28,7 +28,7 @@ use Rattle.merge_plan.specs.declared.moved_parts.tokens.NewTokens.{NewTokens}
 
 -- ---- tokens
 
--- what a token becomes; 0 where it isn't among those that have a new one
+-- the new token of a token; 0 where it has none
 abbrev pub new_token : TokenMap → ℕ → ℕ
 new_token m token = unwrap_or (get nat_eq m.tokens token) 0
 
@@ -85,7 +85,7 @@ body_by t rec b = record b { locals = new_token t.locals b.locals; code = map (i
 abbrev pub field_by : NewTokens → FieldRow → FieldRow
 field_by t f = record f { flags = without field_flag.HAS_FIELD_MARSHAL f.flags; signature = known_map (sig_by t) f.signature }
 
--- with the run of its parameters; the address of the body comes with the layout
+-- a method's row with new tokens and the run of its parameters; the layout of the file gives it the RVA of its body
 abbrev pub method_by : NewTokens → AsmRec → ℕ → ℕ → MethodDefRow → MethodDefRow
 method_by t rec first end m = record m {
   rva = 0;

@@ -17,7 +17,7 @@ fn without_key(word: u32) -> u32
     word.saturating_sub(word & PUBLIC_KEY)
 }
 
-/// A row without its key, so without the flag that says that it is one.
+/// A row without its key, and so without the flag PublicKey.
 fn moved_assembly(alloc: Global, row: &AssemblyRow) -> Result<AssemblyRow, NoMemory>
     ensures { IfOk result (λ made. made ≡ moved_assembly row.now) }
 {

@@ -7,7 +7,7 @@ ghost use Rattle.il_base.specs.cli_format.Tokens.{tag_of, coded_of};
 use il_base::cli_format::{CodedIndex, first_tag, tag_bits, targets};
 use il_base::world_model::{row_of, table_of};
 
-/// Where a table stands among some, counted from 0.
+/// The place of a table among some, counted from 0; None where it isn't among them.
 fn position_in(tables: &[u8], table: u8) -> Option<usize>
     ensures value { result ≡ position (λ u. u == table) tables.now }
     ensures within { IfSome result (λ i. i < length tables.now) }
@@ -15,7 +15,7 @@ fn position_in(tables: &[u8], table: u8) -> Option<usize>
     tables.iter().position(|other| *other == table)
 }
 
-/// Which of some tables one is, counted from 0, 0 where it isn't among them.
+/// The place of a table among some, counted from 0; 0 where it isn't among them.
 fn place_in(tables: &[u8], table: u8) -> usize
     requires { length tables.now < 30 }
     ensures value { result ≡ unwrap_or (position (λ u. u == table) tables.now) 0 }

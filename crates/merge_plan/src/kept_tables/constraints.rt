@@ -1,4 +1,4 @@
-//! The constraints of generic parameters that are kept, by these (II.22.21).
+//! The GenericParamConstraint rows of kept generic parameters, in the order of these (II.22.21).
 
 ghost use Rattle.std.specs.Prelude.{◌≡◌, ◌++◌, map, IfOk, OnOk};
 ghost use Rattle.merge_plan.specs.kept_tables.Order.{sorted_of};
@@ -13,7 +13,7 @@ use rules::link_rules::RowAt;
 use std::alloc::Global;
 use type_tables::member_search::counted::row_of;
 
-/// Puts a row at the end, where its generic parameter is kept.
+/// Adds a row, where its generic parameter is kept.
 fn push_constraint(
     params: &Numbers,
     at: RowAt,
@@ -29,7 +29,7 @@ fn push_constraint(
     Ok(())
 }
 
-/// Puts the rows of an assembly at the end that are kept.
+/// Adds the rows of an assembly that are kept.
 fn push_constraints(
     params: &Numbers,
     asm: u32,

@@ -16,14 +16,14 @@ use rules::link_rules::RowAt;
 use std::alloc::Global;
 use type_tables::member_search::counted::row_of;
 
-/// By owner, then by number, which has 16 bits.
+/// The sort key of a GenericParam row: its owner, then its number, which has 16 bits.
 fn param_key(number: u16, owner: u32) -> u64
     ensures { result ≡ param_key number owner }
 {
     u64::from(coded(CodedIndex::TypeOrMethodDef, owner)) * 0x1_0000 + u64::from(number)
 }
 
-/// Puts a row at the end, where its owner is kept.
+/// Adds a row, where its owner is kept.
 fn push_param(
     types: &Numbers,
     methods: &Numbers,
@@ -40,7 +40,7 @@ fn push_param(
     Ok(())
 }
 
-/// Puts the rows of an assembly at the end that are kept.
+/// Adds the rows of an assembly that are kept.
 fn push_params(
     types: &Numbers,
     methods: &Numbers,

@@ -16,7 +16,7 @@ use rules::link_rules::RowAt;
 use std::alloc::Global;
 use type_tables::member_search::counted::row_of;
 
-/// Puts a row at the end, where it is kept.
+/// Adds a row, where it is kept.
 fn push_impl(
     recs: &[AsmRec],
     kept: &KeptItems,
@@ -38,7 +38,7 @@ fn push_impl(
     Ok(())
 }
 
-/// Puts the rows of an assembly at the end that are kept.
+/// Adds the rows of an assembly that are kept.
 fn push_impls(
     recs: &[AsmRec],
     kept: &KeptItems,

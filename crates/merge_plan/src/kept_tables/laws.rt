@@ -2,7 +2,7 @@
 
 ghost use Rattle.merge_plan.specs.kept_tables.Laws.{TokensTell};
 
-/// The token that the tables of an output give for a row is the one that it has there. It does nothing.
+/// A law: the tables of an output give each row the token that it has in the output. It does nothing.
 pub fn tokens_tell()
     ensures { TokensTell }
 {}

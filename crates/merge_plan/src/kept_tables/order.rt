@@ -13,7 +13,7 @@ pub struct SortedRow {
     pub at: RowAt,
     /// The new token of the row that it belongs to.
     pub owner: u32,
-    /// What it is sorted by.
+    /// The key by which it is sorted.
     pub key: u64,
 }
 

@@ -13,7 +13,7 @@ use rules::link_rules::RowAt;
 use std::alloc::Global;
 use type_tables::member_search::linked::assembly_at;
 
-/// Puts the parameters of a method at the end.
+/// Adds the parameters of a method.
 fn push_of(
     rows: &mut Vec<RowAt>,
     asm: u32,
@@ -30,7 +30,7 @@ fn push_of(
     push_run(rows, asm, start, (wanted as usize).min(there))
 }
 
-/// Puts the parameters of a method at the end.
+/// Adds the parameters of a method.
 fn push_params(rows: &mut Vec<RowAt>, recs: &[AsmRec], at: RowAt) -> Result<(), NoMemory>
     ensures { OnOk result (rows.new.items ≡ rows.old.items ++ params_of recs.now at) }
 {

@@ -29,7 +29,7 @@ fn token_32(table: u8, k: u32) -> u32
     ((u64::from(table) * 0x100_0000 + u64::from(k) + 1) % 0x1_0000_0000) as u32
 }
 
-/// The token of a row among the rows of a table of the output; None where it goes.
+/// The token of a row among the rows of a table of the output; None where the row isn't kept.
 pub(crate) fn place_token(table: u8, rows: &Numbers, at: RowAt) -> Option<u32>
     ensures { result ≡ place_token table rows.now at }
 {
@@ -50,7 +50,7 @@ pub(crate) fn first_token(table: u8, at: RowAt) -> Option<u32>
     }
 }
 
-/// What a token of this table of an assembly becomes; None where its row goes, or where it is of another table.
+/// The new token of a token of this table of an assembly; None where its row isn't kept, or where it is of another table.
 pub(crate) fn token_in(table: u8, rows: &Numbers, asm: u32, token: u32) -> Option<u32>
     ensures { result ≡ token_in table rows.now asm token }
 {
@@ -60,7 +60,7 @@ pub(crate) fn token_in(table: u8, rows: &Numbers, asm: u32, token: u32) -> Optio
     }
 }
 
-/// What the token of the owner of a generic parameter becomes (II.22.20).
+/// The new token of the owner of a generic parameter (II.22.20).
 pub(crate) fn owner_in(types: &Numbers, methods: &Numbers, asm: u32, token: u32) -> Option<u32>
     ensures { result ≡ owner_in types.now methods.now asm token }
 {

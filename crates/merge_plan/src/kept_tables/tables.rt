@@ -18,7 +18,7 @@ use il_base::{NoMemory, table};
 use rules::link_rules::RowAt;
 use std::alloc::Global;
 
-/// The rows of the output by the rows that they were: those of items, and the parameters of methods.
+/// The rows of kept items and the parameters of kept methods, each table with the old places of its rows.
 #[derive(Drop)]
 pub struct ItemTables {
     pub types: Numbers,
@@ -29,14 +29,14 @@ pub struct ItemTables {
     pub events: Numbers,
 }
 
-/// A sorted table of the output: its rows in order with their new owners, and by the rows that they were.
+/// A sorted table of the output: its rows in order with their new owners, and their old places.
 #[derive(Drop)]
 pub struct SortedTable {
     pub rows: Vec<SortedRow>,
     pub numbers: Numbers,
 }
 
-/// The rows of the output by the rows that they were.
+/// The tables of the output, each with the old places of its rows.
 #[derive(Drop)]
 pub struct KeptTables {
     pub items: ItemTables,
@@ -121,7 +121,7 @@ impl KeptTables {
         })
     }
 
-    /// The token of a row among the rows of a table; None where it goes, or where no row of the table is kept.
+    /// The token of a row among the rows of a table; None where the row isn't kept, or where no row of the table is.
     fn place(&self, of: u8, at: RowAt) -> Option<u32>
         ensures { result ≡ place_token of (rows_in self.now of) at }
     {
@@ -141,7 +141,7 @@ impl KeptTables {
         }
     }
 
-    /// What the token of a row of an input becomes; None where the row goes. Of Assembly and Module the first input's stay.
+    /// The new token of a row of an input; None where the row isn't kept. Of Assembly and Module the first input's rows are kept.
     pub fn token(&self, asm: u32, token: u32) -> Option<u32>
         ensures { result ≡ token_by self.now asm token }
     {

@@ -19,7 +19,7 @@ fn code_size(code: &[Instr]) -> u64
     size
 }
 
-/// How many bytes stand behind a code of this size: up to the next multiple of 4, and the handler section (II.25.4.5).
+/// How many bytes stand after a code of this size: up to the next multiple of 4, and the handler section (II.25.4.5).
 fn section_size(b: &Body, code: u64) -> u64
     requires { code < 2 ^ 32 }
     ensures { result ≡ section_size b.now code }

@@ -33,7 +33,7 @@ fn rva_at(before: u64, body: &Option<Known<Body>>) -> u32
     }
 }
 
-/// How many bytes there are with a body after so many, modulo 2^32.
+/// How many bytes the bodies take with one more body, modulo 2^32.
 fn size_behind(before: u64, body: &Option<Known<Body>>) -> u64
     requires { before < 2 ^ 32 }
     ensures exact { result ≡ size_behind before body.now % 4294967296 }

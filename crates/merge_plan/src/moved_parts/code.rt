@@ -67,7 +67,7 @@ fn moved_code(
     Ok(moved)
 }
 
-/// A handler with a new token. A catch clause names a type; what stands there in another clause stays.
+/// A handler with a new token. Only a catch clause names a type; in any other clause the cell stays.
 fn moved_handler(tokens: &NewTokens, handler: Handler) -> Handler
     ensures { result ≡ handler_by tokens.now handler }
 {

@@ -1,4 +1,4 @@
-//! Rows of members with new tokens, without the flags that say that a row is named in a table that isn't written.
+//! Rows of members with new tokens, without the flags for rows of tables that aren't written (HasSecurity, HasFieldMarshal).
 
 ghost use Rattle.std.specs.Prelude.{◌≡◌, IfOk};
 ghost use Rattle.rules.specs.merge_rules.Moved.{moved_param_row, without};

@@ -1,4 +1,4 @@
-//! What the tokens of an assembly become.
+//! The new tokens of an assembly's tokens.
 
 ghost use Rattle.std.specs.Prelude.{◌≡◌, ℕ, nat_eq, slice_get, OnOk, if◌then◌else◌};
 ghost use Rattle.std.specs.Option.{option_copied, option_and_then};
@@ -28,7 +28,7 @@ impl TokenMap {
         }
     }
 
-    /// What a token becomes.
+    /// The new token of a token.
     pub fn get(&self, token: u32) -> u32
         ensures { result ≡ new_token self.now token }
     {
@@ -38,7 +38,7 @@ impl TokenMap {
         }
     }
 
-    /// Sets what a token becomes.
+    /// Sets the new token of a token.
     pub fn set(&mut self, token: u32, new: u32) -> Result<(), NoMemory>
         ensures { OnOk result ((q : ℕ) → new_token self.new q ≡ (if nat_eq token q then new else new_token self.old q)) }
     {
@@ -47,7 +47,7 @@ impl TokenMap {
     }
 }
 
-/// What the tokens of an assembly become, by where they stand.
+/// The new tokens of an assembly's tokens, by the places in which these stand.
 #[derive(Drop)]
 pub struct NewTokens {
     /// TypeDef and TypeRef tokens of classes and value types in signatures.
@@ -107,7 +107,7 @@ fn is_method_token(token: u32) -> bool
 }
 
 impl NewTokens {
-    /// What the operand of `ldtoken` becomes (III.4.17): a type, a field or a method.
+    /// The new operand of `ldtoken` (III.4.17): a type, a field or a method.
     fn any(&self, rec: &AsmRec, token: u32) -> u32
         ensures { result ≡ any_by self.now rec.now token }
     {
@@ -120,7 +120,7 @@ impl NewTokens {
         }
     }
 
-    /// What the token of an instruction of this form becomes.
+    /// The new token of an instruction of this form.
     pub(crate) fn of_form(&self, rec: &AsmRec, form: Form, token: u32) -> u32
         ensures { result ≡ form_by self.now rec.now form token }
     {

@@ -15,7 +15,7 @@ use Rattle.rules.specs.merge_rules.Restricted.{nested_in, semantics_of}
 use Rattle.merge_plan.specs.declared.kept_tables.tables.KeptTables.{KeptTables}
 use Rattle.merge_plan.specs.kept_tables.Kept.{token_by}
 
--- what each assembly gives, one behind the other
+-- what each assembly gives, one after the other
 abbrev pub of_inputs : {B : Type 0} → (ℕ → AsmRec → List B) → List AsmRec → List B
 of_inputs f recs = flat_map (λ (x : ℕ × AsmRec). f x.0 x.1) (inputs recs)
 

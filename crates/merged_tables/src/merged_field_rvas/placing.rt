@@ -10,7 +10,7 @@ use il_base::world_model::{FieldRvaRow, Known};
 use il_base::{NoMemory, Seq, Text};
 use std::alloc::Global;
 
-/// The address of method bodies, behind which the bytes of fields are.
+/// The address of method bodies; the bytes of fields come after them.
 const CODE_RVA: u64 = 0x2050;
 
 /// The next multiple of 8.

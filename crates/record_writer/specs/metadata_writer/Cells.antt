@@ -2,7 +2,7 @@
 use Rattle.std.specs.Prelude.{ℕ, List, [], ◌∷◌, ◌++◌}
 use Rattle.byteorder.specs.Endian.{little_bytes}
 
--- numbers behind one another, each in as many bytes as its width says
+-- numbers one after another, each in as many bytes as its width says
 abbrev pub cells_bytes : List ℕ → List ℕ → List ℕ
 cells_bytes [] ns = []
 cells_bytes (w ∷ ws) [] = []

@@ -1,4 +1,4 @@
--- Items behind their lengths, as they are put: a length of 2^29 or more, which has no spelling, takes four bytes.
+-- Items after their lengths, as they are put: a length of 2^29 or more, which has no spelling, takes four bytes.
 use Rattle.std.specs.Prelude.{ℕ, ◌+◌, ◌*◌, ◌/◌, ◌%◌, nat_lt, List, [], ◌∷◌, ◌++◌, length, if◌then◌else◌}
 use Rattle.std.specs.List.{flat_map}
 use Rattle.rules.specs.file_layout.Bytes.{padded}

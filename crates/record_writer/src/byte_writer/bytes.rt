@@ -1,4 +1,4 @@
-//! Numbers, zeros and padding behind bytes.
+//! Numbers, zeros and padding, appended to bytes.
 
 ghost use Rattle.std.specs.Prelude.{◌≡◌, ◌+◌, ◌-◌, ◌≤◌, ◌<◌, ◌^◌, ◌++◌, OnOk};
 ghost use Rattle.byteorder.specs.Endian.{little_bytes};
@@ -6,7 +6,7 @@ ghost use Rattle.rules.specs.file_layout.Bytes.{half, word, zeros, aligned, padd
 
 use il_base::NoMemory;
 
-/// Puts the lowest bytes of a number behind the bytes, the lowest first.
+/// Appends the lowest bytes of a number to the bytes, the lowest first.
 #[tactic(auto, using(crate::proofs::lemmas::byte_writer::LowBytes::take_low))]
 pub fn put_number(out: &mut Vec<u8>, width: usize, n: u64) -> Result<(), NoMemory>
     requires { width ≤ 8 }
@@ -17,21 +17,21 @@ pub fn put_number(out: &mut Vec<u8>, width: usize, n: u64) -> Result<(), NoMemor
     Ok(())
 }
 
-/// Puts the lowest two bytes of a number behind the bytes.
+/// Appends the lowest two bytes of a number to the bytes.
 pub fn put_half(out: &mut Vec<u8>, n: u64) -> Result<(), NoMemory>
     ensures { OnOk result (out.new.items ≡ out.old.items ++ half n) }
 {
     put_number(out, 2, n)
 }
 
-/// Puts the lowest four bytes of a number behind the bytes.
+/// Appends the lowest four bytes of a number to the bytes.
 pub fn put_word(out: &mut Vec<u8>, n: u64) -> Result<(), NoMemory>
     ensures { OnOk result (out.new.items ≡ out.old.items ++ word n) }
 {
     put_number(out, 4, n)
 }
 
-/// Puts zeros behind the bytes.
+/// Appends zeros to the bytes.
 pub fn put_zeros(out: &mut Vec<u8>, count: usize) -> Result<(), NoMemory>
     requires { count < 2 ^ 32 }
     ensures { OnOk result (out.new.items ≡ out.old.items ++ zeros count) }
@@ -53,7 +53,7 @@ pub fn next_multiple(k: u64, n: u64) -> u64
     (n + (k - 1)) / k * k
 }
 
-/// Puts zeros behind the bytes, up to the next multiple of a number.
+/// Appends zeros to the bytes, up to the next multiple of a number.
 pub fn pad(out: &mut Vec<u8>, k: u64) -> Result<(), NoMemory>
     requires above { 0 < k }
     requires small { k ≤ 65536 }

@@ -28,14 +28,14 @@ const COFF: [u8; 24] = [
     b'P', b'E', 0, 0, 0x4c, 0x01, 2, 0, 0, 0, 0, 0, 0, 0, 0, 0, 0, 0, 0, 0, 0xe0, 0, 0x02, 0x01,
 ];
 
-/// The data directories behind that of relocations: import addresses and the CLI header.
+/// The data directories after that of relocations: import addresses and the CLI header.
 const LAST_DIRECTORIES: [u8; 80] = [
     0, 0, 0, 0, 0, 0, 0, 0, 0, 0, 0, 0, 0, 0, 0, 0, 0, 0, 0, 0, 0, 0, 0, 0, 0, 0, 0, 0, 0, 0, 0, 0,
     0, 0, 0, 0, 0, 0, 0, 0, 0, 0, 0, 0, 0, 0, 0, 0, 0, 0x20, 0, 0, 8, 0, 0, 0, 0, 0, 0, 0, 0, 0, 0,
     0, 0x08, 0x20, 0, 0, 72, 0, 0, 0, 0, 0, 0, 0, 0, 0, 0, 0,
 ];
 
-/// The fields of the optional header that the CLI has as in any image (II.25.2.3.1), up to its ImageBase.
+/// The standard fields of the optional header (II.25.2.3.1).
 fn put_standard_fields(out: &mut Vec<u8>, p: &Parts<'_>) -> Result<(), NoMemory>
     requires { HasPlaces p.now }
     ensures { OnOk result (out.new.items ≡ out.old.items
@@ -122,7 +122,7 @@ fn put_directories(out: &mut Vec<u8>, p: &Parts<'_>) -> Result<(), NoMemory>
     Ok(())
 }
 
-/// What a section header has (II.25.3).
+/// The fields of a section header (II.25.3).
 #[derive(Clone, Copy)]
 struct SectionHeader {
     name: [u8; 8],

@@ -10,7 +10,7 @@ use crate::image_writer::sections::Parts;
 /// Where `.text` stands, with the import addresses at its front.
 pub const TEXT_RVA: u64 = 0x2000;
 
-/// Where method bodies stand, behind the import addresses and the CLI header.
+/// Where method bodies stand, after the import addresses and the CLI header.
 pub const CODE_RVA: u64 = 0x2050;
 
 pub fn metadata_rva(p: &Parts<'_>) -> u64
@@ -29,7 +29,7 @@ pub fn imports_rva(p: &Parts<'_>) -> u64
     metadata_rva(p) + p.metadata.len() as u64
 }
 
-/// The import lookup table, behind the directory of 40 bytes.
+/// The import lookup table, after the directory of 40 bytes.
 pub fn lookup_rva(p: &Parts<'_>) -> u64
     requires { HasPlaces p.now }
     ensures value { result ≡ layout.lookup_rva (parts p.now) }

@@ -13,7 +13,7 @@ use crate::image_writer::rvas::{
 use il_base::NoMemory;
 use std::alloc::Global;
 
-/// What an image is made of.
+/// The parts that an image is made of.
 #[derive(Drop)]
 pub struct Parts<'a> {
     /// The flags of the CLI header (II.25.3.3.1).
@@ -64,7 +64,7 @@ fn put_import_directory(out: &mut Vec<u8>, p: &Parts<'_>) -> Result<(), NoMemory
     put_zeros(out, 20)
 }
 
-/// The names of the imports behind the lookup table: a hint of 0 and `_CorExeMain`, and the library.
+/// The names of the imports after the lookup table: a hint of 0 and `_CorExeMain`, and the library.
 fn put_import_names(out: &mut Vec<u8>) -> Result<(), NoMemory>
     ensures { OnOk result (out.new.items ≡ out.old.items ++ (half 0 ++ (codes "_CorExeMain" ++ zeros 1) ++ (codes "mscoree.dll" ++ zeros 1))) }
 {
@@ -84,7 +84,7 @@ fn put_imports(out: &mut Vec<u8>, p: &Parts<'_>) -> Result<(), NoMemory>
     put_import_names(out)
 }
 
-/// The jump through the import address, behind zeros.
+/// The jump through the import address, after zeros.
 #[tactic(auto, unfolding(rules::specs::file_layout::Image::jump_bytes))]
 fn put_jump(out: &mut Vec<u8>, p: &Parts<'_>) -> Result<(), NoMemory>
     requires { HasPlaces p.now }

@@ -40,7 +40,7 @@ fn put_length(out: &mut Vec<u8>, n: usize) -> Result<(), NoMemory>
     Ok(())
 }
 
-/// `#Strings`: each text with a zero behind it.
+/// `#Strings`: each text with a zero after it.
 #[tactic(auto, unfolding(rules::specs::file_layout::Heaps::strings_heap))]
 pub fn strings(alloc: Global, texts: &Pool) -> Result<Heap, NoMemory>
     ensures bytes { IfOk result (λ h. h.bytes.items ≡ layout.strings_heap texts.now) }
@@ -58,7 +58,7 @@ pub fn strings(alloc: Global, texts: &Pool) -> Result<Heap, NoMemory>
     Ok(Heap { bytes, starts })
 }
 
-/// A blob behind its length.
+/// A blob after its length.
 #[tactic(auto, unfolding(crate::specs::metadata_writer::Lengths::blob_put))]
 fn put_blob(out: &mut Vec<u8>, blob: &[u8]) -> Result<(), NoMemory>
     ensures { OnOk result (out.new.items ≡ out.old.items ++ blob_put blob.now) }
@@ -68,7 +68,7 @@ fn put_blob(out: &mut Vec<u8>, blob: &[u8]) -> Result<(), NoMemory>
     Ok(())
 }
 
-/// `#Blob`: each blob behind its length.
+/// `#Blob`: each blob after its length.
 #[tactic(auto, unfolding(crate::specs::metadata_writer::Lengths::blobs_put))]
 pub fn blobs(alloc: Global, items: &Pool) -> Result<Heap, NoMemory>
     ensures bytes { IfOk result (λ h. h.bytes.items ≡ blobs_put items.now) }
@@ -97,8 +97,8 @@ pub fn guids(alloc: Global, items: &Pool) -> Result<Vec<u8>, NoMemory>
     Ok(bytes)
 }
 
-/// Whether a UTF-16 unit needs more than a plain look: it has a high byte, or is one of the characters 01 to 08, 0e to
-/// 1f, 27, 2d and 7f (II.24.2.4).
+/// Whether a UTF-16 unit is special: its high byte isn't zero, or it is one of the characters 01 to 08, 0e to 1f, 27, 2d and 7f
+/// (II.24.2.4).
 #[tactic(auto, unfolding(rules::specs::file_layout::Heaps::is_special))]
 fn is_special(unit: u16) -> bool
     ensures { result ≡ layout.is_special unit }
@@ -135,7 +135,7 @@ fn put_units(out: &mut Vec<u8>, units: &[u16]) -> Result<(), NoMemory>
     Ok(())
 }
 
-/// A user text behind its length in bytes.
+/// A user text after its length in bytes.
 #[tactic(auto, unfolding(crate::specs::metadata_writer::Lengths::user_put))]
 fn put_user(out: &mut Vec<u8>, units: &[u16]) -> Result<(), NoMemory>
     ensures { OnOk result (out.new.items ≡ out.old.items ++ user_put units.now) }
@@ -146,7 +146,7 @@ fn put_user(out: &mut Vec<u8>, units: &[u16]) -> Result<(), NoMemory>
     Ok(())
 }
 
-/// `#US`: each text behind its length (II.24.2.4).
+/// `#US`: each text after its length (II.24.2.4).
 #[tactic(auto, unfolding(crate::specs::metadata_writer::Lengths::users_put))]
 pub fn users(alloc: Global, texts: &[UserText]) -> Result<Vec<u8>, NoMemory>
     ensures { IfOk result (λ v. v.items ≡ users_put (map (λ t. t.text) texts.now)) }

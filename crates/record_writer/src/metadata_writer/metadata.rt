@@ -30,7 +30,7 @@ const ROOT: [u8; 32] = [
     b'3', b'0', b'3', b'1', b'9', 0, 0, 0, 0, 5, 0,
 ];
 
-/// Where the first stream begins, behind the headers.
+/// Where the first stream begins, after the headers.
 const TABLES_AT: u64 = 0x6c;
 
 fn strings_at(s: &Streams<'_>) -> u64
@@ -84,7 +84,7 @@ fn put_stream_headers(out: &mut Vec<u8>, s: &Streams<'_>) -> Result<(), NoMemory
     put_stream_header(out, blobs_at(s), s.blobs, b"#Blob\0\0\0")
 }
 
-/// The streams, one behind the other.
+/// The streams, one after the other.
 fn put_streams(out: &mut Vec<u8>, s: &Streams<'_>) -> Result<(), NoMemory>
     ensures { OnOk result (out.new.items ≡ out.old.items
         ++ (s.now.tables.now ++ s.now.strings.now ++ s.now.users.now ++ s.now.guids.now ++ s.now.blobs.now)) }

@@ -12,7 +12,7 @@ use il_base::{NoMemory, Seq, Text};
 use rules::file_layout::Cell;
 use std::alloc::Global;
 
-/// Where the items of pools stand in their heaps.
+/// The places of the items of pools in their heaps.
 #[derive(Drop)]
 pub struct Places<'a> {
     pub pools: &'a Pools,

@@ -44,7 +44,7 @@ impl Pool {
         Ok(())
     }
 
-    /// Which of the items this is, counted from 0; how many there are, where it isn't among them.
+    /// The place of an item, counted from 0; the number of items where it isn't among them.
     pub fn index(&self, item: &[u8]) -> usize
         ensures value { result ≡ index_among self.now item.now }
         ensures small { result < 2 ^ 63 }

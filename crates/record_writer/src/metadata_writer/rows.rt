@@ -24,7 +24,7 @@ fn put_row(out: &mut Vec<u8>, widths: &[u8], row: &[u64]) -> Result<(), NoMemory
     Ok(())
 }
 
-/// Rows one behind the other, by the widths of their columns.
+/// Rows one after the other, by the widths of their columns.
 fn put_rows(out: &mut Vec<u8>, widths: &[u8], rows: &[Seq<u64>]) -> Result<(), NoMemory>
     requires { All (λ w. w ≤ 4) widths.now }
     ensures { OnOk result (out.new.items ≡ out.old.items ++ flat_map (cells_bytes widths.now) rows.now) }

@@ -48,7 +48,7 @@ fn fewer(tables: &[Seq<Seq<u64>>], limit: usize, among: &[u8]) -> bool
     true
 }
 
-/// How many rows a table may have fewer than, for a coded index of two bytes to name it.
+/// A bound on rows: where a table has fewer, a coded index of two bytes can name each of them.
 fn coded_limit(index: CodedIndex) -> usize
     ensures { result ≡ 2 ^ (16 - tag_bits_of index) }
 {

@@ -1,4 +1,4 @@
-//! Rows that hang on members.
+//! Rows that belong to members.
 
 ghost use Rattle.il_base.specs.declared.table.TheConstants.{CONSTANT, CUSTOM_ATTRIBUTE, FIELD_MARSHAL, DECL_SECURITY, FIELD_LAYOUT, IMPL_MAP, FIELD_RVA, FILE, MANIFEST_RESOURCE};
 ghost use Rattle.rules.specs.record_layout.Rows as layout;

@@ -1,4 +1,4 @@
-//! Rows that have an address: methods with bodies, and the bytes of fields.
+//! Rows with an RVA: methods with bodies (II.22.26), and the bytes of fields (II.22.18).
 
 ghost use Rattle.std.specs.Prelude.{◌≡◌, ℕ, List, map, All, IfOk};
 ghost use Rattle.il_base.specs.cli_format.Columns.{columns_of};
@@ -13,7 +13,7 @@ use rules::file_layout::Cell;
 use rules::record_layout::Value;
 use std::alloc::Global;
 
-/// A row of a table that is written with an address.
+/// A row of a table that is written with an RVA.
 pub trait Placed {
     /// The table's number.
     const TABLE: u8;

@@ -1,4 +1,4 @@
--- Members in the types that have them.
+-- Members with the types that have them.
 use Rattle.std.specs.Prelude.{ℕ, List, Option}
 use Rattle.std.specs.Option.{option_map}
 use Rattle.il_base.specs.declared.world_model.record.AsmRec.{AsmRec}

@@ -1,4 +1,4 @@
--- What is looked up in the assemblies, by their index.
+-- Look-ups in the index of assemblies.
 use Rattle.std.specs.Prelude.{◌≡◌, ℕ, List, Option, Some, slice_get}
 use Rattle.std.specs.List.{AllZip}
 use Rattle.std.specs.HashMap.{get}
@@ -24,7 +24,7 @@ forwarder_by x name = inner (get same_type_name x.forwarders name)
 abbrev pub assembly_by : AsmIndex → ℕ → Option ℕ
 assembly_by x k = inner (slice_get x.assemblies.items k)
 
--- it says what the assembly's record says
+-- the index of an assembly gives what its record has
 pub record IsIndexOf (all : List AsmRec) (rec : AsmRec) (x : AsmIndex) : Type 0 where
   pub types : AreTypeRows rec x.types
   pub enclosers : AreEnclosers rec x.enclosers
@@ -36,7 +36,7 @@ pub record IsIndexOf (all : List AsmRec) (rec : AsmRec) (x : AsmIndex) : Type 0 
 abbrev pub IsIndex : TypeIndex → Type 0
 IsIndex index = AllZip (IsIndexOf index.all.now) index.all.now index.asms
 
--- it is the index of the assembly in this place
+-- `x` is the index of the assembly in this place
 pub record IsAsm (all : List AsmRec) (a : ℕ) (x : AsmIndex) : Type 0 where
   pub rec : AsmRec
   pub stands : slice_get all a ≡ Some rec

@@ -1,4 +1,4 @@
--- What references name, by the way over the references around them.
+-- The types that references name, by the chain of their scopes.
 use Rattle.std.specs.Prelude.{◌≡◌, ℕ, List, [], ◌∷◌, map, Option, slice_get}
 use Rattle.std.specs.Option.{option_and_then, option_copied}
 use Rattle.il_base.specs.declared.world_model.types.TypeRefRow.{TypeRefRow}
@@ -11,12 +11,12 @@ use Rattle.resolver.specs.declared.type_links.references.Way.{Way}
 abbrev pub scope_type : List AsmRec → ℕ → AsmRec → Option TypeRefRow → Option RowAt
 scope_type all a rec top = option_and_then (types.type_of_scope all a rec) top
 
--- from the type at the end of a way back to that of its first reference
+-- the type of the first reference of a chain, by the type at its end
 abbrev pub come_down : List AsmRec → List TypeRefRow → Option RowAt → Option RowAt
 come_down all [] around = around
 come_down all (row ∷ rows) around = types.nested_type all row.namespace row.name (come_down all rows around)
 
--- the way leads to what the row names
+-- a chain leads to the type that the row names
 abbrev pub LeadsTo : AsmRec → ℕ → Way → Type 0
 LeadsTo rec k c =
     (all : List AsmRec) (a : ℕ)

@@ -1,4 +1,4 @@
-//! Where the search for a name ends, over the assemblies that forward it (II.22.14).
+//! The assembly in which the search for a name ends, through the assemblies that forward it (II.22.14).
 
 ghost use Rattle.std.specs.Prelude.{◌≡◌, ◌<◌, suc, length, is_some, not, ◌==◌, ◌&&◌};
 ghost use Rattle.rules.specs.link_rules.Types.{assembly_at, scope_assembly, encloser_in, type_in, forwarder_in, forwarded_to, ends_at};
@@ -38,7 +38,7 @@ pub(crate) fn scope_assembly(
     }
 }
 
-/// Whether a type of an assembly is nested.
+/// The encloser of a type, by its TypeDef token and the rows of NestedClass (II.22.32).
 fn encloser_in(token: u64, rows: &[NestedClassRow]) -> Option<u32>
     ensures { result ≡ encloser_in token rows.now }
 {
@@ -102,8 +102,8 @@ fn is_last_without(all: &[AsmRec], a: usize, rec: &AsmRec, namespace: &[u8], nam
     a + 1 == all.len() && !has_type(rec, namespace, name)
 }
 
-/// Whether the search for a name in the assembly at a place ends in the last one and finds nothing there. The types of an
-/// assembly are looked at only where it forwards the name or is the last.
+/// Whether the search for a name in the assembly at a place ends in the last one and finds nothing there. The types of an assembly
+/// are searched only where it forwards the name or is the last.
 fn ends_last(all: &[AsmRec], from: usize, namespace: &[u8], name: &[u8]) -> bool
     ensures { result ≡ is_last all.now (ends_at all.now (length all.now) namespace.now name.now from) }
 {
@@ -125,7 +125,7 @@ fn ends_last(all: &[AsmRec], from: usize, namespace: &[u8], name: &[u8]) -> bool
     false
 }
 
-/// The same of the assembly of a reference's scope.
+/// Whether the search for a name in the assembly of a reference's scope ends in the last one and finds nothing there.
 #[tactic(auto, unfolding(rules::specs::link_rules::CoreNames::is_missing))]
 pub(crate) fn is_missing(
     all: &[AsmRec],

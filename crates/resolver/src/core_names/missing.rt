@@ -51,7 +51,8 @@ fn add(
     Ok(())
 }
 
-/// Adds the name of a reference in the core library to a type that it lacks, by the place of the assembly that refers.
+/// Adds the name in a TypeRef row that leads to the core library, where this has no type of the name; `a` is the place of the row's
+/// assembly.
 fn add_missing(
     alloc: Global,
     all: &[AsmRec],
@@ -107,8 +108,8 @@ fn add_in(
     Ok(())
 }
 
-/// The names that modifiers of these assemblies use and that the core library lacks, each once, as they are met. The last
-/// assembly is the core library as its table has it.
+/// The names that modifiers of these assemblies use and that the core library lacks, each once, as they are met. The last assembly
+/// is the core library without added types.
 #[tactic(auto, unfolding(rules::specs::link_rules::CoreNames::missing_names))]
 pub fn missing_names(alloc: Global, all: &[AsmRec]) -> Result<Seq<CoreTypeName>, NoMemory>
     ensures { IfOk result (λ names. names ≡ missing_names all.now) }

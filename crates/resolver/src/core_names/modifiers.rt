@@ -11,7 +11,7 @@ use il_base::world_model::{
 use il_base::{MethodSig, NoMemory, Sig};
 use std::alloc::Global;
 
-/// Puts those of a type behind the tokens.
+/// Appends the tokens of the modifiers in a type.
 #[cycle(walking)]
 #[tactic(auto, using(crate::proofs::lemmas::core_names::Layers::layers))]
 fn in_type(sig: &Sig, tokens: &mut Vec<u32>) -> Result<(), NoMemory>
@@ -34,7 +34,7 @@ fn in_type(sig: &Sig, tokens: &mut Vec<u32>) -> Result<(), NoMemory>
     }
 }
 
-/// Puts those of some types behind the tokens.
+/// Appends the tokens of the modifiers in some types.
 #[cycle(walking)]
 #[tactic(auto, unfolding(rules::specs::link_rules::CoreNames::modifiers_of))]
 fn in_types(sigs: &[Sig], tokens: &mut Vec<u32>) -> Result<(), NoMemory>

@@ -9,7 +9,7 @@ use il_base::{NoMemory, Seq};
 use rules::link_rules::CoreTypeName;
 use std::alloc::Global;
 
-/// The row behind the last of so many.
+/// The row past the last of `count` rows.
 fn row_behind(count: usize) -> Result<u32, NoMemory>
     ensures { IfOk result (λ row. row ≡ count + 1) }
 {
@@ -37,7 +37,7 @@ fn added_row(alloc: Global, core: &AsmRec, name: &CoreTypeName) -> Result<TypeDe
     })
 }
 
-/// Puts a type without members behind those of the core library for each of these names.
+/// Appends a type without members to those of the core library for each of these names.
 #[tactic(auto, unfolding(rules::specs::link_rules::CoreNames::core_with))]
 pub fn add_names(alloc: Global, core: &mut AsmRec, names: &[CoreTypeName]) -> Result<(), NoMemory>
     ensures { OnOk result (core.new ≡ core_with core.old names.now) }

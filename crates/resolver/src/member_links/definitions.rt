@@ -25,7 +25,7 @@ pub(crate) struct Definitions {
 }
 
 impl Definitions {
-    /// Of the methods.
+    /// The definitions of the methods.
     pub(crate) fn of_methods(alloc: Global, rec: &AsmRec) -> Result<Definitions, NoMemory>
         ensures { IfOk result (OwnMethods rec.now) }
     {
@@ -34,7 +34,7 @@ impl Definitions {
         Ok(Definitions { owners, params })
     }
 
-    /// Of the fields.
+    /// The definitions of the fields.
     pub(crate) fn of_fields(alloc: Global, rec: &AsmRec) -> Result<Definitions, NoMemory>
         ensures { IfOk result (OwnFields rec.now) }
     {
@@ -53,7 +53,7 @@ impl Definitions {
     }
 }
 
-/// A member in the type that has it, which is in itself.
+/// A member in the type that has it, with the type's own generic parameters as arguments.
 fn own_member(
     alloc: Global,
     scope: &Scope<'_>,
@@ -80,7 +80,7 @@ fn own_member(
     }))
 }
 
-/// The use of a method by its own token. A method that no type has is none.
+/// The use of a method by its own token. A method that is in no type's run is unresolved.
 #[tactic(auto, unfolding(rules::specs::link_rules::Members::method_def_use))]
 pub(crate) fn method_def_use(
     alloc: Global,
@@ -96,7 +96,7 @@ pub(crate) fn method_def_use(
     method_use(alloc, scope.linked.all, found)
 }
 
-/// The use of a field by its own token. A field that no type has is none.
+/// The use of a field by its own token. A field that is in no type's run is unresolved.
 #[tactic(auto, unfolding(rules::specs::link_rules::Members::field_def_use))]
 pub(crate) fn field_def_use(
     alloc: Global,

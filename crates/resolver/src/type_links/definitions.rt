@@ -79,7 +79,7 @@ fn is_added(all: &[AsmRec], at: RowAt) -> bool
     at.asm as usize + 1 == all.len() && at.row >= TYPE_COUNT
 }
 
-/// The row that a reference leads to, for all but a modifier.
+/// The row that a reference leads to, except for a modifier: no added type of the core library.
 pub(crate) fn listed(all: &[AsmRec], at: Option<RowAt>) -> Option<RowAt>
     ensures { result ≡ option_and_then (listed_at all.now) at }
 {

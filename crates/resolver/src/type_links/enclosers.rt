@@ -16,7 +16,7 @@ pub(crate) struct Enclosers {
 }
 
 impl Enclosers {
-    /// Those of the first NestedClass row of each type.
+    /// The enclosers in the first NestedClass row of each type.
     pub(crate) fn of(alloc: Global, rec: &AsmRec) -> Result<Enclosers, NoMemory>
         ensures { IfOk result (AreEnclosers rec.now) }
     {

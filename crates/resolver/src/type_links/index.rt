@@ -10,7 +10,7 @@ use il_base::{NoMemory, Seq};
 use std::alloc::Global;
 use std::collections::HashMap;
 
-/// What is looked up in an assembly.
+/// The index of an assembly: its types, forwarders and references to assemblies.
 #[derive(Drop)]
 pub(crate) struct AsmIndex<'a> {
     /// The first row of the types with each key.
@@ -65,7 +65,7 @@ impl<'a> AsmIndex<'a> {
     }
 }
 
-/// The types of several assemblies by name, and what is looked up to find them. Assemblies and rows count from 0; the last
+/// The index of several assemblies, in which types are found by name. Assemblies and rows count from 0; the last
 /// assembly is the core library.
 #[derive(Drop)]
 pub struct TypeIndex<'a> {

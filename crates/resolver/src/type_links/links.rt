@@ -88,7 +88,7 @@ fn spec_type(
     }
 }
 
-/// Puts the links of an assembly's TypeRef rows behind these.
+/// Appends the links of an assembly's TypeRef rows to these.
 fn push_refs(
     alloc: Global,
     index: &TypeIndex<'_>,
@@ -107,7 +107,7 @@ fn push_refs(
     Ok(())
 }
 
-/// Puts the links of an assembly's TypeDef rows behind these.
+/// Appends the links of an assembly's TypeDef rows to these.
 fn push_defs(
     all: &[AsmRec],
     a: u32,
@@ -123,7 +123,7 @@ fn push_defs(
     Ok(())
 }
 
-/// Puts the links of an assembly's TypeSpec rows behind these, among which those of its other rows stand.
+/// Appends the links of an assembly's TypeSpec rows to these, among which those of its other rows stand.
 fn push_specs(
     alloc: Global,
     all: &[AsmRec],
@@ -142,7 +142,7 @@ fn push_specs(
     Ok(())
 }
 
-/// Puts the links of an assembly behind those of the assemblies before it.
+/// Appends the links of an assembly to those of the assemblies before it.
 fn push_links(
     alloc: Global,
     index: &TypeIndex<'_>,
@@ -162,8 +162,8 @@ fn push_links(
 }
 
 impl<'a> TypeIndex<'a> {
-    /// What each TypeRef, TypeDef and TypeSpec token of the assemblies names: the links of each assembly in order, and of
-    /// each those of its TypeRef, TypeDef and TypeSpec rows.
+    /// The links of the TypeRef, TypeDef and TypeSpec tokens of the assemblies, which say what each names. The assemblies come in
+    /// order, and in each the TypeRef, TypeDef and TypeSpec rows.
     pub fn type_links(&self, alloc: Global) -> Result<Vec<TypeLink>, NoMemory>
         requires { IsIndex self.now }
         ensures { IfOk result (λ links. AreTypeLinks self.now.all.now links.items) }
@@ -177,7 +177,7 @@ impl<'a> TypeIndex<'a> {
     }
 }
 
-/// What each type token of these assemblies names, of which the last is the core library. See `TypeIndex::type_links`.
+/// The links of the type tokens of these assemblies, of which the last is the core library. See `TypeIndex::type_links`.
 pub fn type_links(alloc: Global, all: &[AsmRec]) -> Result<Vec<TypeLink>, NoMemory>
     ensures { IfOk result (λ links. AreTypeLinks all.now links.items) }
 {

@@ -16,7 +16,7 @@ pub struct TypeName<'a> {
     pub name: &'a [u8],
 }
 
-/// What a type is known by among those of its assembly.
+/// The key of a type among those of its assembly: name and encloser.
 #[derive(Clone, Copy, PartialEq, Eq, Hash)]
 pub(crate) struct TypeKey<'a> {
     /// The row of the enclosing type, from 0; None for a type that isn't nested.
@@ -47,7 +47,7 @@ pub(crate) fn type_rows<'a>(
     Ok(rows)
 }
 
-/// The number behind a row's.
+/// The next row's number.
 fn next(at: u32) -> Result<u32, NoMemory>
     ensures { IfOk result (λ n. n ≡ at + 1) }
 {

@@ -27,12 +27,12 @@ fn name_of<'a>(row: &'a TypeRefRow) -> TypeName<'a>
     }
 }
 
-/// The way from a reference over the references in whose types it is (II.22.38).
+/// The chain of a nested reference's scopes: from a TypeRef row over the TypeRef rows of its enclosers (II.22.38).
 #[derive(Drop)]
 struct Way<'a> {
-    /// The references that are in the type of another, the first of them before.
+    /// The references with a TypeRef row as their scope, the first of the chain in front.
     nested: Vec<&'a TypeRefRow>,
-    /// The reference in an assembly at the end. None where the way ends at no row, or comes back to one.
+    /// The reference at the end of the chain, which isn't nested. None where the chain ends at no row, or comes back to one.
     top: Option<&'a TypeRefRow>,
 }
 
@@ -118,7 +118,7 @@ impl<'a> TypeIndex<'a> {
         }
     }
 
-    /// The type of the first reference of a way, from that of its end.
+    /// The type of the first reference of a chain, by the type at its end.
     fn come_down(&self, nested: Vec<&TypeRefRow>, end: Option<RowAt>) -> Option<RowAt>
         requires { IsIndex self.now }
         ensures { result ≡ come_down self.now.all.now (map (λ row. row.now) nested.entry.items) end }
@@ -151,7 +151,7 @@ impl<'a> TypeIndex<'a> {
         Ok(self.come_down(nested, end))
     }
 
-    /// The definition that a TypeRef row of an assembly names, for all but a modifier.
+    /// The definition that a TypeRef row of an assembly names, except for a modifier.
     #[tactic(auto, unfolding(rules::specs::link_rules::Types::ref_definition))]
     fn ref_definition(
         &self,

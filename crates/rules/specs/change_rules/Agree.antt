@@ -18,7 +18,7 @@ use Rattle.rules.specs.change_rules.Answers.{move_method, move_field, move_layou
 use Rattle.rules.specs.change_rules.States.{mask}
 use Rattle.rules.specs.change_rules.Keeps.{keeps_expr, keeps_defined, shows_expr, makes_expr, keeps_made, keeps_use, is_of_owner, keeps_method, keeps_field, keeps_layout, keeps_shape}
 
--- the types of the core library that a step asks for by name: of exceptions that it raises, of objects of reflection
+-- the types of the core library that a step asks for by name: those of the exceptions that it raises, and of objects of reflection
 unfoldable pub is_asked : CoreName → Bool
 is_asked name.Exception = true
 is_asked name.NullReferenceException = true
@@ -52,13 +52,13 @@ pub record Agree (k : Change) (after before : Queries) : Type 0 where
   pub field : (f : ℕ) → IsTrue (k.keep.field f) → after.field (k.rho.field f) ≡ option_map (move_field k.rho) (before.field f)
   pub head : (t : ℕ) → IsTrue (k.keep.typ t) → after.head (k.rho.typ t) ≡ before.head t
   pub shape : (e : TypeExpr) → IsTrue (keeps_expr k.keep e) → after.shape (move_expr k.rho e) ≡ move_shape k.rho (before.shape e)
-  -- without those of fields that aren't kept
+  -- the same cells, but those of fields that aren't kept
   pub cells : (e : TypeExpr) → IsTrue (keeps_expr k.keep e)
       → after.cells (move_expr k.rho e) ≡ map (move_layout k.rho) (keep (mask k.keep (before.cells e)) (before.cells e))
   pub starts : (t : ℕ) → IsTrue (k.keep.begun t) → after.starts (k.rho.typ t) ≡ option_map k.rho.method (before.starts t)
   pub below : (a b : TypeExpr) → IsTrue (keeps_expr k.keep a) → IsTrue (keeps_defined k.keep b)
       → after.below (move_expr k.rho a) (move_expr k.rho b) ≡ before.below a b
-  -- of a method that is called on a type of its owner's definition
+  -- virtual calls of a method on a type of its owner's definition
   pub answers : (e owner : TypeExpr) (m : ℕ) → IsTrue (keeps_made k.keep e) → IsTrue (keeps_expr k.keep owner) → IsTrue (k.keep.method m) → IsTrue (is_of_owner (before.method m) owner)
       → after.answers (move_expr k.rho e) (move_expr k.rho owner) (k.rho.method m) ≡ option_map (move_use k.rho) (before.answers e owner m)
   pub text : (e : TypeExpr) → IsTrue (shows_expr k.keep e) → after.text (move_expr k.rho e) ≡ before.text e
@@ -69,7 +69,7 @@ pub record Agree (k : Change) (after before : Queries) : Type 0 where
   pub keeps_known : (n : CoreName) → IsTrue (is_asked n) → IsTrue (keeps_core k.keep (before.known n))
   pub keeps_methods : (m : ℕ) (f : Method) → IsTrue (k.keep.method m) → before.method m ≡ Some f → IsTrue (keeps_method k.keep before f)
   pub keeps_fields : (m : ℕ) (f : FieldDef) → IsTrue (k.keep.field m) → before.field m ≡ Some f → IsTrue (keeps_field k.keep f)
-  -- each instance field of a value type that is kept
+  -- the type of each instance field of a value type that is kept
   pub keeps_shapes : (e : TypeExpr) → IsTrue (keeps_expr k.keep e) → IsTrue (keeps_shape k.keep (before.shape e))
   pub keeps_cells : (e : TypeExpr) → IsTrue (keeps_expr k.keep e)
       → IsTrue (list_all (keeps_layout k.keep) (keep (mask k.keep (before.cells e)) (before.cells e)))

@@ -1,4 +1,4 @@
--- What a world answers, and what a step makes of it, under new numbers.
+-- The answers of a world, and what a step makes of them, under new numbers of types, methods and fields.
 use Rattle.std.specs.Prelude.{map}
 use Rattle.std.specs.Option.{option_map}
 use Rattle.il_base.specs.world_model.Worlds.{known_map}

@@ -1,19 +1,19 @@
--- A change of numbers: what becomes of each type, method and field, and which are kept.
+-- A change of numbers: the new number of each type, method and field, and which of them are kept.
 use Rattle.std.specs.Prelude.{◌≡◌, ℕ, Bool}
 
--- new numbers
+-- the new numbers of types, methods and fields
 pub record Rho : Type 0 where
   pub typ : ℕ → ℕ
   pub method : ℕ → ℕ
   pub field : ℕ → ℕ
 
--- the first leads each number of the second back, so that no two numbers become one
+-- `back` undoes `rho`, so no two numbers become one
 pub record Undone (back rho : Rho) : Type 0 where
   pub typ : (t : ℕ) → back.typ (rho.typ t) ≡ t
   pub method : (m : ℕ) → back.method (rho.method m) ≡ m
   pub field : (f : ℕ) → back.field (rho.field f) ≡ f
 
--- which are kept; those of the core library always are
+-- which types, methods and fields are kept; those of the core library always are
 pub record Keep : Type 0 where
   pub typ : ℕ → Bool
   pub method : ℕ → Bool

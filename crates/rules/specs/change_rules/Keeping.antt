@@ -22,8 +22,8 @@ place_of (true ∷ bs) zero = 0
 place_of (true ∷ bs) (suc n) = suc (place_of bs n)
 place_of (false ∷ bs) n = suc (place_of bs n)
 
--- The new number of an item, of n with a flag each, before c that all stay: first those that stay, then the c. An item that
--- goes, and a number after all items, get numbers after these, so that no two numbers become one.
+-- The new number of an item. There are n items with a flag each, and then c items that all stay. The items that stay come first,
+-- then the c. An item that goes, and a number after all items, get numbers after these, so that no two numbers become one.
 unfoldable pub new_number : List Bool → ℕ → ℕ → ℕ → ℕ
 new_number flags n c m =
     let kept = rank flags n in
@@ -31,7 +31,7 @@ new_number flags n c m =
     else if nat_lt m (n + c) then kept + (m - n)
     else kept + m
 
--- the number that became m
+-- the number whose new number is m
 unfoldable pub old_number : List Bool → ℕ → ℕ → ℕ → ℕ
 old_number flags n c m =
     let kept = rank flags n in

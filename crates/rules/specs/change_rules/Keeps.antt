@@ -38,7 +38,8 @@ use Rattle.rules.specs.change_rules.States.{keeps_cell}
 abbrev pub itself : Bool → Bool
 itself b = b
 
--- of a type: whether what it names is kept, with generic arguments that are shown, and whether its text may be printed
+-- two answers on a type: whether all definitions that it names are kept and its generic arguments shown, and whether its text may
+-- be printed
 pub record Names : Type 0 where
   pub kept : Bool
   pub shown : Bool
@@ -60,7 +61,7 @@ names_of k = fold-TypeExpr Names (names_layer k)
 abbrev pub keeps_expr : Keep → TypeExpr → Bool
 keeps_expr k e = (names_of k e).kept
 
--- whether each definition that a type names is kept, in its generic arguments too, which needn't be shown
+-- whether each definition that a type names is kept, in its generic arguments too; these needn't be shown
 abbrev pub defined_layer : Keep → TypeExpr-F Bool → Bool
 defined_layer k (TypeExpr-F.Def t) = k.typ t.0
 defined_layer k (TypeExpr-F.Inst t args) = k.typ t.0 && list_all itself args
@@ -76,8 +77,8 @@ keeps_defined k = fold-TypeExpr Bool (defined_layer k)
 abbrev pub shows_expr : Keep → TypeExpr → Bool
 shows_expr k e = both (names_of k e)
 
--- whether a flag is set for the definition that a type without modifiers is of; an array and a primitive have none and pass, a
--- parameter doesn't
+-- whether a flag is set for the definition of a type without modifiers; an array and a primitive have no definition and pass, a
+-- generic parameter doesn't
 abbrev pub definition_passes : (ℕ → Bool) → TypeExpr-F TypeExpr → Bool
 definition_passes flag (TypeExpr-F.Def t) = flag t.0
 definition_passes flag (TypeExpr-F.Inst t args) = flag t.0
@@ -85,13 +86,13 @@ definition_passes flag (TypeExpr-F.Var n) = false
 definition_passes flag (TypeExpr-F.MVar n) = false
 definition_passes flag _ = true
 
--- a parameter passes too
+-- the same, where a generic parameter passes too
 abbrev pub parameter_passes : (ℕ → Bool) → TypeExpr-F TypeExpr → Bool
 parameter_passes flag (TypeExpr-F.Var n) = true
 parameter_passes flag (TypeExpr-F.MVar n) = true
 parameter_passes flag x = definition_passes flag x
 
--- a type of which there can be objects; of a parameter, which no object has for its type, nothing is asked
+-- a type of which there can be objects; a generic parameter passes, since no object has it as its type
 unfoldable pub makes_expr : Keep → TypeExpr → Bool
 makes_expr k e = parameter_passes k.made (out-TypeExpr (plain e))
 
@@ -102,7 +103,7 @@ news_expr k e = definition_passes k.made (out-TypeExpr (plain e))
 unfoldable pub begins_expr : Keep → TypeExpr → Bool
 begins_expr k e = definition_passes k.begun (out-TypeExpr (plain e))
 
--- the type of an object
+-- a type that an object can have: shown, and with objects
 abbrev pub keeps_made : Keep → TypeExpr → Bool
 keeps_made k e = shows_expr k e && makes_expr k e
 
@@ -139,7 +140,8 @@ keeps_values k = list_all (keeps_value k)
 
 -- ---- code
 
--- whether a type, without the modifiers around it, is of a definition, where it is of one; a parameter isn't
+-- whether a type, without the modifiers around it, is of this definition; a type without a definition passes, a generic parameter
+-- doesn't
 abbrev pub is_of : ℕ → TypeExpr → Bool
 is_of n e = definition_passes (nat_eq n) (out-TypeExpr (plain e))
 
@@ -169,7 +171,8 @@ keeps_operand k q (method u) = if_good (keeps_called k q) u
 keeps_operand k q (field u) = if_good (keeps_accessed k q) u
 keeps_operand k q _ = true
 
--- of objects that an instruction makes, `constrained.` among these, the type is shown; `newobj` makes its owner
+-- The type of an object that an instruction makes is shown, also that of `constrained.`; `newobj` makes an object of its method's
+-- owner.
 abbrev pub keeps_of_form : Keep → ℕ → Form → Use → Bool
 keeps_of_form k opcode form.NewObj (method u) = if_good (λ u. shows_expr k u.owner && news_expr k u.owner) u
 keeps_of_form k opcode form.Box (typ e) = if_good (shows_expr k) e

@@ -1,4 +1,4 @@
--- Two worlds in step: what one comes to is what the other comes to, with new numbers, and names only what is kept.
+-- Two worlds in step: a step in one comes to the same as in the other, with new numbers, and names only what is kept.
 use Rattle.std.specs.Prelude.{◌≡◌, ℕ, List, Bool, true, Option, Some, None, IsTrue}
 use Rattle.std.specs.List.{list_all}
 use Rattle.std.specs.Option.{option_map}
@@ -33,7 +33,7 @@ pub record Runs (k : Keep) (q : Queries) (here : Here) (i : Instruction) (s : St
   pub margs : IsTrue (list_all (shows_expr k) here.margs)
   pub instruction : IsTrue (keeps_instruction k q i)
 
--- what a form asks besides of a state: nothing
+-- a further premise on the state that a form of instruction could have: none has one
 abbrev pub Ready : Change → Queries → Here → Instruction → State → Type 0
 Ready k q here i s = Unit {0}
 

@@ -1,5 +1,5 @@
--- States, and what a step comes to, under new numbers. Objects and frames keep their numbers, and none goes; of an object the
--- cells of fields that aren't kept go.
+-- States, and what a step comes to, under new numbers. Objects and frames keep their numbers, and none is dropped. An object loses
+-- the cells of fields that aren't kept.
 use Rattle.std.specs.Prelude.{List, map, Bool, true}
 use Rattle.il_base.specs.declared.world_model.expr.TypeExpr.{TypeExpr}
 use Rattle.il_base.specs.declared.cil_values.value.Value.{Value}
@@ -26,7 +26,7 @@ use Rattle.rules.specs.change_rules.Moves.{move_item, move_method_id, move_expr,
 
 -- ---- cells
 
--- the two cells that an exception has of its own always stay
+-- the two cells of every exception, its message and its inner exception, always stay
 abbrev pub keeps_cell : Keep → Cell → Bool
 keeps_cell k (of_field f) = k.field f
 keeps_cell k _ = true

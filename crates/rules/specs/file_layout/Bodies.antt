@@ -7,7 +7,7 @@ use Rattle.il_base.specs.declared.world_model.known.Known.TheVariants.{Good, Bad
 use Rattle.rules.specs.file_layout.Bytes.{aligned, padded}
 use Rattle.rules.specs.file_layout.Image.{code_rva}
 
--- a body behind the bytes that stand before it
+-- a body after the bytes that stand before it
 unfoldable pub body_behind : List ℕ → Body → List ℕ
 body_behind before b = padded 4 before ++ body_bytes b
 
@@ -16,12 +16,12 @@ behind before None = before
 behind before (Some (Good b)) = body_behind before b
 behind before (Some (Bad why)) = before
 
--- the bodies behind some bytes
+-- the bodies after some bytes
 unfoldable pub code_behind : List ℕ → List (Option (Known Body)) → List ℕ
 code_behind before [] = before
 code_behind before (b ∷ bs) = code_behind (behind before b) bs
 
--- the address of a body behind so many bytes, 0 for none; addresses have 32 bits
+-- the RVA of a body after so many bytes, 0 for none; RVAs have 32 bits
 abbrev pub rva_at : ℕ → Option (Known Body) → ℕ
 rva_at before None = 0
 rva_at before (Some (Good b)) = (code_rva + aligned 4 before) % 4294967296

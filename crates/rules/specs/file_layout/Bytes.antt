@@ -16,6 +16,6 @@ zeros n = replicate n 0
 unfoldable pub aligned : ℕ → ℕ → ℕ
 aligned k n = (n + (k - 1)) / k * k
 
--- bytes with zeros behind them, up to the next multiple of a number
+-- bytes with zeros after them, up to the next multiple of a number
 abbrev pub padded : ℕ → List ℕ → List ℕ
 padded k bs = bs ++ zeros (aligned k (length bs) - length bs)

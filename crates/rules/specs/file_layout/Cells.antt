@@ -25,7 +25,7 @@ abbrev pub guids_of_cell : Cell → List (List ℕ)
 guids_of_cell (Guid (b ∷ bs)) = (b ∷ bs) ∷ []
 guids_of_cell _ = []
 
--- those of all cells, in order of table, row and column
+-- the items of all cells, in order of table, row and column
 abbrev pub in_all : (Cell → List (List ℕ)) → CellTables → List (List ℕ)
 in_all items tables = flat_map (λ rows. flat_map (λ row. flat_map items row) rows) tables
 

@@ -6,7 +6,7 @@ use Rattle.il_base.specs.blob_grammar.Numbers.{shortest}
 use Rattle.rules.specs.file_layout.Bytes.{half, padded}
 use Rattle.rules.specs.file_layout.Interning.{place_among}
 
--- ---- `#Strings`: each text with a zero behind it
+-- ---- `#Strings`: each text with a zero after it
 
 abbrev pub string_item : List ℕ → List ℕ
 string_item text = text ++ 0 ∷ []
@@ -19,7 +19,7 @@ unfoldable pub string_place : List (List ℕ) → List ℕ → ℕ
 string_place texts [] = 0
 string_place texts (c ∷ cs) = place_among string_item 1 texts (c ∷ cs)
 
--- ---- `#Blob`: each blob behind its length
+-- ---- `#Blob`: each blob after its length
 
 abbrev pub blob_item : List ℕ → List ℕ
 blob_item blob = shortest (length blob) ++ blob
@@ -40,9 +40,9 @@ unfoldable pub guid_number : List (List ℕ) → List ℕ → ℕ
 guid_number guids [] = 0
 guid_number guids (b ∷ bs) = place_among (λ g. 0 ∷ []) 1 guids (b ∷ bs)
 
--- ---- `#US`: UTF-16 units behind their length, with a last byte that says whether one of them needs more than a plain look
+-- ---- `#US`: UTF-16 units after their length, and a last byte: 1 where one of the units is special, else 0
 
--- a unit with a high byte, or of the characters 01 to 08, 0e to 1f, 27, 2d and 7f (II.24.2.4)
+-- a special unit: one with a nonzero high byte, or of the characters 01 to 08, 0e to 1f, 27, 2d and 7f (II.24.2.4)
 unfoldable pub is_special : ℕ → Bool
 is_special u =
     nat_le 0x100 u || (nat_le 0x01 u && nat_le u 0x08) || (nat_le 0x0e u && nat_le u 0x1f) || u == 0x27 || u == 0x2d || u == 0x7f
@@ -59,7 +59,7 @@ user_item units = shortest (2 * length units + 1) ++ units_bytes units ++ last_b
 unfoldable pub users_heap : List (List ℕ) → List ℕ
 users_heap texts = padded 4 (0 ∷ flat_map user_item texts)
 
--- the place of a text, the empty one among them
+-- the place of a text in `#US`, where the empty text is an item as any other
 unfoldable pub user_place : List (List ℕ) → List ℕ → ℕ
 user_place texts units = place_among user_item 1 texts units
 

@@ -1,8 +1,8 @@
--- The image (II.25): PE32 with two sections, `.text` at RVA 2000 and file 200, and `.reloc` behind it.
+-- The image (II.25): PE32 with two sections, `.text` at RVA 2000 and file 200, and `.reloc` after it.
 use Rattle.std.specs.Prelude.{ℕ, ◌+◌, ◌-◌, ◌*◌, ◌/◌, ◌%◌, List, ◌∷◌, ◌++◌, length, codes}
 use Rattle.rules.specs.file_layout.Bytes.{half, word, zeros, aligned, padded}
 
--- what an image is made of
+-- the parts that an image is made of
 pub record Parts : Type 0 where
   -- the flags of the CLI header (II.25.3.3.1) and the entry point's token
   pub bits : ℕ
@@ -16,7 +16,7 @@ pub record Parts : Type 0 where
 abbrev pub text_rva : ℕ
 text_rva = 0x2000
 
--- behind the import addresses (8 bytes) and the CLI header (72)
+-- the RVA of the code, after the import addresses (8 bytes) and the CLI header (72)
 abbrev pub code_rva : ℕ
 code_rva = 0x2050
 
@@ -28,7 +28,8 @@ metadata_rva p = code_rva + length p.code
 abbrev pub imports_rva : Parts → ℕ
 imports_rva p = metadata_rva p + length p.metadata
 
--- behind the import directory of 40 bytes; then the lookup table of 8, hint and name of 14, the library's name of 12
+-- the RVA of the lookup table, after the import directory of 40 bytes; then come the table of 8, hint and name of 14, the library's
+-- name of 12
 abbrev pub lookup_rva : Parts → ℕ
 lookup_rva p = imports_rva p + 40
 
@@ -130,6 +131,6 @@ headers_bytes p = dos_bytes ++ coff_bytes ++ optional_bytes p ++ directories_byt
 unfoldable pub image_bytes : Parts → List ℕ
 image_bytes p = headers_bytes p ++ padded 0x200 (text_section p) ++ padded 0x200 (reloc_section p)
 
--- how many bytes they are
+-- the length of the image in bytes
 abbrev pub image_length : Parts → ℕ
 image_length p = 0x200 + text_raw p + 0x200

@@ -1,4 +1,4 @@
--- Items that are written once, whoever names them.
+-- Items that are written once, however many cells name them.
 use Rattle.std.specs.Prelude.{ℕ, ◌+◌, List, [], ◌∷◌, ◌++◌, bytes_eq, length, if◌then◌else◌}
 use Rattle.std.specs.List.{list_any}
 
@@ -14,8 +14,8 @@ added_all xs (y ∷ ys) = added_all (added xs y) ys
 abbrev pub each_once : List (List ℕ) → List (List ℕ)
 each_once xs = added_all [] xs
 
--- where an item begins among items that are written one behind another from a place on, each with some bytes of its own
--- beside it; behind them all where it isn't there
+-- the place of an item among items that are written one after another from a place on, each in its written form; the place after
+-- them all where it isn't there
 unfoldable pub place_among : (List ℕ → List ℕ) → ℕ → List (List ℕ) → List ℕ → ℕ
 place_among written at [] x = at
 place_among written at (y ∷ ys) x = if bytes_eq y x then at else place_among written (at + length (written y)) ys x

@@ -1,4 +1,4 @@
--- The metadata root and its five streams (II.24.2.1, II.24.2.2), one behind the other.
+-- The metadata root and its five streams (II.24.2.1, II.24.2.2), one after the other.
 use Rattle.std.specs.Prelude.{ℕ, ◌+◌, List, ◌++◌, length, codes}
 use Rattle.rules.specs.file_layout.Bytes.{half, word, zeros}
 

@@ -1,5 +1,5 @@
--- The rows of a record as cells. So far the tables of thin records: Module, TypeRef, TypeDef, MethodDef, MemberRef,
--- StandAloneSig, Assembly and AssemblyRef (II.22).
+-- The rows of a record as cells, where only the tables Module, TypeRef, TypeDef, MethodDef, MemberRef, StandAloneSig, Assembly and
+-- AssemblyRef (II.22) have rows.
 use Rattle.std.specs.Prelude.{ℕ, List, [], ◌∷◌, ◌++◌, map, replicate}
 use Rattle.il_base.specs.declared.sig.Sig.{Sig}
 use Rattle.il_base.specs.declared.sig.MethodSig.{MethodSig}
@@ -52,7 +52,7 @@ type_def_cells row =
     Number row.flags ∷ Text row.name ∷ Text row.namespace ∷ Number (coded_of TypeDefOrRef row.extends)
     ∷ Number row.field_list_first ∷ Number row.method_list_first ∷ []
 
--- with the address of its body
+-- the cells of a method, with the RVA of its body
 abbrev pub method_def_cells : ℕ → MethodDefRow → List Cell
 method_def_cells rva row =
     Number rva ∷ Number row.impl_flags ∷ Number row.flags ∷ Text row.name ∷ Blob (method_blob row.signature)

@@ -35,7 +35,7 @@ fewer tables limit (t ∷ others) = nat_lt (rows_in tables t) limit && fewer tab
 abbrev pub coded_width : Tables → CodedIndex → ℕ
 coded_width tables index = if fewer tables (2 ^ (16 - tag_bits_of index)) (targets_of index) then 2 else 4
 
--- by HeapSizes and the tables' rows
+-- the width of a column, by HeapSizes and the tables' rows
 unfoldable pub width : ℕ → Tables → Column → ℕ
 width sizes tables U8 = 1
 width sizes tables U16 = 2
@@ -80,7 +80,7 @@ unfoldable pub counts_bytes : Tables → List ℕ
 counts_bytes [] = []
 counts_bytes (rows ∷ more) = (if is_empty rows then [] else word (length rows)) ++ counts_bytes more
 
--- the tables that II.22 has sorted
+-- the tables that II.22 requires to be sorted
 abbrev pub sorted_bits : ℕ
 sorted_bits = 0x16003301fa00
 

@@ -59,7 +59,7 @@ abbrev pub in_good : {A : Type 0} → (A → List ℕ) → Known A → List ℕ
 in_good tokens (Good x) = tokens x
 in_good tokens (Bad why) = []
 
--- those in the signatures of an assembly that have a reading, table by table
+-- the tokens of the modifiers in the signatures of an assembly that have a reading, table by table
 unfoldable pub all_modifiers : AsmRec → List ℕ
 all_modifiers rec =
     flat_map (λ (r : FieldRow). in_good modifiers r.signature) rec.field
@@ -83,7 +83,7 @@ is_last all (Some a) = suc a == length all
 unfoldable pub is_missing : List AsmRec → Option ℕ → List ℕ → List ℕ → Bool
 is_missing all scope namespace name = is_last all (option_and_then (ends_at all (length all) namespace name) scope)
 
--- a reference in the core library to a type that it doesn't have, also by way of assemblies that forward the name to it
+-- the name in a TypeRef row, where it leads to the core library, directly or through forwarders, and that has no type of the name
 abbrev pub missing_name : List AsmRec → ℕ → AsmRec → TypeRefRow → List CoreTypeName
 missing_name all a rec row =
     if is_missing all (scope_assembly all a rec row) row.namespace row.name
@@ -100,13 +100,13 @@ abbrev pub missing_from : List AsmRec → ℕ → List AsmRec → List CoreTypeN
 missing_from all a [] = []
 missing_from all a (rec ∷ recs) = missing_in all a rec ++ missing_from all (suc a) recs
 
--- each once, in the order in which they are met, where the core library as its table has it is the last assembly
+-- all missing names, each once, in the order in which they are met; the last assembly is the core library without added types
 unfoldable pub missing_names : List AsmRec → List CoreTypeName
 missing_names all = add_all same_core_name [] (missing_from all 0 all)
 
 -- ---- the core library with them
 
--- public, abstract and sealed, as .NET has IsVolatile or IsExternalInit
+-- the row of an added type: public, abstract and sealed, as .NET has IsVolatile or IsExternalInit
 abbrev pub added_row : AsmRec → CoreTypeName → TypeDefRow
 added_row core x = record {
   flags = STATIC_TYPE;

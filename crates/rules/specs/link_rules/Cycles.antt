@@ -1,4 +1,4 @@
--- What a type leads to, and what lies on a cycle (II.10.3, II.22.32, II.22.37).
+-- The types that a type leads to, and those on a cycle (II.10.3, II.22.32, II.22.37).
 use Rattle.std.specs.Prelude.{ℕ, zero, suc, ◌/◌, ◌%◌, List, [], ◌∷◌, ◌++◌, length, Option, Some, None, slice_get, nat_eq, ◌==◌, ◌&&◌, ◌||◌, Bool, not, if◌then◌else◌}
 use Rattle.il_base.specs.declared.table.TheConstants.{TYPE_DEF}
 use Rattle.il_base.specs.declared.field_flags.TheConstants.{STATIC}
@@ -28,7 +28,7 @@ abbrev pub add_all : {A : Type 0} → (A → A → Bool) → List A → List A �
 add_all same xs [] = xs
 add_all same xs (y ∷ ys) = add_all same (add_new same xs y) ys
 
--- what these lead to in at most n steps, themselves among it
+-- all items reachable from these in at most n steps, these included
 unfoldable pub led_to : {A : Type 0} → (A → A → Bool) → (A → List A) → ℕ → List A → List A
 led_to same next zero xs = xs
 led_to same next (suc n) xs = led_to same next n (add_all same xs (flat_map next xs))
@@ -118,7 +118,7 @@ values_layer recs _ = []
 unfoldable pub values_in : List AsmRec → TypeExpr → List RowAt
 values_in recs = fold-TypeExpr (List RowAt) (values_layer recs)
 
--- static, of a field's flags (II.23.1.5)
+-- whether a field is static, by its flags (II.23.1.5)
 abbrev pub is_static_field : FieldRow → Bool
 is_static_field f = has_flag f.flags STATIC
 

@@ -1,5 +1,5 @@
--- Which demand on several assemblies fails first: names of assemblies that are taken, types on a cycle, enclosers on a cycle,
--- members that are there twice, each kind over all assemblies in order.
+-- The first demand on several assemblies that fails: duplicate names of assemblies, types on a cycle, enclosers on a cycle,
+-- duplicate members, each kind over all assemblies in order.
 use Rattle.std.specs.Prelude.{ℕ, suc, List, [], ◌∷◌, length, Option, Some, None, nat_eq, ◌&&◌, ◌||◌, Bool, false, if◌then◌else◌}
 use Rattle.il_base.specs.declared.table.TheConstants.{TYPE_DEF, FIELD, METHOD_DEF, NESTED_CLASS}
 use Rattle.il_base.specs.declared.reason.TheConstants.{DUPLICATE_ASSEMBLY, CYCLIC_TYPES, CYCLIC_NESTING, DUPLICATE_MEMBER}
@@ -27,7 +27,7 @@ use Rattle.rules.specs.link_rules.Signatures.{names_at, method_type, same_method
 use Rattle.rules.specs.link_rules.Members.{type_count, is_compiler_controlled, owns_method, owns_field}
 use Rattle.rules.specs.link_rules.Cycles.{is_on_cycle, same_row, base_rows, interface_rows, field_values, around}
 
--- the first of these items, of which the first has the number i, that has a fault
+-- the fault of the first of these items that has one; the items are numbered from i
 abbrev pub first_of : {A B : Type 0} → (ℕ → A → Option B) → ℕ → List A → Option B
 first_of look i [] = None
 first_of look i (x ∷ xs) = or_else (look i x) (first_of look (suc i) xs)
@@ -55,7 +55,7 @@ duplicate_assembly recs = taken_from [] 0 recs
 
 -- ---- cycles of types
 
--- over bases, over interface rows, or over the value types in instance fields
+-- whether a type is on a cycle of bases, of interface rows, or of value types in instance fields
 unfoldable pub is_cyclic_type : List AsmRec → RowAt → Bool
 is_cyclic_type all at =
     is_on_cycle same_row (base_rows all) (type_count all) at
@@ -65,7 +65,7 @@ is_cyclic_type all at =
 abbrev pub cyclic_type : List AsmRec → ℕ → ℕ → TypeDefRow → Option LinkError
 cyclic_type all i k t = if is_cyclic_type all (at_row i k) then Some (fault.Bad i CYCLIC_TYPES (token_of TYPE_DEF (suc k))) else None
 
--- among these assemblies, in the world of all
+-- the first type of these assemblies that is on a cycle in the world of all
 unfoldable pub cyclic_types : List AsmRec → List AsmRec → Option LinkError
 cyclic_types all recs = first_of (λ i (rec : AsmRec). first_of (cyclic_type all i) 0 rec.type_def) 0 recs
 
@@ -83,7 +83,7 @@ cyclic_nesting recs = first_of (λ i (rec : AsmRec). first_of (cyclic_nesting_ro
 
 -- ---- members that are there twice
 
--- the place of the first item that an earlier one is the same as; what is None is the same as nothing
+-- whether two keys are the same; None is the same as nothing
 abbrev pub same_key : {A : Type 0} → (A → A → Bool) → Option A → Option A → Bool
 same_key same None y = false
 same_key same (Some x) None = false
@@ -101,7 +101,7 @@ abbrev pub numbered : {A B : Type 0} → (ℕ → A → B) → ℕ → List A �
 numbered f i [] = []
 numbered f i (x ∷ xs) = f i x ∷ numbered f (suc i) xs
 
--- what a type is known by among those of its assembly
+-- the key of a type among those of its assembly: namespace, name and encloser
 pub record TypeKey : Type 0 where
   pub namespace : List ℕ
   pub name : List ℕ
@@ -113,7 +113,7 @@ same_type_key x y = same_name x.name y.name && same_name x.namespace y.namespace
 abbrev pub type_key : AsmRec → ℕ → TypeDefRow → Option TypeKey
 type_key rec k t = Some (record { namespace = t.namespace; name = t.name; encloser = encloser rec k })
 
--- what a member is known by: its type, its name and its signature
+-- the key of a member: its type, its name and its signature
 pub record MemberKey (A : Type 0) : Type 0 where
   pub owner : ℕ
   pub name : List ℕ
@@ -127,7 +127,7 @@ member_key name None signature = None
 member_key name (Some owner) (Bad why) = None
 member_key name (Some owner) (Good signature) = Some (record { owner = owner; name = name; signature = signature })
 
--- a field that is compared: it is in a type, isn't compiler-controlled, and its signature is good
+-- the key of a field that is compared: one in a type, that isn't compiler-controlled and has a good signature
 abbrev pub field_key : List AsmRec → ℕ → AsmRec → ℕ → FieldRow → Option (MemberKey TypeExpr)
 field_key all i rec k f =
     if is_compiler_controlled f.flags then None

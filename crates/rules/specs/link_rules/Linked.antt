@@ -33,7 +33,7 @@ use Rattle.rules.specs.link_rules.CoreNames.{missing_names, core_with}
 unfoldable pub assemblies : List AsmRec → List AsmRec
 assemblies recs = recs ++ core_with core_record (missing_names (recs ++ core_record ∷ [])) ∷ []
 
--- ---- where items stand: those of each kind by assembly and row, the kinds in the order of Item
+-- ---- the assembly and the token of each item: of each kind by assembly and row, the kinds in the order of Item
 
 abbrev pub rows_from : {A B : Type 0} → (ℕ → B) → ℕ → List A → List B
 rows_from f first rows = map f (range_with_len first (length rows))
@@ -41,7 +41,7 @@ rows_from f first rows = map f (range_with_len first (length rows))
 abbrev pub home : (ℕ → Item) → ℕ → ℕ → ℕ → ℕ → Home
 home item a table before k = record { item = item (before + k); asm = record { 0 = a }; token = token_of table (suc k) }
 
--- of one kind, where the assemblies before the first of these have so many rows
+-- the items of one kind, where the assemblies before the first of these have so many rows of it
 abbrev pub homes_from : (AsmRec → ℕ) → (ℕ → Item) → ℕ → ℕ → ℕ → List AsmRec → List Home
 homes_from count item table a before [] = []
 homes_from count item table a before (rec ∷ recs) =
@@ -88,7 +88,7 @@ fields_of all a rec =
     map (λ k. field_link a FIELD k (field_def_use all a rec k)) (range_with_len 0 (length rec.field))
     ++ numbered (λ k (row : MemberRefRow). field_link a MEMBER_REF k (field_ref_use all a rec row)) 0 rec.member_ref
 
--- those of each assembly, one after the other
+-- the links of each assembly, one after the other
 abbrev pub links_from : {A : Type 0} → (ℕ → AsmRec → List A) → ℕ → List AsmRec → List A
 links_from links a [] = []
 links_from links a (rec ∷ recs) = links a rec ++ links_from links (suc a) recs

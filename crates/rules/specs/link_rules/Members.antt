@@ -1,5 +1,5 @@
--- What references to members name (II.22.25, II.22.29): a member is found by its name and signature in its parent and then
--- in the bases, the nearest first.
+-- The member that a reference names (II.22.25, II.22.29): it is found by its name and signature in its parent and then in the
+-- bases, the nearest first.
 use Rattle.std.specs.Prelude.{ℕ, zero, suc, ◌+◌, ◌-◌, List, [], ◌∷◌, length, map, take, drop, Option, Some, None, slice_get, nat_lt, nat_le, ◌==◌, ◌&&◌, ◌||◌, not, Bool, true, false, if◌then◌else◌}
 use Rattle.std.specs.List.{position_from, count_by, range_with_len}
 use Rattle.std.specs.Option.{option_map, option_and_then}
@@ -88,11 +88,11 @@ abbrev pub only_named : Option TypeExpr → Option TypeExpr
 only_named None = None
 only_named (Some e) = if is_named e then Some e else None
 
--- an interface, of a type's flags (II.23.1.15)
+-- whether a type is an interface, by its flags (II.23.1.15)
 abbrev pub is_interface_row : TypeDefRow → Bool
 is_interface_row t = has_flag t.flags INTERFACE
 
--- the base that the row of a class names (II.22.37); an interface has none, whatever its row names
+-- the base of a class, as its row names it (II.22.37); an interface has none, whatever its row names
 abbrev pub base_in : List AsmRec → ℕ → AsmRec → TypeDefRow → Option TypeExpr
 base_in recs a rec row =
     if row.extends == 0 || is_interface_row row then None else only_named (good_type (token_type recs a rec row.extends))
@@ -127,7 +127,7 @@ run_of first end rows = take (end - first) (drop (first - 1) rows)
 abbrev pub find_in_run : {A : Type 0} → (A → Bool) → ℕ → ℕ → List A → Option ℕ
 find_in_run test first end rows = position_from test (first - 1) (run_of first end rows)
 
--- CompilerControlled, of a member's flags (II.23.1.5, II.23.1.10): no reference names such a member
+-- whether a member is compiler-controlled, by its flags (II.23.1.5, II.23.1.10): no reference names such a member
 abbrev pub is_compiler_controlled : ℕ → Bool
 is_compiler_controlled flags = access_of flags == COMPILER_CONTROLLED
 
@@ -158,7 +158,7 @@ abbrev pub field_in : List AsmRec → List TypeExpr → List ℕ → TypeExpr �
 field_in recs targs name wanted at rec row =
     option_map (at_row at.asm) (find_in_run (is_field recs at.asm rec targs name wanted) row.field_list_first row.field_list_end rec.field)
 
--- what a look into the definition of a type gives
+-- the result of a look-up in the definition of a type
 abbrev pub in_definition : {A : Type 0} → List AsmRec → (RowAt → AsmRec → TypeDefRow → Option A) → TypeExpr → Option A
 in_definition recs look e =
     option_and_then (λ (at : RowAt). option_and_then (λ (rec : AsmRec). option_and_then (look at rec) (slice_get rec.type_def at.row)) (slice_get recs at.asm))
@@ -184,16 +184,16 @@ abbrev pub or_next : Option Found → Option Found → Option Found
 or_next None later = later
 or_next (Some x) later = Some x
 
--- in the first of these types that has one
+-- the member in the first of these types that has one
 unfoldable pub search : (TypeExpr → Option RowAt) → List TypeExpr → Option Found
 search look [] = None
 search look (e ∷ es) = or_next (option_map (found_in e) (look e)) (search look es)
 
--- the type's own parameters
+-- the generic parameters of a type, as arguments
 abbrev pub own_args : ℕ → List TypeExpr
 own_args n = map (λ k. expr.Var k) (range_with_len 0 n)
 
--- A parent with its own parameters in place of its arguments, since a reference's signature speaks of them; an array's
+-- A parent with its own generic parameters in place of its arguments, since a reference's signature is written in these; an array's
 -- members are those of System.Array.
 abbrev pub open_in : List AsmRec → TypeExpr → TypeExpr-F TypeExpr → TypeExpr
 open_in recs e (TypeExpr-F.Inst t args) = expr.Inst t (own_args (length args))
@@ -203,7 +203,7 @@ open_in recs e _ = e
 unfoldable pub open_parent : List AsmRec → TypeExpr → TypeExpr
 open_parent recs e = open_in recs e (out-TypeExpr e)
 
--- the owner with the arguments that the parent gives it
+-- a member that was found, its owner with the arguments of the parent put in
 abbrev pub closed : TypeExpr → Found → Found
 closed parent x = record { at = x.at; owner = subst (args_of parent) [] x.owner }
 
@@ -223,7 +223,7 @@ methods_in rec = length rec.method_def
 abbrev pub fields_in : AsmRec → ℕ
 fields_in rec = length rec.field
 
--- the most levels of an owner
+-- the most levels that the owner of a member can have
 abbrev pub most_levels : ℕ
 most_levels = 64
 
@@ -253,7 +253,7 @@ abbrev pub with_own_args : List AsmRec → RowAt → ℕ → TypeExpr
 with_own_args recs at zero = definition_expr recs at
 with_own_args recs at (suc n) = expr.Inst (type_id recs at.asm at.row) (own_args (suc n))
 
--- a type in itself: with its own parameters as arguments
+-- a definition as a type: with its own generic parameters as arguments
 unfoldable pub own_type : List AsmRec → AsmRec → RowAt → TypeExpr
 own_type recs rec at = with_own_args recs at (param_count rec at.row)
 
@@ -280,7 +280,7 @@ field_def_use recs a rec k = field_use recs (own_member recs a rec owns_field k)
 
 -- ---- member references
 
--- a TypeDef, TypeRef or TypeSpec token; a reference in a module or by a method names nothing
+-- the parent of a member reference, by a TypeDef, TypeRef or TypeSpec token; one in a module or by a method names nothing
 abbrev pub parent_of : List AsmRec → ℕ → AsmRec → MemberRefRow → Known TypeExpr
 parent_of recs a rec row = token_type recs a rec row.class
 
@@ -304,7 +304,7 @@ is_method_sig (Good (member.Method s)) = true
 is_method_sig (Good (member.Field s)) = false
 is_method_sig (Bad why) = false
 
--- in the list of the kind that it isn't a reference is unresolved; else why the parent is bad comes before why the signature is
+-- The method that a MemberRef row names: a reference to a field is unresolved here. A bad parent is answered before a bad signature.
 unfoldable pub method_ref_use : List AsmRec → ℕ → AsmRec → MemberRefRow → Known MethodUse
 method_ref_use recs a rec row =
     if is_field_sig row.signature then Bad Unresolved
@@ -325,7 +325,7 @@ abbrev pub def_use_at : List AsmRec → ℕ → AsmRec → Option ℕ → Known 
 def_use_at recs a rec None = Bad Unresolved
 def_use_at recs a rec (Some k) = method_def_use recs a rec k
 
--- a MethodDef or MemberRef token
+-- the method of a MethodSpec row, by a MethodDef or MemberRef token
 unfoldable pub generic_method : List AsmRec → ℕ → AsmRec → ℕ → Known MethodUse
 generic_method recs a rec token =
     if table_of token == METHOD_DEF then def_use_at recs a rec (row_below (methods_in rec) (index_in METHOD_DEF token))
@@ -337,7 +337,7 @@ instantiated u args = record { method = u.method; owner = u.owner; args = args }
 abbrev pub arguments_of : Names → List Sig → Known (List TypeExpr)
 arguments_of names sigs = all_known (map (sig_expr names) sigs)
 
--- why the method is bad comes before why an argument is
+-- the method that a MethodSpec row names; a bad method is answered before a bad argument
 unfoldable pub method_spec_use : List AsmRec → ℕ → AsmRec → MethodSpecRow → Known MethodUse
 method_spec_use recs a rec row =
     known_then (λ (u : MethodUse). known_map (instantiated u) (known_then (arguments_of (names_at recs a rec)) row.instantiation)) (generic_method recs a rec row.method)

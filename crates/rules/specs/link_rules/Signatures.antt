@@ -23,7 +23,7 @@ use Rattle.rules.specs.link_rules.Types.{definition_at, added_by}
 abbrev pub prim_at : List AsmRec → RowAt → Option ℕ
 prim_at recs at = if suc at.asm == length recs then option_and_then prim_of (slice_get (core_types recs) at.row) else None
 
--- a primitive of the core library is always its element type
+-- the type of a definition: a primitive of the core library is always its element type
 unfoldable pub definition_expr : List AsmRec → RowAt → TypeExpr
 definition_expr recs at = elim (prim_at recs at) [ Some n ↦ expr.Prim n | None ↦ expr.Def (type_id recs at.asm at.row) ]
 
@@ -64,7 +64,7 @@ unfoldable pub method_type : Names → MethodSig → Known MethodType
 method_type names s =
     known_then (λ (ret : TypeExpr). known_map (λ params. method_type_of s ret params) (all_known (map (sig_expr names) s.params))) (sig_expr names s.ret)
 
--- with arguments of the type put in
+-- a method's signature with arguments of the type put in
 unfoldable pub subst_method : List TypeExpr → MethodType → MethodType
 subst_method targs m = record { this = m.this; generic = m.generic; ret = subst targs [] m.ret; params = map (subst targs []) m.params }
 

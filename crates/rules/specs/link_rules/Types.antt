@@ -1,6 +1,6 @@
--- What references to types name (II.22.38, II.22.14): a TypeRef row by its scope, an assembly by its simple name, a type by
--- its namespace, name and encloser, or by way of the assemblies that forward it. Assemblies and rows are counted from 0; the
--- last assembly is the core library.
+-- The types that references name (II.22.38, II.22.14). A TypeRef row goes by its scope, an assembly by its simple name. A type goes
+-- by its namespace, name and encloser, or through the assemblies that forward it. Assemblies and rows are counted from 0; the last
+-- assembly is the core library.
 use Rattle.std.specs.Prelude.{ℕ, zero, suc, ◌-◌, List, [], ◌∷◌, length, Option, Some, None, slice_get, position, nat_le, ◌==◌, ◌&&◌, Bool, true, false, if◌then◌else◌}
 use Rattle.std.specs.Option.{option_map, option_and_then}
 use Rattle.il_base.specs.declared.world_model.types.TypeDefRow.{TypeDefRow}
@@ -34,11 +34,11 @@ has_name name (row ∷ rows) = same_name row.name name
 abbrev pub is_called : List ℕ → AsmRec → Bool
 is_called name rec = has_name name rec.assembly
 
--- the core library, under its reference names
+-- the place of the core library, where this is one of its reference names
 abbrev pub core_named : List AsmRec → List ℕ → Option ℕ
 core_named recs name = if is_core_name name then Some (length recs - 1) else None
 
--- the first assembly of this name, and else the core library
+-- the first assembly of this name, else the core library where it is a name of that
 unfoldable pub assembly_named : List AsmRec → List ℕ → Option ℕ
 assembly_named recs name = or_else (position (is_called name) recs) (core_named recs name)
 
@@ -64,7 +64,7 @@ same_place (Some j) (Some k) = j == k
 
 -- ---- type definitions by name
 
--- among these rows, of which the first has the place k
+-- the place of a type by its name among these rows, of which the first has the place k
 abbrev pub type_from : AsmRec → Option ℕ → List ℕ → List ℕ → ℕ → List TypeDefRow → Option ℕ
 type_from rec around namespace name k [] = None
 type_from rec around namespace name k (t ∷ ts) =
@@ -91,7 +91,7 @@ unfoldable pub forwarded_to : List AsmRec → AsmRec → List ℕ → List ℕ �
 forwarded_to recs rec namespace name = option_and_then (assembly_at recs rec) (forwarder_in namespace name rec.exported_type)
 
 -- The type of this name that isn't nested, in an assembly or in the one that it is forwarded to, over at most n assemblies.
--- Who is sent on more often comes back to an assembly, and finds nothing.
+-- A longer chain of forwarders comes back to an assembly, and finds nothing.
 unfoldable pub top_type : List AsmRec → ℕ → List ℕ → List ℕ → ℕ → Option RowAt
 top_type recs zero namespace name a = None
 top_type recs (suc n) namespace name a =
@@ -128,13 +128,14 @@ nested_type recs namespace name None = None
 nested_type recs namespace name (Some around) =
     option_map (at_row around.asm) (option_and_then (λ rec. type_in rec (Some around.row) namespace name) (slice_get recs around.asm))
 
--- a type that isn't nested, by the assembly of its scope; 0 and a Module token are the assembly itself
+-- the type that a reference to a type that isn't nested names, by the assembly of its scope; 0 and a Module token are the assembly
+-- itself
 abbrev pub type_of_scope : List AsmRec → ℕ → AsmRec → TypeRefRow → Option RowAt
 type_of_scope recs a rec row =
     if table_of row.resolution_scope == MODULE then top_type recs (length recs) row.namespace row.name a
     else option_and_then (top_type recs (length recs) row.namespace row.name) (option_and_then (assembly_at recs rec) (index_in ASSEMBLY_REF row.resolution_scope))
 
--- a reference in the type that another reference names, or in an assembly
+-- the type that a reference names, by the type that encloses it or by an assembly
 abbrev pub ref_type_by : List AsmRec → ℕ → AsmRec → TypeRefRow → (ℕ → Option RowAt) → Option ℕ → Option RowAt
 ref_type_by recs a rec row outer (Some j) = nested_type recs row.namespace row.name (outer j)
 ref_type_by recs a rec row outer None = type_of_scope recs a rec row

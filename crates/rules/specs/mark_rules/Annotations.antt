@@ -1,5 +1,5 @@
--- The attributes of trimming, known by their full name wherever they are defined: annotations of parameters, returns, fields and
--- generic parameters; need of unreferenced code; dependencies.
+-- The attributes of trimming, recognized by their full name wherever they are defined: `DynamicallyAccessedMembers` (annotations),
+-- `RequiresUnreferencedCode` and `DynamicDependency`.
 use Rattle.std.specs.Prelude.{ℕ, suc, List, [], ◌∷◌, ◌++◌, map, codes, take, Option, Some, None, slice_get, ◌/◌, ◌%◌, ◌+◌, ◌==◌, ◌&&◌, Bool, true, false, not, if◌then◌else◌}
 use Rattle.std.specs.List.{list_any, flat_map, filter, position_from}
 use Rattle.std.specs.Option.{option_and_then}
@@ -80,7 +80,7 @@ dynamic_dependency = codes "DynamicDependencyAttribute"
 
 -- ---- annotations
 
--- a kinds value counts by its low 32 bits
+-- the number of an argument that is a set of kinds: its low 32 bits
 abbrev pub number_in : Arg-F Arg → List ℕ
 number_in (Arg-F.Number n) = n % 4294967296 ∷ []
 number_in _ = []
@@ -100,7 +100,7 @@ unfoldable pub kinds_at : List AsmRec → ℕ → AsmRec → ℕ → ℕ
 kinds_at recs a rec token =
     or_zero (flat_map (λ row. flat_map first_number (listed (value_of recs a rec row))) (listed (head_of (filter (is_annotation rec token) rec.custom_attribute))))
 
--- what may have an annotation; parameters are counted from 0 without `this`
+-- the things that may have an annotation; parameters are counted from 0 without `this`
 pub data Holder : Type 0 where
   parameter : RowAt → ℕ → Holder
   return_value : RowAt → Holder
@@ -114,7 +114,7 @@ text_layer recs (TypeExpr-F.Def t) = list_any (is_system_type_row recs) (listed 
 text_layer recs (TypeExpr-F.Mod required by x) = x
 text_layer recs _ = false
 
--- System.Type or System.String, modifiers aside
+-- whether a type is System.Type or System.String, modifiers aside
 unfoldable pub may_name_type : List AsmRec → TypeExpr → Bool
 may_name_type recs = fold-TypeExpr Bool (text_layer recs)
 
@@ -157,7 +157,7 @@ field_holds recs at =
 abbrev pub field_kinds : List AsmRec → RowAt → ℕ
 field_kinds recs at = or_zero (map (λ (rec : AsmRec). kinds_at recs at.asm rec (token_of FIELD (suc at.row))) (listed (rec_at recs at)))
 
--- a generic parameter with the `new()` constraint has the public constructor without parameters besides
+-- the kinds of a generic parameter; with the `new()` constraint the public constructor without parameters is among them
 abbrev pub with_new : GenericParamRow → ℕ → ℕ
 with_new row kinds =
     if has_flag row.flags DEFAULT_CONSTRUCTOR_CONSTRAINT && kinds / kind.PUBLIC_PARAMETERLESS_CONSTRUCTOR % 2 == 0 then kinds + kind.PUBLIC_PARAMETERLESS_CONSTRUCTOR else kinds
@@ -170,7 +170,7 @@ abbrev pub generic_kinds : List AsmRec → RowAt → ℕ → ℕ → ℕ
 generic_kinds recs at table n =
     or_zero (flat_map (λ (rec : AsmRec). each_row (generic_kinds_by recs at.asm rec (token_of table (suc at.row)) n) rec.generic_param) (listed (rec_at recs at)))
 
--- the kinds of members that reflection may ask of what the holder has; 0 without an annotation
+-- the kinds of members that reflection may ask for on values of the holder; 0 without an annotation
 unfoldable pub flags_of : List AsmRec → Holder → ℕ
 flags_of recs (parameter at n) = if parameter_holds recs at n then slot_kinds recs at (suc n) else 0
 flags_of recs (return_value at) = if return_holds recs at then slot_kinds recs at 0 else 0
@@ -186,14 +186,14 @@ is_initializer_name recs at = has_method_row recs (λ (m : MethodDefRow). same_n
 abbrev pub requires : RowAt → AsmRec → CustomAttributeRow → Bool
 requires at rec row = row.parent == token_of METHOD_DEF (suc at.row) && is_called rec requires_unreferenced row
 
--- a method that is annotated so; type initializers never are
+-- whether a method has `RequiresUnreferencedCode`; on a type initializer it doesn't count
 unfoldable pub needs_unreferenced : List AsmRec → RowAt → Bool
 needs_unreferenced recs at =
     not (is_initializer_name recs at) && list_any (λ (rec : AsmRec). list_any (requires at rec) rec.custom_attribute) (listed (rec_at recs at))
 
 -- ---- dependencies
 
--- in which type a dependency seeks its members: the own type, one by the name that a Type argument has, one of an assembly
+-- the type in which a dependency seeks its members: its owner, one named by a Type argument, or one of an assembly
 pub data Sought : Type 0 where
   own_type : Sought
   type_argument : List ℕ → Sought

@@ -1,5 +1,4 @@
--- Custom attributes (II.22.10, II.23.3): which rows are an item's, what their values are, and what a row whose constructor is in an
--- input marks.
+-- Custom attributes (II.22.10, II.23.3): the rows of an item, their values, and what a row marks whose constructor is in an input.
 use Rattle.std.specs.Prelude.{ℕ, zero, suc, List, [], ◌∷◌, ◌++◌, length, map, codes, Option, Some, None, Result, Ok, Err, slice_get, nat_lt, ◌%◌, ◌==◌, ◌&&◌, ◌||◌, Bool, true, false, not, if◌then◌else◌}
 use Rattle.std.specs.List.{list_any, flat_map, filter}
 use Rattle.std.specs.Option.{option_map, option_and_then}
@@ -71,7 +70,7 @@ abbrev pub param_tokens : AsmRec → ℕ → ℕ → GenericParamRow → List �
 param_tokens rec owner k row =
     if row.owner == owner then token_of GENERIC_PARAM (suc k) ∷ each_row (constraint_token (token_of GENERIC_PARAM (suc k))) rec.generic_param_constraint else []
 
--- of the generic parameters of a type or a method, and of their constraints
+-- the tokens of the generic parameters of a type or a method, and of their constraints
 abbrev pub generic_tokens : AsmRec → ℕ → List ℕ
 generic_tokens rec owner = each_row (param_tokens rec owner) rec.generic_param
 
@@ -79,7 +78,7 @@ abbrev pub parameter_tokens : AsmRec → ℕ → List ℕ
 parameter_tokens rec k =
     flat_map (λ (m : MethodDefRow). map (λ p. token_of PARAM (suc p)) (run_places m.param_list_first m.param_list_end rec.param)) (listed (slice_get rec.method_def k))
 
--- of an assembly its own row and its module's; of a method also its parameters
+-- the tokens whose attributes are an item's: of an assembly its own and its module's, of a method also those of its parameters
 abbrev pub tokens_in : Item → ℕ → AsmRec → List ℕ
 tokens_in (item.Asm a) k rec = token_of ASSEMBLY 1 ∷ token_of MODULE 1 ∷ []
 tokens_in (item.Typ t) k rec = token_of TYPE_DEF (suc k) ∷ generic_tokens rec (token_of TYPE_DEF (suc k))
@@ -122,7 +121,7 @@ abbrev pub field_size : List AsmRec → RowAt → List ℕ
 field_size recs at =
     flat_map (λ (rec : AsmRec). flat_map (λ (f : FieldRow). if is_static_field f then [] else expr_size (known_then (sig_expr (names_at recs at.asm rec)) f.signature) ∷ []) (listed (slice_get rec.field at.row))) (listed (rec_at recs at))
 
--- in bytes: that of the first instance field's type
+-- the size of an enum in bytes: that of the type of its first instance field
 unfoldable pub enum_size : List AsmRec → RowAt → ℕ
 enum_size recs at = first_size (flat_map (field_size recs) (fields_of_type recs at))
 
@@ -175,7 +174,7 @@ abbrev pub named_kind : List AsmRec → RowAt → Option ParamKind
 named_kind recs at =
     elim (prim_at recs at) [ Some n ↦ prim_kind n | None ↦ (if is_system_type_row recs at then Some kind.Typ else if is_enum recs at then Some (kind.Enum [] (enum_size recs at)) else None) ]
 
--- a reference to the core library, by way of enclosers, over at most n rows
+-- whether a TypeRef row leads to the core library, through enclosers, over at most n rows
 unfoldable pub is_core_ref_within : AsmRec → ℕ → ℕ → Bool
 is_core_ref_within rec zero token = false
 is_core_ref_within rec (suc n) token =
@@ -185,7 +184,7 @@ is_core_ref_within rec (suc n) token =
 abbrev pub is_core_ref : AsmRec → ℕ → Bool
 is_core_ref rec token = is_core_ref_within rec (length rec.type_ref) token
 
--- a value type of the core library that its table lacks is an enum of four bytes
+-- the kind of a value type of the core library that isn't in its table: an enum of four bytes
 abbrev pub absent_kind : Bool → Option ParamKind
 absent_kind true = Some (kind.Enum [] 4)
 absent_kind false = None

@@ -1,5 +1,5 @@
--- What a marked item may not have: parts that name nothing or have no reading, and forms outside the profile. The first bad item is
--- the one at the least place, by assembly, token, offset and kind.
+-- The flaws of marked items: parts that name nothing or have no reading, and forms outside the profile. The first bad item is the
+-- one at the least place, by assembly, token, offset and kind.
 use Rattle.std.specs.Prelude.{ℕ, suc, List, [], ◌∷◌, ◌++◌, map, codes, Option, Some, None, slice_get, nat_lt, nat_eq, ◌==◌, ◌&&◌, ◌||◌, Bool, true, false, not, ◌≡◌, if◌then◌else◌}
 use Rattle.std.specs.List.{Contains, list_any, flat_map}
 use Rattle.il_base.specs.declared.ids.Item.{Item}
@@ -220,7 +220,7 @@ impl_rows recs = each_row (λ a (rec : AsmRec). each_row (impl_rows_by recs a re
 
 -- ---- the first
 
--- an entry method that no type's run has
+-- the flaw of an entry method that is in no type's run
 abbrev pub entry_flaws : List AsmRec → Option RowAt → List Flaw
 entry_flaws recs entry =
     flat_map (λ (at : RowAt). elim (type_of_method recs at) [ Some t ↦ [] | None ↦ flaw at (token_of METHOD_DEF (suc at.row)) 0 Unresolved ∷ [] ]) (listed entry)
@@ -231,7 +231,7 @@ pub data IsFlaw (recs : List AsmRec) (entry : Option RowAt) (holds : Fact → Ty
   of_row : (r : ImplRow) (f : Flaw) → Contains (impl_rows recs) r → holds (marked r.class) → holds (marked r.body) → Contains r.flaws f → IsFlaw recs entry holds f
   of_entry : (f : Flaw) → Contains (entry_flaws recs entry) f → IsFlaw recs entry holds f
 
--- Unresolved comes before Outside, which goes by its number, and Over comes last
+-- the order of flaws at one place: Unresolved, then Outside by its number, then Over
 abbrev pub rank : BadKind → ℕ
 rank Unresolved = 0
 rank (Outside what) = suc what

@@ -97,8 +97,7 @@ abbrev pub are_locals_read : AsmRec → ℕ → Bool
 are_locals_read rec token =
     token == 0 || list_any (λ (row : StandAloneSigRow). is_read row.signature) (listed (option_and_then (slice_get rec.stand_alone_sig) (index_in STAND_ALONE_SIG token)))
 
--- A body of which the method's signature or the locals have no reading has no operands. Nor will one whose evaluation stack is at
--- fault, once that is looked at.
+-- The operands of a body. There are none where the method's signature or the locals have no reading.
 abbrev pub operands_of : List AsmRec → ℕ → AsmRec → ℕ → Bool → Body → List Part
 operands_of recs a rec place read b = if read && are_locals_read rec b.locals then flat_map (instruction_parts recs a rec place) b.code else []
 

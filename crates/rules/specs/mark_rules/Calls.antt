@@ -90,7 +90,7 @@ overridden recs at m = if is_virtual m && not (is_new_slot m) then map (marks_me
 abbrev pub has_body : List AsmRec → RowAt → MethodUse → Bool
 has_body recs at u = list_any (same_row at) (listed (method_home recs u.method))
 
--- the row's body is the method: its declaration is needed, with the owners and arguments that both name
+-- where the body of a MethodImpl row is the method, its declaration is needed, with the owners and arguments that both name
 abbrev pub declared_by : List AsmRec → RowAt → ℕ → AsmRec → MethodImplRow → List Fact
 declared_by recs at a rec row =
     flat_map (λ (body : MethodUse). if has_body recs at body then of_method_use body ++ flat_map of_method_use (listed (good_use (generic_method recs a rec row.declaration))) else [])
@@ -109,11 +109,11 @@ overrides_of recs at = flat_map (overridden recs at) (listed (method_row_at recs
 abbrev pub initializer_of : List AsmRec → Option RowAt → List Fact
 initializer_of recs t = map (marks_method recs) (listed (option_and_then (initializer recs) t))
 
--- every method, instance and abstract ones too
+-- a marked method, also an instance or abstract one, marks the initializer of its type
 unfoldable pub method_starts : List AsmRec → RowAt → List Fact
 method_starts recs at = initializer_of recs (type_of_method recs at)
 
--- static fields
+-- a marked static field marks the initializer of its type
 unfoldable pub field_starts : List AsmRec → RowAt → List Fact
 field_starts recs at =
     if list_any is_static_field (listed (field_row_at recs at))
@@ -125,7 +125,7 @@ field_starts recs at =
 abbrev pub is_own_slot : List AsmRec → RowAt → Bool
 is_own_slot recs b = list_any (same_row b) (listed (slot_of recs b))
 
--- the answer of a class slot from a type, with the type's parameters open
+-- the method that a class slot dispatches to in a type, whose generic parameters stay open
 unfoldable pub class_answer : List AsmRec → RowAt → RowAt → List RowAt
 class_answer recs t b =
     if is_own_slot recs b && not (in_interface recs b) then listed (class_dispatch recs (open_type recs t) b) else []
@@ -157,7 +157,7 @@ unfoldable pub first_found : List AsmRec → RowAt → RowAt → RowAt → List 
 first_found recs t b r =
     if is_own_slot recs b && in_interface recs b then flat_map (searched recs t b r) (listed (row_class recs r)) else []
 
--- each is dispatched from the type as a class slot
+-- the methods that an interface slot dispatches to: each that the search finds first, dispatched from the type as a class slot
 abbrev pub interface_answer : List AsmRec → RowAt → RowAt → RowAt → List RowAt
 interface_answer recs t b r =
     flat_map (λ m. listed (option_and_then (class_dispatch recs (open_type recs t)) (slot_of recs m))) (first_found recs t b r)

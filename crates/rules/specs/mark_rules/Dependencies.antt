@@ -45,7 +45,7 @@ found_by_name recs from (read.Name n) = listed (find_type recs from n)
 found_by_name recs from read.Other = []
 found_by_name recs from read.Malformed = []
 
--- a text without an assembly, in the assembly of that name alone
+-- the type that a text without an assembly names, in the assembly of this name alone
 abbrev pub found_there : List AsmRec → List ℕ → NameRead → List TypeId
 found_there recs asm (read.Name n) = elim n.asm [ Some other ↦ [] | None ↦ listed (option_and_then (type_along_at recs n.path) (assembly_named recs asm)) ]
 found_there recs asm read.Other = []
@@ -101,12 +101,12 @@ has_doc_name recs wanted at name =
 
 -- ---- members by name
 
--- `#ctor` is `.ctor`
+-- a member's name in metadata: `#ctor` is `.ctor`
 abbrev pub plain : List ℕ → List ℕ
 plain [] = []
 plain (c ∷ cs) = if same_name (c ∷ cs) (codes "#ctor") || same_name (take 6 (c ∷ cs)) (codes "#ctor(") then 0x2e ∷ cs else c ∷ cs
 
--- a name with parameters is that of methods alone
+-- whether a name has parameters: only methods go by such a name
 abbrev pub has_parameters : List ℕ → Bool
 has_parameters name = list_any (λ c. c == 0x28) name
 
@@ -125,7 +125,7 @@ with_made recs t m = if has_method_row recs is_constructor m then instantiated (
 abbrev pub methods_called : List AsmRec → List ℕ → RowAt → List Fact
 methods_called recs name t = flat_map (with_made recs t) (filter (is_method_called recs (plain name)) (methods_of_type recs t))
 
--- fields, properties and events; a property or event without its accessors
+-- the fields, properties and events of a name; a property or event without its accessors
 abbrev pub others_called : List AsmRec → List ℕ → RowAt → List Fact
 others_called recs name t =
     map (marks_field recs) (filter (is_field_named recs name) (fields_of_type recs t))

@@ -1,4 +1,4 @@
--- What marking says of items and types, and what follows from what: a fact holds if finitely many uses of rules derive it.
+-- The facts of marking, on items and types, and the rules that derive them: a fact holds if finitely many uses of rules derive it.
 use Rattle.std.specs.Prelude.{Bool, List, IsTrue}
 use Rattle.std.specs.List.{Contains}
 use Rattle.il_base.specs.declared.ids.TypeId.{TypeId}

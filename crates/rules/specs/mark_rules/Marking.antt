@@ -1,5 +1,5 @@
--- The rules of marking together: what one fact, two facts and three facts give. Two rules are left out, on the flow of values and
--- on names.
+-- The rules of marking together: the facts that follow from one fact, from two and from three. The rules on the flow of values and
+-- on names aren't among them.
 use Rattle.std.specs.Prelude.{List, [], ◌++◌, Option, Bool, false, ◌||◌, nat_eq}
 use Rattle.std.specs.List.{list_any, flat_map}
 use Rattle.il_base.specs.declared.ids.Item.{Item}

@@ -42,12 +42,12 @@ is_public_access flags = access_of flags == access.PUBLIC
 abbrev pub is_private_access : ℕ → Bool
 is_private_access flags = access_of flags == access.PRIVATE
 
--- a public member, or another one: of a base one that isn't private
+-- whether flags name a member: bit 1 a public one, bit 2 another one; of a base a private member doesn't count
 abbrev pub counts : Bool → ℕ → ℕ → Bool
 counts own flags access =
     is_public_access access && has_kind flags 1 || not (is_public_access access) && has_kind flags 2 && (own || not (is_private_access access))
 
--- of two kinds, the public one and the other, which of them flags name: as bits 1 and 2
+-- two kinds, the public one and the other, as bits 1 and 2 of flags
 abbrev pub pair : ℕ → ℕ → ℕ → ℕ
 pair kinds public other = kinds / public % 2 + 2 * (kinds / other % 2)
 
@@ -150,7 +150,8 @@ whole_type recs at =
     ++ flat_map (λ p. prop_item recs p ∷ map (method_item recs) (property_accessors recs p)) (properties_of_type recs at)
     ++ flat_map (λ e. event_item recs e ∷ map (method_item recs) (event_accessors recs e)) (events_of_type recs at)
 
--- with the types nested in it, at most n levels: no chain of enclosers of a linked world is longer than its assembly has types
+-- all that a type holds, with the types nested in it, at most n levels: no chain of enclosers of a linked world is longer than its
+-- assembly has types
 unfoldable pub whole_within : List AsmRec → ℕ → RowAt → List Item
 whole_within recs zero at = []
 whole_within recs (suc n) at = whole_type recs at ++ flat_map (whole_within recs n) (nested_in recs at)

@@ -1,5 +1,5 @@
--- What the parts of an item name: the types of its signature, the operands of its code, and so on. Each part is good, and names a
--- type or a member, or bad. What good parts name is marked; a bad part makes a marked item bad.
+-- The parts of an item, and what they name: the types of its signature, the operands of its code, and so on. A part is good and
+-- names a type or a member, or it is bad. What good parts name is marked; a bad part makes a marked item bad.
 use Rattle.std.specs.Prelude.{ℕ, List, [], ◌∷◌, ◌++◌, map, Option, Some, None, ◌==◌, if◌then◌else◌}
 use Rattle.std.specs.List.{flat_map}
 use Rattle.il_base.specs.declared.ids.TypeId.{TypeId}

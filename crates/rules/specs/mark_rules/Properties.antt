@@ -1,5 +1,5 @@
--- Properties, events and their accessors (II.22.28, II.22.34, II.22.13). A row makes an accessor where a type's run has its
--- method, and a map's run has its property or event.
+-- Properties, events and their accessors (II.22.28, II.22.34, II.22.13). A MethodSemantics row counts where its method is in the
+-- run of a type, and its property or event in the run of a map.
 use Rattle.std.specs.Prelude.{ℕ, suc, List, [], ◌∷◌, ◌++◌, map, Option, None, slice_get, ◌==◌, ◌&&◌, Bool, true, if◌then◌else◌}
 use Rattle.std.specs.List.{list_any, flat_map, filter}
 use Rattle.il_base.specs.declared.table.TheConstants.{TYPE_DEF, METHOD_DEF, EVENT, PROPERTY}
@@ -33,7 +33,7 @@ event_owner_in k [] = None
 event_owner_in k (row ∷ rows) =
     if is_in_run row.event_list_first row.event_list_end (suc k) then index_in TYPE_DEF row.parent else event_owner_in k rows
 
--- the type whose property or event it is; None for a row that no run has, which belongs to nobody
+-- the type that has a property or an event; None for a row that is in no run
 unfoldable pub property_owner : AsmRec → ℕ → Option ℕ
 property_owner rec k = property_owner_in k rec.property_map
 
@@ -80,7 +80,7 @@ property_needs recs at = owned recs property_owner at ++ of_parts (parts_of_prop
 unfoldable pub event_needs : List AsmRec → RowAt → List Fact
 event_needs recs at = owned recs event_owner at ++ of_parts (parts_of_event recs at)
 
--- what a row makes a method an accessor of
+-- the property or event that a method is an accessor of, by a MethodSemantics row
 abbrev pub accessed_by : List AsmRec → RowAt → AsmRec → MethodSemanticsRow → List Fact
 accessed_by recs at rec row =
     if row.method == token_of METHOD_DEF (suc at.row) && has_owner rec at.row

@@ -74,7 +74,7 @@ definition_slashed recs None = []
 definition_slashed recs (Some t) =
     flat_map (λ (at : RowAt). flat_map (λ (rec : AsmRec). slashed_name rec at.row) (listed (rec_at recs at))) (listed (type_home recs t))
 
--- whose generic parameters a signature has: tokens of a type and of a method, 0 for none
+-- the owners of the generic parameters in a signature: tokens of a type and of a method, 0 for none
 pub record Owners : Type 0 where
   pub type : ℕ
   pub method : ℕ
@@ -179,7 +179,7 @@ root_type recs r = option_and_then (λ a. option_and_then (descriptor_type recs 
 abbrev pub no_type : Root → Bool
 no_type r = elim r.typ [ Some name ↦ false | None ↦ true ]
 
--- what an element keeps at once
+-- the facts that an element of a descriptor gives at the start
 unfoldable pub root_facts : List AsmRec → Root → List Fact
 root_facts recs r =
     if no_type r then flat_map (whole_assembly recs) (listed (input_named recs r.asm))
@@ -192,7 +192,7 @@ waits_for recs (item.Typ t) r =
     else flat_map (λ (at : RowAt). if nat_eq (type_id recs at.asm at.row).0 t.0 then root_members recs at r else []) (listed (root_type recs r))
 waits_for recs _ r = []
 
--- what an element with `required="false"` keeps once its type is marked
+-- the facts that elements with `required="false"` give once their type is marked
 unfoldable pub waiting_facts : List AsmRec → List Root → Item → List Fact
 waiting_facts recs roots i = flat_map (waits_for recs i) roots
 
@@ -203,7 +203,7 @@ abbrev pub module_facts : List AsmRec → List Fact
 module_facts recs =
     flat_map (λ (rec : AsmRec). map (λ (t : TypeDefRow). marks_type recs (at_row 0 0)) (listed (slice_get rec.type_def 0))) (listed (slice_get recs 0))
 
--- a method that no type's run has belongs to nobody, and is never marked
+-- the entry method is marked, where it is in a type's run; a method in no run is never marked
 abbrev pub entry_facts : List AsmRec → Option RowAt → List Fact
 entry_facts recs entry = flat_map (λ (at : RowAt). map (λ t. marks_method recs at) (listed (type_of_method recs at))) (listed entry)
 

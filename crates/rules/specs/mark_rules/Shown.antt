@@ -84,14 +84,14 @@ parts_of_item recs (item.Prop p) at = parts_of_property recs at
 parts_of_item recs (item.Event e) at = parts_of_event recs at
 parts_of_item recs (item.Impl i) at = parts_of_impl recs at
 
--- those in which a generic argument is shown: not catch types and event types
+-- the parts whose generic arguments are shown: all but catch types and event types
 abbrev pub showing_parts : List AsmRec → Item → RowAt → List Part
 showing_parts recs (item.Method m) at = uncaught_parts recs at
 showing_parts recs (item.Event e) at = []
 showing_parts recs i at = parts_of_item recs i at
 
--- ---- instructions that show a type: its definition, or that of its elements, with what modifiers around these name, as the text of an
--- array has them
+-- ---- instructions that show a type: its definition, or for an array that of its elements, and the types of the modifiers around
+-- these, which an array's text has
 
 abbrev pub shown_layer : TypeExpr-F (List TypeId) → List TypeId
 shown_layer (TypeExpr-F.Prim n) = []

@@ -42,7 +42,7 @@ constraints_of recs a rec owner = each_row (constraints_of_param recs a rec owne
 abbrev pub encloser_of : List AsmRec → RowAt → AsmRec → List Fact
 encloser_of recs at rec = map (λ k. marks_type recs (at_row at.asm k)) (listed (encloser rec at.row))
 
--- Extends is written as it is, so what it names is needed, also where it gives no base
+-- the type in Extends: the output keeps this cell, so the type is needed even where it is no base
 abbrev pub extends_of : List AsmRec → RowAt → AsmRec → List Part
 extends_of recs at rec =
     flat_map (λ (t : TypeDefRow). if t.extends == 0 then [] else type_token_part recs at.asm rec (token_of TYPE_DEF (suc at.row)) 0 t.extends ∷ []) (listed (slice_get rec.type_def at.row))
@@ -79,7 +79,7 @@ field_needs recs at =
 abbrev pub impl_row_at : List AsmRec → RowAt → Option InterfaceImplRow
 impl_row_at recs at = option_and_then (λ (rec : AsmRec). slice_get rec.interface_impl at.row) (rec_at recs at)
 
--- what a row names
+-- the interface that an InterfaceImpl row names
 abbrev pub impl_type : List AsmRec → RowAt → Option TypeExpr
 impl_type recs at =
     option_and_then (λ (rec : AsmRec). option_and_then (λ (row : InterfaceImplRow). good_type (token_type recs at.asm rec row.interface)) (slice_get rec.interface_impl at.row)) (rec_at recs at)

@@ -1,5 +1,5 @@
--- References to types that name nothing (II.22.38). Attributes that are copied can have them. Each is known by the first TypeRef row
--- of the inputs that reads the same; as a type it has the place of that row behind the types of the world.
+-- TypeRef rows that name nothing (II.22.38), which copied attributes can have. Each is identified by the first TypeRef row of the
+-- inputs with the same names and scopes. As a type it has the place of that row after the types of the world.
 use Rattle.std.specs.Prelude.{ℕ, zero, suc, ◌+◌, ◌-◌, List, [], length, Option, Some, None, slice_get, position, nat_le, ◌==◌, ◌&&◌, Bool, false, if◌then◌else◌}
 use Rattle.std.specs.Option.{option_map, option_and_then}
 use Rattle.il_base.specs.declared.ids.TypeId.{TypeId}
@@ -18,7 +18,7 @@ use Rattle.rules.specs.merge_rules.Numbers.{rows_of_kind}
 
 -- ---- assemblies by what is written of them
 
--- without the hash, which isn't written
+-- an AssemblyRef row without its hash, which isn't written
 abbrev pub bare : AssemblyRefRow → AssemblyRefRow
 bare row = record row { hash_value = [] }
 
@@ -59,7 +59,7 @@ both same (Some x) None other = false
 both same None (Some y) other = false
 both same None None other = other
 
--- scopes that name types are the same where the types are
+-- whether two TypeRef rows as scopes are the same: by the definitions that they name, else by how they read
 abbrev pub same_outer : List AsmRec → (RowAt → RowAt → Bool) → RowAt → RowAt → Bool
 same_outer recs reads x y = both same_row (definition_of recs x) (definition_of recs y) (reads x y)
 
@@ -73,7 +73,7 @@ rows_same recs reads x y (Some row) (Some other) =
     same_name row.name other.name && same_name row.namespace other.namespace && same_scope recs reads x y row other
 rows_same recs reads x y _ _ = false
 
--- over at most n scopes; a chain of scopes that comes back to a row reads like none
+-- whether two TypeRef rows read the same, over at most n scopes; a chain of scopes that comes back to a row is the same as no other
 unfoldable pub reads_same : List AsmRec → ℕ → RowAt → RowAt → Bool
 reads_same recs zero x y = false
 reads_same recs (suc n) x y = rows_same recs (reads_same recs n) x y (reference_at recs x) (reference_at recs y)
@@ -91,6 +91,6 @@ first_same recs at = position (reads_same recs (length (reference_rows recs)) at
 unfoldable pub absent_type : List AsmRec → RowAt → Option TypeId
 absent_type recs at = option_map (λ k. record { 0 = type_count recs + k }) (first_same recs at)
 
--- the row of a place behind the types of the world
+-- the TypeRef row whose place is this one, after the types of the world
 unfoldable pub absent_row : List AsmRec → TypeId → Option RowAt
 absent_row recs t = if nat_le (type_count recs) t.0 then slice_get (reference_rows recs) (t.0 - type_count recs) else None

@@ -1,6 +1,6 @@
--- Attribute rows that are written (II.22.10): those of kept items and of the first input's assembly and module. One whose constructor
--- is in an input names it. Another is copied as it is, with its constructor as a reference of the core library or by its names, unless
--- that refers to a type of an input, a method or a module.
+-- The CustomAttribute rows of the output (II.22.10): those of kept items and of the first input's assembly and module. A row whose
+-- constructor is in an input names that constructor. Any other row is copied, with its constructor as a reference to the core
+-- library or by its names. It is left out where this reference names a type of an input, a method or a module.
 use Rattle.std.specs.Prelude.{ℕ, zero, suc, List, ◌∷◌, length, map, Option, Some, None, slice_get, ◌==◌, ◌&&◌, Bool, true, false, if◌then◌else◌}
 use Rattle.std.specs.List.{list_any, list_all, flat_map}
 use Rattle.std.specs.Option.{option_map, option_and_then}
@@ -31,14 +31,14 @@ use Rattle.rules.specs.merge_rules.Rows.{all_rows, kept_row_token}
 abbrev pub has_row : {A : Type 0} → Option A → Bool
 has_row x = list_any (λ y. true) (listed x)
 
--- a reference to a type by its scope: in an assembly, in the module, or in a type that it may refer to
+-- whether a copied attribute may refer to a type, by the type's scope: an assembly, the module, or a type that it may refer to
 abbrev pub may_scope : AsmRec → (ℕ → Bool) → TypeRefRow → Bool
 may_scope rec outer row =
     if table_of row.resolution_scope == TYPE_REF then list_any outer (listed (index_in TYPE_REF row.resolution_scope))
     else if table_of row.resolution_scope == ASSEMBLY_REF then has_row (option_and_then (slice_get rec.assembly_ref) (index_in ASSEMBLY_REF row.resolution_scope))
     else table_of row.resolution_scope == MODULE
 
--- a TypeRef row that names a type of the core library, or nothing; over at most n scopes
+-- whether a TypeRef row names a type of the core library, or nothing; over at most n scopes
 unfoldable pub may_refer : List AsmRec → ℕ → AsmRec → ℕ → ℕ → Bool
 may_refer recs a rec zero k = false
 may_refer recs a rec (suc n) k =
@@ -47,7 +47,7 @@ may_refer recs a rec (suc n) k =
 abbrev pub may_name : List AsmRec → ℕ → AsmRec → ℕ → Bool
 may_name recs a rec token = list_any (may_refer recs a rec (length rec.type_ref)) (listed (index_in TYPE_REF token))
 
--- each token of a signature
+-- whether a copied attribute may have a signature: it may refer to the type of each token
 abbrev pub may_have : List AsmRec → ℕ → AsmRec → Sig → Bool
 may_have recs a rec s = list_all (may_name recs a rec) (numbers_in s)
 
@@ -79,7 +79,7 @@ copied_constructor recs a rec token row =
 abbrev pub is_in_input : List AsmRec → ℕ → AsmRec → ℕ → Bool
 is_in_input recs a rec token = list_any (is_input_method recs) (listed (good (method_named recs a rec token)))
 
--- the constructor as it is written; None where the attribute is left out
+-- the key of an attribute's constructor in the output; None where the attribute is left out
 unfoldable pub constructor_key : List AsmRec → ℕ → AsmRec → ℕ → Option MethodKey
 constructor_key recs a rec token =
     if is_in_input recs a rec token then method_key recs a rec token
@@ -103,6 +103,6 @@ unfoldable pub kept_attributes : List AsmRec → Kept → List Attribute
 kept_attributes recs kept =
     by_key (λ (x : Attribute). coded_of HasCustomAttribute x.parent) (all_rows (λ rec. rec.custom_attribute) (attribute_in recs kept) recs)
 
--- what attributes meet, behind all types
+-- the constructors that the attributes of the output refer to
 unfoldable pub met_by_attributes : List AsmRec → Kept → List Met
 met_by_attributes recs kept = map (λ (x : Attribute). met_method x.ctor) (kept_attributes recs kept)

@@ -14,7 +14,7 @@ use Rattle.rules.specs.merge_rules.Moved.{moved_type_row}
 use Rattle.rules.specs.merge_rules.Restricted.{restricted}
 use Rattle.rules.specs.merge_rules.Sample.{recs, kept, app, lib, class_row, method_row, int_field, call, ret, object_ref, runtime_ref}
 
--- rows in word order, and then in their order
+-- kept rows in the order of the inputs, and then in their own
 abbrev pub KeepsTypes : Type 0
 KeepsTypes = kept_types recs kept ≡ at_row 0 0 ∷ at_row 0 1 ∷ at_row 1 0 ∷ at_row 1 1 ∷ []
 
@@ -47,7 +47,7 @@ LeavesMethods =
 abbrev pub LeavesEntry : Type 0
 LeavesEntry = Left (λ rec. rec.entry) 0x06000001
 
--- ---- references: Object stands behind the four types of the inputs
+-- ---- references: Object stands after the four types of the inputs
 
 abbrev pub object : TypeKey
 object = named (record { 0 = 4 })

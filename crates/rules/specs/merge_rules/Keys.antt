@@ -1,6 +1,6 @@
--- References by what they name, so that those which would be one row are one: a type of an input by its row, one of the core library
--- by its own, a signature with the types that it names in place of their tokens, a member by its row and its owner. What names nothing
--- is known by its names.
+-- The keys of references, by what these name, so that equal references get one row. A type has the key of its row, a signature that
+-- of the types which its tokens name, a member that of its row and its owner. A reference that names nothing has the key of its
+-- names.
 use Rattle.std.specs.Prelude.{ℕ, zero, suc, List, [], ◌∷◌, length, map, Option, Some, None, slice_get, nat_eq, nat_lt, ◌==◌, ◌&&◌, ◌||◌, Bool, true, false, if◌then◌else◌}
 use Rattle.std.specs.List.{list_any}
 use Rattle.std.specs.Option.{option_map, option_and_then}
@@ -37,8 +37,8 @@ use Rattle.rules.specs.merge_rules.Absent.{absent_type}
 
 -- ---- signatures over the types of the world
 
--- The type that a token of an assembly names, as a number: one more than its place among the types of the world, behind which are
--- the references that name nothing. A token without a row has 0.
+-- The type that a token of an assembly names, as a number: one more than its place among the types of the world. The references
+-- that name nothing come after these types. A token without a row has 0.
 abbrev pub number_of : List AsmRec → Known TypeExpr → ℕ
 number_of recs (Good e) = def_number (out-TypeExpr e)
   where
@@ -62,7 +62,7 @@ found_or (suc t) other = suc t
 unfoldable pub class_number : List AsmRec → ℕ → AsmRec → ℕ → ℕ
 class_number recs a rec token = found_or (number_of recs (named_type recs a rec token)) (absent_number recs a token)
 
--- a modifier also finds the names that only modifiers use
+-- the number of a modifier's type, which can also be a name that only modifiers use
 abbrev pub modifier_number : List AsmRec → ℕ → AsmRec → ℕ → ℕ
 modifier_number recs a rec token = number_or (added_by recs a rec token) (class_number recs a rec token)
 
@@ -77,7 +77,7 @@ world_layer recs a rec (Sig-F.MVar n) = sig.MVar n
 world_layer recs a rec (Sig-F.Mod required token x) = sig.Mod required (modifier_number recs a rec token) x
 world_layer recs a rec (Sig-F.Pinned x) = sig.Pinned x
 
--- a signature with the numbers of types in place of tokens; CLASS and VALUETYPE as they were (II.23.2.12)
+-- a signature with the numbers of types in place of tokens; CLASS and VALUETYPE stay (II.23.2.12)
 unfoldable pub world_sig : List AsmRec → ℕ → AsmRec → Sig → Sig
 world_sig recs a rec = fold-Sig Sig (world_layer recs a rec)
 
@@ -99,7 +99,7 @@ made_layer recs (TypeExpr-F.Var n) = sig.Var n
 made_layer recs (TypeExpr-F.MVar n) = sig.MVar n
 made_layer recs (TypeExpr-F.Mod required by x) = sig.Mod required (suc by.0) x
 
--- VALUETYPE exactly for value types
+-- the signature of a type, with VALUETYPE exactly for value types
 unfoldable pub made_sig : List AsmRec → TypeExpr → Sig
 made_sig recs = fold-TypeExpr Sig (made_layer recs)
 
@@ -151,8 +151,8 @@ world_method_sig recs a rec s = record s { ret = world_sig recs a rec s.ret; par
 abbrev pub same_method_sig : MethodSig → MethodSig → Bool
 same_method_sig s r = same_bool s.this r.this && nat_eq s.generic r.generic && same_sig s.ret r.ret && same_sigs s.params r.params
 
--- a definition by its own token, a member with the type in which it is found, or one that names nothing, by its parent, name and
--- signature
+-- the key of a method: a definition by its own token, a method with the type in which it is found, or one that isn't there by its
+-- parent, name and signature
 pub data MethodKey : Type 0 where
   own_method : MethodId → MethodKey
   found_method : MethodId → TypeExpr → MethodKey
@@ -195,7 +195,7 @@ spec_key recs a rec (Some row) = good_spec row.signature
     good_spec (Good s) = Some (spec (world_sig recs a rec s))
     good_spec (Bad why) = None
 
--- a TypeSpec token stays one, with its signature moved token by token
+-- the key of a TypeDef, TypeRef or TypeSpec token; a TypeSpec token stays one, with its signature moved token by token
 unfoldable pub type_key : List AsmRec → ℕ → AsmRec → ℕ → Option TypeKey
 type_key recs a rec token =
     if table_of token == TYPE_SPEC then spec_key recs a rec (option_and_then (slice_get rec.type_spec) (index_in TYPE_SPEC token))
@@ -206,21 +206,21 @@ expr_key_in recs e (TypeExpr-F.Def t) = Some (named t)
 expr_key_in recs e (TypeExpr-F.Prim n) = option_map named (prim_type recs n)
 expr_key_in recs e _ = Some (spec (made_sig recs e))
 
--- a type that is written from a use: an owner of a member
+-- the key of a type that is the owner of a member
 unfoldable pub expr_key : List AsmRec → TypeExpr → Option TypeKey
 expr_key recs e = expr_key_in recs e (out-TypeExpr e)
 
--- a type of an input that isn't generic
+-- whether a definition is of an input and isn't generic
 abbrev pub is_plain_input : List AsmRec → Option RowAt → Bool
 is_plain_input recs owner =
     list_any (λ (t : RowAt). nat_lt (suc t.asm) (length recs) && list_any (λ (rec : AsmRec). param_count rec t.row == 0) (listed (rec_at recs t))) (listed owner)
 
--- not written with type arguments: a type without parameters that has some names nothing that runs
+-- whether a type is written without type arguments: with arguments a type that isn't generic can't run
 abbrev pub is_bare_in : TypeExpr-F TypeExpr → Bool
 is_bare_in (TypeExpr-F.Inst t args) = false
 is_bare_in _ = true
 
--- an owner that is a type of an input that isn't generic, and is written so
+-- whether an owner is a type of an input that isn't generic, written without arguments
 abbrev pub is_plain_owner : List AsmRec → TypeExpr → Bool
 is_plain_owner recs e = is_bare_in (out-TypeExpr e) && is_plain_input recs (option_and_then (type_home recs) (owner_of recs e))
 
@@ -235,7 +235,7 @@ abbrev pub good : {A : Type 0} → Known A → Option A
 good (Good x) = Some x
 good (Bad why) = None
 
--- of a MethodDef or MemberRef token
+-- the key of a MethodDef or MemberRef token
 unfoldable pub method_key : List AsmRec → ℕ → AsmRec → ℕ → Option MethodKey
 method_key recs a rec token = option_map (method_key_of recs (table_of token == METHOD_DEF)) (good (method_named recs a rec token))
 
@@ -246,6 +246,6 @@ abbrev pub instance_by : List AsmRec → ℕ → AsmRec → MethodSpecRow → Op
 instance_by recs a rec row =
     option_and_then (λ m. option_map (λ (args : List Sig). record { method = m; args = world_sigs recs a rec args }) (good row.instantiation)) (method_key recs a rec row.method)
 
--- of a MethodSpec token
+-- the key of a MethodSpec token
 unfoldable pub instance_key : List AsmRec → ℕ → AsmRec → ℕ → Option InstanceKey
 instance_key recs a rec token = option_and_then (instance_by recs a rec) (option_and_then (slice_get rec.method_spec) (index_in METHOD_SPEC token))

@@ -1,4 +1,4 @@
--- Signatures, bodies and rows of kept items with the output's tokens. What names nothing has 0; a bad part stays as it is.
+-- Signatures, bodies and rows of kept items with the output's tokens. A token that names nothing becomes 0; a bad part stays as it is.
 use Rattle.std.specs.Prelude.{ℕ, ◌+◌, ◌-◌, ◌*◌, ◌%◌, List, [], map, find, bit_and, Option, slice_get, nat_lt, ◌==◌, ◌&&◌, Bool, if◌then◌else◌}
 use Rattle.std.specs.List.{flat_map}
 use Rattle.std.specs.Option.{option_map, option_and_then}
@@ -90,7 +90,7 @@ texts_of_method recs at =
 unfoldable pub kept_texts : Output → List (List ℕ)
 kept_texts o = each_once (flat_map (texts_of_method o.recs) (kept_methods o.recs o.kept))
 
--- by its offset in `#US`
+-- the token of a text, by its offset in `#US`
 abbrev pub text_token : Output → List ℕ → ℕ
 text_token o units = (table.USER_STRING * 16777216 + user_place (kept_texts o) units) % 4294967296
 
@@ -114,7 +114,7 @@ moved_operand o a rec f x = x
 abbrev pub moved_instr : Output → ℕ → AsmRec → Instr → Instr
 moved_instr o a rec i = record i { operand = moved_operand o a rec i.form i.operand }
 
--- a catch clause names a type; what stands there in another clause stays
+-- a handler with its new type token; only a catch clause names a type, in any other clause the cell stays
 abbrev pub moved_handler : Output → ℕ → AsmRec → Handler → Handler
 moved_handler o a rec h = if is_catch h then record h { token = moved_type o a rec h.token } else h
 
@@ -130,13 +130,14 @@ moved_body o a rec b =
 
 -- ---- flags
 
--- without the flags that say that the row is named in a table that isn't written
+-- flags with some bits cleared: visibility, or a flag like HasSecurity, whose table isn't written
 abbrev pub without : ℕ → ℕ → ℕ
 without flag flags = flags - bit_and flags flag
 
 -- ---- rows of kept items
 
--- `--internalize` makes public types that aren't nested, of all inputs but the first, not public (II.23.1.15)
+-- The visibility of a type in the output: `--internalize` makes a public type not public, where it isn't nested and not of the
+-- first input (II.23.1.15).
 abbrev pub moved_visibility : Bool → Output → RowAt → ℕ → ℕ
 moved_visibility internalize o at flags =
     if internalize && nat_lt 0 at.asm && is_top_level o.recs at && bit_and flags type_flag.VISIBILITY_MASK == type_flag.PUBLIC
@@ -162,7 +163,7 @@ moved_type_row internalize o at rec t = record t {
 abbrev pub moved_field_row : Output → RowAt → AsmRec → FieldRow → FieldRow
 moved_field_row o at rec f = record f { flags = without field_flag.HAS_FIELD_MARSHAL f.flags; signature = moved_sig o at.asm rec f.signature }
 
--- the address of the body comes with the layout
+-- the row of a kept method; the layout of the file gives it the RVA of its body
 abbrev pub moved_method_row : Output → RowAt → AsmRec → MethodDefRow → MethodDefRow
 moved_method_row o at rec m = record m {
   rva = 0;

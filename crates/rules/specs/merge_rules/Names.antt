@@ -1,5 +1,5 @@
 -- New names of types. Kept top-level types of two assemblies can't both keep one full name: the later one is renamed `<ASM>NAME`, with the
--- name of its assembly in angle brackets, and a number behind that where this name is taken too. A type that is public or shown
+-- name of its assembly in angle brackets, and a number after that where this name is taken too. A type that is public or shown
 -- can't be renamed, so the first such type is a collision with the earlier type.
 use Rattle.std.specs.Prelude.{ℕ, zero, suc, ◌+◌, List, [], ◌∷◌, ◌++◌, length, codes, Option, Some, None, find, ◌==◌, ◌&&◌, ◌||◌, Bool, true, false, not, if◌then◌else◌}
 use Rattle.std.specs.List.{list_any, filter}
@@ -51,26 +51,26 @@ name_of recs at = flat (option_map (λ (t : TypeDefRow). t.name) (type_row_at re
 abbrev pub renamed : List AsmRec → RowAt → List ℕ
 renamed recs at = codes "<" ++ assembly_name recs at ++ codes ">" ++ name_of recs at
 
--- a name with a number behind it; 0 stands for none
+-- a name with a number after it; with 0 the name alone
 abbrev pub numbered_name : List ℕ → ℕ → List ℕ
 numbered_name name zero = name
 numbered_name name (suc n) = name ++ decimal (suc n)
 
--- the first of these numbers with which the name isn't taken, at most n
+-- the name with the first number that makes it free, of at most n numbers from this one on
 abbrev pub free_from : (List ℕ → Bool) → List ℕ → ℕ → ℕ → List ℕ
 free_from taken name k zero = numbered_name name k
 free_from taken name k (suc n) = if taken (numbered_name name k) then free_from taken name (suc k) n else numbered_name name k
 
 -- ---- the types in order
 
--- an earlier kept type of another assembly that has a type's full name
+-- whether an earlier kept type of another assembly has a type's full name
 abbrev pub is_rival : List AsmRec → RowAt → RowAt → Bool
 is_rival recs at earlier = not (earlier.asm == at.asm) && same_name (old_name recs earlier) (old_name recs at)
 
 abbrev pub rival : List AsmRec → List RowAt → RowAt → Option RowAt
 rival recs earlier at = if is_top_level recs at then find (is_rival recs at) (filter (is_top_level recs) earlier) else None
 
--- the name of a kept top-level type, old or new
+-- whether a kept top-level type has this name, old or new
 abbrev pub has_name : List AsmRec → List RowAt → List NewName → List ℕ → Bool
 has_name recs kept names full =
     list_any (λ at. same_name (old_name recs at) full) (filter (is_top_level recs) kept)
@@ -96,7 +96,7 @@ new_names recs kept = names_from recs kept [] [] kept
 
 -- ---- collisions
 
--- public, of a top-level type (II.23.1.15)
+-- whether a top-level type is public (II.23.1.15)
 abbrev pub is_public : List AsmRec → RowAt → Bool
 is_public recs at = list_any (λ (t : TypeDefRow). access_of t.flags == flag.PUBLIC) (listed (type_row_at recs at))
 

@@ -1,4 +1,4 @@
--- The new rows of kept items: those of all inputs in word order, and of each input in the order of its rows. A set of kept items is
+-- The new rows of kept items: the inputs in their order, and of each input the rows in their order. A set of kept items is
 -- a test on items; rows are counted from 0 here, and tokens count them from 1.
 use Rattle.std.specs.Prelude.{ℕ, suc, List, [], ◌∷◌, map, Option, position, Bool}
 use Rattle.std.specs.List.{flat_map, filter, range_with_len}

@@ -38,7 +38,7 @@ use Rattle.rules.specs.mark_rules.Members.{properties_of_type, events_of_type}
 use Rattle.rules.specs.merge_rules.Numbers.{Kept, kept_types}
 use Rattle.rules.specs.merge_rules.Keys.{TypeKey, MethodKey, own_method, found_method, absent_method, FieldKey, InstanceKey, good, world_sig, world_sigs, type_key, method_key, field_key, instance_key}
 
--- ---- what is met
+-- ---- a reference that kept items make: a type, a signature, a member, a method with arguments, or locals
 
 pub data Met : Type 0 where
   -- a type by a token, or in a signature
@@ -62,7 +62,7 @@ met_good_sig recs a rec s = map (λ x. met_sig (world_sig recs a rec x)) (listed
 abbrev pub met_method_sig : List AsmRec → ℕ → AsmRec → Known MethodSig → List Met
 met_method_sig recs a rec s = flat_map (λ (m : MethodSig). map met_sig (world_sigs recs a rec (m.ret ∷ m.params))) (listed (good s))
 
--- a MethodDef, MemberRef or MethodSpec token
+-- the reference of a MethodDef, MemberRef or MethodSpec token
 abbrev pub met_callee : List AsmRec → ℕ → AsmRec → ℕ → List Met
 met_callee recs a rec token =
     if table_of token == METHOD_SPEC then map met_instance (listed (instance_key recs a rec token)) else map met_method (listed (method_key recs a rec token))
@@ -174,6 +174,6 @@ met_in_type recs kept at =
     ++ flat_map (met_event_row recs) (those recs kept (event_item recs) (events_of_type recs at))
     ++ met_impls recs kept at
 
--- what the kept types and their members meet, in order; attributes come after these
+-- the references of the kept types and their members, in order; those of attributes come after them
 unfoldable pub met_by_types : List AsmRec → Kept → List Met
 met_by_types recs kept = flat_map (met_in_type recs kept) (kept_types recs kept)

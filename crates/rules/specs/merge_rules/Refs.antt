@@ -109,7 +109,7 @@ field_at recs f = home_from fields_in 0 recs f.0
 abbrev pub types_of_owner : List AsmRec → TypeExpr → List TypeId
 types_of_owner recs e = flat_map types_of_key (listed (expr_key recs e))
 
--- a parent, then the member's own signature
+-- the types that a method's reference names: those of its parent, then those of its own signature
 abbrev pub types_of_method : List AsmRec → MethodKey → List TypeId
 types_of_method recs (own_method m) = []
 types_of_method recs (found_method m e) =
@@ -131,7 +131,7 @@ types_of_met recs (met_locals ss) = types_of_sigs ss
 abbrev pub same_id : TypeId → TypeId → Bool
 same_id t u = t.0 == u.0
 
--- types of the core library, and what names nothing
+-- whether a type needs a TypeRef row: it is of the core library, or isn't there
 abbrev pub is_reference : List AsmRec → TypeId → Bool
 is_reference recs t = nat_le (type_count recs) t.0 || is_core recs (item.Typ t)
 
@@ -148,11 +148,12 @@ abbrev pub scope_type_by : List AsmRec → TypeId → Option RowAt → Option Ty
 scope_type_by recs t None = option_and_then (enclosing_type recs) (type_home recs t)
 scope_type_by recs t (Some at) = option_and_then (outer_reference recs) (reference_scope recs at)
 
--- the type that a TypeRef row has as its scope: that of its encloser, and of what names nothing the one that the inputs have
+-- the type that a TypeRef row of the output has as its scope: the encloser of its type; where the type isn't there, the scope that
+-- the inputs have
 unfoldable pub scope_type : List AsmRec → TypeId → Option TypeId
 scope_type recs t = scope_type_by recs t (absent_row recs t)
 
--- a type behind its scopes, over at most n of them
+-- a type after its scopes, over at most n of them
 unfoldable pub with_scopes : List AsmRec → ℕ → TypeId → List TypeId
 with_scopes recs zero t = t ∷ []
 with_scopes recs (suc n) t = flat_map (with_scopes recs n) (listed (scope_type recs t)) ++ t ∷ []
@@ -242,7 +243,7 @@ locals_sigs mets = each_once same_sigs (flat_map locals_of_met mets)
 
 -- ---- assemblies
 
--- the assembly through which the inputs first name a type of the core library, in word and row order
+-- the assembly through which the inputs first name a type of the core library, in the order of inputs and rows
 abbrev pub names_core_type : List AsmRec → TypeId → ℕ → AsmRec → ℕ → TypeRefRow → List AssemblyRefRow
 names_core_type recs t a rec k row =
     if is_core_scope rec row.resolution_scope && list_any (λ (at : RowAt). list_any (same_row at) (listed (type_home recs t))) (listed (ref_at recs a rec k))
@@ -279,7 +280,7 @@ assembly_refs recs mets = each_once same_assembly (flat_map (assemblies_of recs)
 
 -- ---- tokens
 
--- what the output refers to: the kept rows, and what they meet
+-- the output: the inputs, the kept rows, and the references that these make
 pub record Output : Type 0 where
   pub recs : List AsmRec
   pub kept : Kept
@@ -292,7 +293,7 @@ row_token table (Some k) = token_of table (suc k) % 4294967296
 abbrev pub kept_token : ℕ → List RowAt → Option RowAt → ℕ
 kept_token table rows at = row_token table (option_and_then (new_row rows) at)
 
--- a type of an input by its row, one of the core library and one that isn't there by its reference
+-- the token of a type: its row for a type of an input, else its TypeRef row
 unfoldable pub type_token : Output → TypeId → ℕ
 type_token o t =
     if is_reference o.recs t then row_token table.TYPE_REF (position (same_id t) (type_refs o.recs o.mets))
@@ -337,7 +338,7 @@ new_sig_layer o (Sig-F.MVar n) = sig.MVar n
 new_sig_layer o (Sig-F.Mod required n x) = sig.Mod required (number_token o n) x
 new_sig_layer o (Sig-F.Pinned x) = sig.Pinned x
 
--- a signature over the types of the world with the output's tokens
+-- a signature with the output's tokens in place of the numbers of types
 unfoldable pub new_sig : Output → Sig → Sig
 new_sig o = fold-Sig Sig (new_sig_layer o)
 
@@ -346,7 +347,7 @@ new_method_sig o s = record s { ret = new_sig o s.ret; params = map (new_sig o) 
 
 -- ---- the rows
 
--- the scope that a row without a type or an assembly as its scope keeps: 0, or the module (II.22.38)
+-- the scope of a TypeRef row that is in no type and no assembly: 0, or the module (II.22.38)
 abbrev pub own_scope : List AsmRec → TypeId → ℕ
 own_scope recs t = first_or (map (λ (row : TypeRefRow). row.resolution_scope) (listed (option_and_then (reference_at recs) (absent_row recs t)))) 0
 
@@ -382,7 +383,8 @@ method_name recs at = flat_map (λ (rec : AsmRec). flat_map (λ (m : MethodDefRo
 abbrev pub field_name : List AsmRec → RowAt → List ℕ
 field_name recs at = flat_map (λ (rec : AsmRec). flat_map (λ (f : FieldRow). f.name) (listed (slice_get rec.field at.row))) (listed (rec_at recs at))
 
--- the name and the own signature of the member that it names, in the type in which it was found; what names nothing keeps its own
+-- the MemberRef row of a member: its name and its own signature, in the type in which it was found; one that isn't there keeps its
+-- name and signature
 abbrev pub member_ref_row : Output → MemberKey → List MemberRefRow
 member_ref_row o (a_method m e) =
     flat_map (λ at. map (λ s. record { class = parent_token o e; name = method_name o.recs at; signature = Good (member.Method (new_method_sig o s)) }) (own_method_sig o.recs at)) (listed (method_at o.recs m))

@@ -1,4 +1,5 @@
--- The record that is left of several inputs: the rows of kept items, what goes with them, and the references that they make.
+-- The record that a merge leaves of several inputs: the rows of kept items, the rows that go with them, and the references that
+-- they make.
 use Rattle.std.specs.Prelude.{ℕ, ◌+◌, ◌-◌, ◌%◌, List, [], ◌∷◌, ◌++◌, length, map, bit_and, Option, None, slice_get, Bool, if◌then◌else◌}
 use Rattle.std.specs.List.{list_any, flat_map}
 use Rattle.std.specs.Option.{option_map}
@@ -43,7 +44,7 @@ use Rattle.rules.specs.merge_rules.Moved.{moved_type, moved_callee, kept_texts, 
 
 -- ---- rows by their places
 
--- what is made of the row at each of these places
+-- a function applied to the row at each of these places
 abbrev pub each_at : {R B : Type 0} → List AsmRec → (AsmRec → List R) → (RowAt → AsmRec → R → B) → List RowAt → List B
 each_at recs rows f places =
     flat_map (λ (at : RowAt). flat_map (λ (rec : AsmRec). map (f at rec) (listed (slice_get (rows rec) at.row))) (listed (rec_at recs at))) places
@@ -69,7 +70,7 @@ bodies_of ms = map (λ (m : MethodDefRow). m.body) ms
 abbrev pub placed_methods : List MethodDefRow → List MethodDefRow
 placed_methods ms = with_rvas (rvas_behind [] (bodies_of ms)) ms
 
--- bytes of fields behind them, each at a multiple of 8 (II.22.18)
+-- bytes of fields after them, each at a multiple of 8 (II.22.18)
 abbrev pub bytes_length : Known (List ℕ) → ℕ
 bytes_length (Good bytes) = length bytes
 bytes_length (Bad why) = 0
@@ -118,7 +119,7 @@ new_generic_param owner a rec row = record row { owner = owner }
 abbrev pub new_constraint : Output → ℕ → ℕ → AsmRec → GenericParamConstraintRow → GenericParamConstraintRow
 new_constraint o owner a rec row = record { owner = owner; constraint = moved_type o a rec row.constraint }
 
--- where the method and its property or event are kept
+-- a MethodSemantics row with new tokens, written where the method and its property or event are kept
 abbrev pub semantics_of : ℕ → ℕ → ℕ → MethodSemanticsRow
 semantics_of semantics method association = record { semantics = semantics; method = method; association = association }
 
@@ -130,7 +131,7 @@ abbrev pub method_semantics : Output → List MethodSemanticsRow
 method_semantics o =
     by_key (λ (row : MethodSemanticsRow). coded_of HasSemantics row.association) (all_rows (λ rec. rec.method_semantics) (new_semantics o) o.recs)
 
--- where the class is kept, and the body is or is the core library's
+-- a MethodImpl row with new tokens, written where the class is kept, and the body is kept or of the core library
 abbrev pub impl_row : Output → ℕ → AsmRec → MethodImplRow → ℕ → MethodImplRow
 impl_row o a rec row class = record { class = class; body = moved_callee o a rec row.body; declaration = moved_callee o a rec row.declaration }
 
@@ -178,11 +179,11 @@ new_event_map o a rec k row =
 
 -- ---- the first input's own rows
 
--- ILONLY (1), and of the input 32BITREQUIRED (2) and 32BITPREFERRED (20000) (II.25.3.3.1)
+-- the flags of the CLI header: ILONLY (1), and the input's 32BITREQUIRED (2) and 32BITPREFERRED (20000) (II.25.3.3.1)
 abbrev pub kept_bits : ℕ → ℕ
 kept_bits bits = 1 + bit_and bits 0x20002
 
--- without its key, so without the flag that says that it is one (II.23.1.2: PublicKey is 1)
+-- the Assembly row without its key, and so without the flag PublicKey (1, II.23.1.2)
 abbrev pub moved_assembly : AssemblyRow → AssemblyRow
 moved_assembly row = record row { public_key = []; flags = row.flags - bit_and row.flags 1 }
 
@@ -241,7 +242,7 @@ restricted_by internalize o methods primary = record {
 abbrev pub moved_methods : Output → List MethodDefRow
 moved_methods o = each_at o.recs (λ rec. rec.method_def) (moved_method_row o) (kept_methods o.recs o.kept)
 
--- what the output refers to, types before attributes
+-- the output of a merge, with the references of types before those of attributes
 unfoldable pub output_of : List AsmRec → Kept → Output
 output_of recs kept = record { recs = recs; kept = kept; mets = met_by_types recs kept ++ met_by_attributes recs kept }
 

@@ -1,5 +1,5 @@
 -- The rows that go with kept items, in the order of the output: parameters of methods, generic parameters and their constraints,
--- interfaces; and the token that a kept row has there.
+-- interfaces; and the new token of a kept row.
 use Rattle.std.specs.Prelude.{ℕ, suc, ◌+◌, ◌-◌, ◌*◌, ◌%◌, List, [], ◌∷◌, length, map, Option, nat_lt, ◌==◌, ◌&&◌, ◌||◌, Bool, if◌then◌else◌}
 use Rattle.std.specs.List.{flat_map, filter}
 use Rattle.std.specs.Option.{option_map, option_and_then}
@@ -23,7 +23,7 @@ use Rattle.rules.specs.merge_rules.Sorted.{by_key}
 
 -- ---- tables of all inputs
 
--- what each row of a table gives, in word order and in the order of the rows
+-- a function applied to each row of a table of all inputs, in the order of inputs and rows
 abbrev pub all_rows : {R B : Type 0} → (AsmRec → List R) → (ℕ → AsmRec → ℕ → R → List B) → List AsmRec → List B
 all_rows rows f recs = flat_map (λ (x : ℕ × AsmRec). each_row (f x.0 x.1) (rows x.1)) (inputs recs)
 
@@ -40,7 +40,7 @@ place_token table rows at = option_map (token_32 table) (new_row rows at)
 abbrev pub is_before : ℕ → ℕ → RowAt → Bool
 is_before a k at = nat_lt at.asm a || at.asm == a && nat_lt at.row k
 
--- where a run begins or ends, as rows are counted from 1: behind the kept rows that are before it
+-- where a run begins or ends, as rows are counted from 1: after the kept rows that are before it
 unfoldable pub run_at : List RowAt → ℕ → ℕ → ℕ
 run_at kept a row = suc (length (filter (is_before a (row - 1)) kept))
 
@@ -127,7 +127,7 @@ output_rows recs kept t =
     else if t == table.ASSEMBLY || t == table.MODULE then at_row 0 0 ∷ []
     else []
 
--- what the token of an input's row becomes; None where the row goes
+-- the new token of an input's row; None where the row isn't kept
 unfoldable pub kept_row_token : List AsmRec → Kept → ℕ → ℕ → Option ℕ
 kept_row_token recs kept a token =
     option_and_then (λ k. place_token (table_of token) (output_rows recs kept (table_of token)) (at_row a k)) (index_in (table_of token) token)

@@ -95,7 +95,7 @@ runtime_ref = record {
   hash_value = [];
 }
 
--- in System.Runtime, as the first AssemblyRef row
+-- the TypeRef row of Object, in System.Runtime, the first AssemblyRef row
 abbrev pub object_ref : TypeRefRow
 object_ref = record { resolution_scope = 0x23000001; name = codes "Object"; namespace = codes "System" }
 
@@ -166,7 +166,7 @@ core = record empty { type_def = record (class_row (codes "Object") 0 1 1 1 1) {
 abbrev pub recs : List AsmRec
 recs = app ∷ lib ∷ core ∷ []
 
--- all but F and Q.x
+-- the kept items: all but F and Q.x
 abbrev pub kept : Kept
 kept (item.Method m) = m.0 == 1 || m.0 == 2
 kept (item.Field f) = f.0 == 1

@@ -1,4 +1,4 @@
--- A change whose flags say what a merge keeps.
+-- A change of numbers whose flags are those of a merge.
 use Rattle.std.specs.Prelude.{◌≡◌, ◌<◌, suc, length, Bool, Some, IsTrue, slice_get}
 use Rattle.std.specs.Option.{is_some}
 use Rattle.il_base.specs.declared.world_model.types.TypeDefRow.{TypeDefRow}

@@ -18,11 +18,11 @@ pub record Merge : Type 0 where
   pub kept : Kept
   pub left : AsmRec
 
--- the world of the inputs
+-- the assemblies of the inputs' world
 abbrev pub before : Merge → List AsmRec
 before m = assemblies m.inputs
 
--- the world of what is left alone
+-- the assemblies of the output's world
 abbrev pub after : Merge → List AsmRec
 after m = assemblies (m.left ∷ [])
 
@@ -30,18 +30,18 @@ after m = assemblies (m.left ∷ [])
 abbrev pub output : Merge → Output
 output m = output_of (before m) m.kept
 
--- the names that only modifiers use (II.7.1.1), which stand behind the core library's own types in either world
+-- the names that only modifiers use (II.7.1.1), which stand after the core library's own types in either world
 abbrev pub names_before : Merge → List CoreTypeName
 names_before m = missing_names (m.inputs ++ core_record ∷ [])
 
 abbrev pub names_after : Merge → List CoreTypeName
 names_after m = missing_names (m.left ∷ core_record ∷ [])
 
--- tokens have three bytes for a row (II.22)
+-- each table has at most as many rows as the three bytes of a token can number (II.22)
 abbrev pub HasFewRows : AsmRec → Type 0
 HasFewRows rec = (t : ℕ) → rows_in rec t < 16777216
 
--- The record is what is left of inputs that are records and link, of which there is one.
+-- `m` is a merge: its inputs are records and link, there is at least one, and its output is what is left of them.
 pub record IsMerge (m : Merge) : Type 0 where
   pub some : 0 < length m.inputs
   pub restricts : restricted m.internal (before m) m.kept ≡ Some m.left

@@ -17,7 +17,8 @@ use Rattle.rules.specs.merged_world_rules.Numbering.{CoreRows, same_rows, new_nu
 abbrev pub place_of_name : List CoreTypeName → CoreTypeName → Option ℕ
 place_of_name names x = position (same_core_name x) names
 
--- the row among so many own rows and these names of a row among so many and those names
+-- The new row of a row of the core library: one of its `own` rows stays. One of the added `names` becomes the row of the same name
+-- among `those`.
 abbrev pub named_row : ℕ → List CoreTypeName → List CoreTypeName → ℕ → Option ℕ
 named_row own names those r =
     if nat_lt r own then Some r else option_map (λ j. own + j) (option_and_then (place_of_name those) (slice_get names (r - own)))

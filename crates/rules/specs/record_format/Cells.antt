@@ -47,12 +47,12 @@ token_by _ n = n
 unfoldable pub token_in : List ℕ → ℕ → ℕ → ℕ → ℕ
 token_in m t c r = token_by (column_of t c) (number_in m t c r)
 
--- the rows of a table
+-- the number of rows of a table
 unfoldable pub count_of : List ℕ → ℕ → ℕ
 count_of m t = rows_of (tables_stream m) t
 
--- the row behind the last of a run that begins in a cell: where the run of the next row begins, or behind the last row of the
--- table that the runs are of
+-- the row past the last of a run that begins in a cell: where the run of the next row begins, or past the last row of the runs'
+-- table
 unfoldable pub run_end : List ℕ → ℕ → ℕ → ℕ → ℕ → ℕ
 run_end m t c target r = if r == count_of m t then count_of m target + 1 else number_in m t c (r + 1)
 

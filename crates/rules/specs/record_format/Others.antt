@@ -1,4 +1,4 @@
--- The rows that hang on members (II.22). `bs` are the bytes of the file, `m` those of its metadata; rows are counted from 1.
+-- The rows that belong to members (II.22). `bs` are the bytes of the file, `m` those of its metadata; rows are counted from 1.
 use Rattle.std.specs.Prelude.{ℕ, List}
 use Rattle.il_base.specs.declared.table.TheConstants.{CONSTANT, CUSTOM_ATTRIBUTE, FIELD_MARSHAL, DECL_SECURITY, FIELD_LAYOUT, IMPL_MAP, FIELD_RVA, FILE, MANIFEST_RESOURCE}
 use Rattle.il_base.specs.declared.world_model.types.ClassLayoutRow.{ClassLayoutRow}
@@ -39,7 +39,7 @@ impl_map_row m r = record {
   import_scope = token_in m IMPL_MAP 3 r;
 }
 
--- by the rows of ClassLayout and of Field, which say how many bytes a field has
+-- the FieldRVA row, by the rows of ClassLayout and of Field, which say how many bytes a field has
 unfoldable pub field_rva_row : List ℕ → List ℕ → List ClassLayoutRow → List FieldRow → ℕ → FieldRvaRow
 field_rva_row bs m layouts fields r = record {
   rva = number_in m FIELD_RVA 0 r;

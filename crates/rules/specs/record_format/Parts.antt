@@ -48,12 +48,12 @@ abbrev pub body_of_reading : Result (Body × ℕ) Fault → Known Body
 body_of_reading (Ok x) = Good x.0
 body_of_reading (Err f) = Bad (Outside f.what)
 
--- no bytes at an address have no body
+-- the body at an address; where there are no bytes there is a bad one
 abbrev pub body_in : Option (List ℕ) → Known Body
 body_in None = Bad (Outside BODY)
 body_in (Some tail) = body_of_reading (body_at tail)
 
--- None where the address is 0
+-- the body at an RVA; None where the RVA is 0
 unfoldable pub body_by : List ℕ → ℕ → Option (Known Body)
 body_by bs rva = if rva == 0 then None else Some (body_in (image_tail bs rva))
 
@@ -118,6 +118,6 @@ abbrev pub known_bytes : Option (List ℕ) → Known (List ℕ)
 known_bytes None = Bad (Outside field_data)
 known_bytes (Some bytes) = Good bytes
 
--- as many bytes from an address as the field's type has
+-- the bytes of a field from an RVA, as many as its type has
 unfoldable pub bytes_by : List ℕ → ℕ → Option ℕ → Known (List ℕ)
 bytes_by bs rva size = known_bytes (option_and_then (image_at bs rva) size)

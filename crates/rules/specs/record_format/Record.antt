@@ -1,5 +1,4 @@
--- The record of a file: what its bytes must meet, and what each part of the record is of them. All places of the file are
--- named at once; nothing here says in which order they are looked at.
+-- The record of a file: the demands on its bytes, and each part of the record as a function of them.
 use Rattle.std.specs.Prelude.{◌≡◌, ℕ, ◌+◌, ◌&&◌, List, ◌++◌, map, nat_lt, Option, Some, None, if◌then◌else◌}
 use Rattle.il_base.specs.declared.table.TheConstants.{MODULE, TYPE_REF, TYPE_DEF, FIELD, METHOD_DEF, PARAM, INTERFACE_IMPL, MEMBER_REF, CONSTANT, CUSTOM_ATTRIBUTE, FIELD_MARSHAL, DECL_SECURITY, CLASS_LAYOUT, FIELD_LAYOUT, STAND_ALONE_SIG, EVENT_MAP, EVENT, PROPERTY_MAP, PROPERTY, METHOD_SEMANTICS, METHOD_IMPL, MODULE_REF, TYPE_SPEC, IMPL_MAP, FIELD_RVA, ASSEMBLY, ASSEMBLY_PROCESSOR, ASSEMBLY_OS, ASSEMBLY_REF, ASSEMBLY_REF_PROCESSOR, ASSEMBLY_REF_OS, FILE, EXPORTED_TYPE, MANIFEST_RESOURCE, NESTED_CLASS, GENERIC_PARAM, METHOD_SPEC, GENERIC_PARAM_CONSTRAINT}
 use Rattle.il_base.specs.declared.ids.BadAt.{BadAt}
@@ -34,7 +33,7 @@ record_demands bs = map as_demand (image_demands bs) ++ tables_demands (metadata
 abbrev pub methods_of : List ℕ → List MethodDefRow
 methods_of bs = all_rows (metadata_of bs) METHOD_DEF (method_def_row bs (metadata_of bs))
 
--- what a file has where it meets the demands
+-- the record of a file that meets the demands
 unfoldable pub record_at : List ℕ → AsmRec
 record_at bs =
     let m = metadata_of bs in

@@ -81,7 +81,7 @@ all_texts user methods = texts_below user methods (text_offsets user)
 abbrev pub is_descriptor : ManifestResourceRow → Bool
 is_descriptor row = bytes_eq row.name (codes "ILLink.Descriptors.xml") && row.implementation == 0
 
--- so many bytes behind their number of four bytes, where they lie within the resources
+-- so many bytes after their number of four bytes, where they lie within the resources
 unfoldable pub resource_at : List ℕ → ℕ → Option (List ℕ)
 resource_at resources at = option_and_then (λ n. bytes_at resources (at + 4) n) (number_at 4 resources at)
 

@@ -10,11 +10,11 @@ abbrev pub data_of : Known (List ℕ) → List ℕ
 data_of (Good bytes) = bytes
 data_of (Bad why) = []
 
--- some bytes with those of a field after them
+-- some bytes with the bytes of a field after them
 unfoldable pub with_data : List ℕ → FieldRvaRow → List ℕ
 with_data before row = padded 8 before ++ data_of row.bytes
 
--- with those of several fields after them
+-- some bytes with the bytes of several fields after them
 unfoldable pub with_all_data : List ℕ → List FieldRvaRow → List ℕ
 with_all_data before [] = before
 with_all_data before (row ∷ rows) = with_all_data (with_data before row) rows

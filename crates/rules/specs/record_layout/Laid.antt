@@ -1,4 +1,4 @@
--- The bytes that a record is laid out in: one file for a record.
+-- The bytes of the one file that a record is laid out in.
 use Rattle.std.specs.Prelude.{ℕ, List, map}
 use Rattle.il_base.specs.declared.world_model.record.AsmRec.{AsmRec}
 use Rattle.rules.specs.file_layout.Metadata.{Streams, metadata_bytes}
@@ -26,6 +26,6 @@ parts_of rec = record {
 unfoldable pub laid : AsmRec → List ℕ
 laid rec = image_bytes (parts_of rec)
 
--- how many bytes they are
+-- the length of the file in bytes
 abbrev pub laid_length : AsmRec → ℕ
 laid_length rec = image_length (parts_of rec)

@@ -100,7 +100,7 @@ generic_param_constraint_values row = Token row.owner ∷ Token row.constraint �
 abbrev pub field_values : FieldRow → List Value
 field_values row = Number row.flags ∷ Text row.name ∷ Blob (field_blob row.signature) ∷ []
 
--- with the address of its body
+-- the values of a method's row, with the RVA of its body
 abbrev pub method_def_values : ℕ → MethodDefRow → List Value
 method_def_values rva row =
     Number rva ∷ Number row.impl_flags ∷ Number row.flags ∷ Text row.name ∷ Blob (method_blob row.signature) ∷ Number row.param_list_first ∷ []
@@ -137,7 +137,7 @@ method_spec_values row = Token row.method ∷ Blob (instance_blob row.instantiat
 
 -- ---- what goes with members
 
--- the byte beside the type is 0
+-- the values of a Constant row; the byte beside the type is 0
 abbrev pub constant_values : ConstantRow → List Value
 constant_values row = Number row.kind ∷ Number 0 ∷ Token row.parent ∷ Blob row.value ∷ []
 
@@ -156,7 +156,7 @@ field_layout_values row = Number row.offset ∷ Token row.field ∷ []
 abbrev pub impl_map_values : ImplMapRow → List Value
 impl_map_values row = Number row.mapping_flags ∷ Token row.member_forwarded ∷ Text row.import_name ∷ Token row.import_scope ∷ []
 
--- with the address of its bytes
+-- the values of a FieldRVA row, with the RVA of the field's bytes
 abbrev pub field_rva_values : ℕ → FieldRvaRow → List Value
 field_rva_values rva row = Number rva ∷ Token row.field ∷ []
 

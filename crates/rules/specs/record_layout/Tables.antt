@@ -15,11 +15,11 @@ use Rattle.rules.specs.record_layout.FieldData.{with_all_data, data_rvas}
 abbrev pub bodies_of : AsmRec → List (Option (Known Body))
 bodies_of rec = map (λ m. m.body) rec.method_def
 
--- bodies in the order of their methods (II.25.4)
+-- the bytes of all bodies, in the order of their methods (II.25.4)
 abbrev pub bodies_code : AsmRec → List ℕ
 bodies_code rec = code_behind [] (bodies_of rec)
 
--- and the bytes of fields after them
+-- the bytes of all bodies, and those of fields after them
 unfoldable pub code_of : AsmRec → List ℕ
 code_of rec = with_all_data (bodies_code rec) rec.field_rva
 
@@ -29,7 +29,7 @@ method_rvas rec = rvas_behind [] (bodies_of rec)
 abbrev pub field_rvas : AsmRec → List ℕ
 field_rvas rec = data_rvas (bodies_code rec) rec.field_rva
 
--- rows with the addresses that are theirs
+-- the values of rows, each with its RVA
 unfoldable pub with_rvas : {A : Type 0} → (ℕ → A → List Value) → List ℕ → List A → List (List Value)
 with_rvas values [] rows = []
 with_rvas values (rva ∷ rvas) [] = []

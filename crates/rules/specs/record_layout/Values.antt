@@ -1,4 +1,4 @@
--- What a row has in its columns, and the cells that it has there. A token is its row's number where a column is of one table,
+-- The values of a row in its columns, and the cells that these become. A token is its row's number where a column is of one table,
 -- and a coded index where it is of several (II.24.2.6).
 use Rattle.std.specs.Prelude.{ℕ, suc, List, [], ◌∷◌, map}
 use Rattle.il_base.specs.declared.cli_format.column.Column.{Column}
@@ -27,7 +27,7 @@ cell_in c (value.Blob b) = cell.Blob b
 cell_in c (value.Guid g) = cell.Guid g
 cell_in c (value.Token token) = cell.Number (token_number c token)
 
--- a row, by the columns of its table
+-- the cells of a row, by the columns of its table
 unfoldable pub row_cells : List Column → List Value → List Cell
 row_cells [] values = []
 row_cells (c ∷ cs) [] = []

@@ -28,7 +28,7 @@ use Rattle.rules.specs.step_rules.Raising.{raise}
 
 -- ---- `newarr`
 
--- an array has at most this many elements
+-- the most elements of an array
 abbrev pub array_limit : ℕ
 array_limit = 1048576
 
@@ -53,7 +53,7 @@ new_array_form q here i s = elim i.operand [ typ e ↦ closed_element q here e s
 
 -- ---- an array on the stack
 
--- an array, by its place, the type of its elements, and these
+-- an array: its place in the heap, the type of its elements, and these
 pub record Vector : Type 0 where
   pub place : ℕ
   pub of : TypeExpr
@@ -101,12 +101,12 @@ abbrev pub put_element : Here → Instruction → State → List Value → Vecto
 put_element here i s stack v n w =
     given (with_object s v.place (Some (object.Array v.of (slice_set v.cells n w)))) s (λ t. goes here i stack t)
 
--- an object that isn't of the element's type
+-- whether a value is an object that isn't of the element's type
 abbrev pub mismatches : Queries → State → Vector → Value → Bool
 mismatches q s v (value.Object a) = not (is_a q (element_type v) (object_at s a))
 mismatches q s v _ = false
 
--- what is stored comes last
+-- a store into an element, of which the type of the stored object is checked last
 abbrev pub store_checked : Queries → Here → Instruction → State → List Value → Vector → ℕ → Value → Next
 store_checked q here i s stack v n w =
     if mismatches q s v w then raise q ArrayTypeMismatchException s else put_element here i s stack v n w

@@ -16,12 +16,12 @@ use Rattle.rules.specs.step_rules.Comparisons.{Test, equal, unequal, less, less_
 unfoldable pub branch : Form
 branch q here i s = elim i.operand [ target to ↦ branches here i to s.top.stack s | _ ↦ stuck s ]
 
--- where a condition holds to the target, else to the next instruction
+-- a conditional branch: to the target where the condition holds, else to the next instruction
 abbrev pub branch_on : Here → Instruction → ℕ → List Value → State → Bool → Next
 branch_on here i to stack s true = branches here i to stack s
 branch_on here i to stack s false = goes here i stack s
 
--- null and 0 are false (III.3.17); a struct or a handle is neither
+-- a value as a condition: null and 0 are false, other references and numbers true (III.3.17); a struct or a handle is neither
 unfoldable pub truth : Value → Option Bool
 truth value.Null = Some false
 truth (value.I4 n) = Some (not (int_eq n (pos 0)))

@@ -49,8 +49,8 @@ abbrev pub invoked : Queries → Callee → List Value → Waits → State → G
 invoked q c vs waits s give (Some k) = core_call q c k vs s give
 invoked q c vs waits s give None = given (slot_values q c.signature vs) s (λ ws. enter q c ws waits s)
 
--- a member of the core library in this step, another in a frame for which this one waits; the state has the arguments off the
--- stack already
+-- Runs a method: a member of the core library in this step, any other in a frame for which this one waits. The arguments are off
+-- the stack already.
 unfoldable pub invoke : Queries → Callee → List Value → Waits → State → Gives → Next
 invoke q c vs waits s give = invoked q c vs waits s give (q.core c.called.method.0)
 
@@ -58,7 +58,7 @@ abbrev pub pushed : Option Value → List Value → List Value
 pushed None stack = stack
 pushed (Some v) stack = v ∷ stack
 
--- what a call gives is pushed
+-- pushes the result of a call
 abbrev pub gives_result : Here → Instruction → Gives
 gives_result here i s v bytes = goes_with here i (pushed v s.top.stack) s bytes
 
@@ -67,18 +67,18 @@ runs q here i c vs s = invoke q c vs waits.Nothing s (gives_result here i)
 
 -- ---- the receiver
 
--- with `this` as the method that was found takes it
+-- runs a method that was found, with `this` as it takes it
 abbrev pub runs_on : Queries → Here → Instruction → List Value → State → Value → Callee → Next
 runs_on q here i vs s v c = given (this_for q s c v) s (λ this. runs q here i c (this ∷ vs) s)
 
--- `call`: a pointer where the owner is a value type, else an object
+-- `call`: `this` is a pointer where the owner is a value type, else an object
 abbrev pub call_on : Queries → Here → Instruction → Callee → List Value → State → Value → Next
 call_on q here i c vs s value.Null = raise q NullReferenceException s
 call_on q here i c vs s (value.Pointer p) = required (is_value q c.called.owner) s (runs q here i c (value.Pointer p ∷ vs) s)
 call_on q here i c vs s (value.Object a) = required (not (is_value q c.called.owner)) s (runs q here i c (value.Object a ∷ vs) s)
 call_on q here i c vs s _ = stuck s
 
--- what `callvirt` finds from a type: of a virtual method what answers its slot, another as it is
+-- the method that `callvirt` runs for an object of a type: the one that answers the slot of a virtual method, else the method itself
 unfoldable pub found_from : Queries → Callee → TypeExpr → State → (Callee → Next) → Next
 found_from q c e s f = if is_virtual c.method then dispatched q c e s f else required (not (is_abstract c.method)) s (f c)
 
@@ -108,7 +108,7 @@ abbrev pub constrained_found : Queries → Here → Instruction → List Value �
 constrained_found q here i vs s e p found =
     if is_own found.called.owner e then runs q here i found (value.Pointer p ∷ vs) s else boxed_on q here i vs s e p found
 
--- on a reference the object of the place
+-- `constrained.` on a reference type: the object in the place that the pointer leads to
 abbrev pub constrained_at : Queries → Here → Instruction → Callee → List Value → State → TypeExpr → Path → Next
 constrained_at q here i c vs s e p =
     if is_value q e then found_from q c e s (constrained_found q here i vs s e p) else at_place q p s (call_virtual q here i c vs s)
@@ -122,7 +122,7 @@ abbrev pub by_prefix : Queries → Here → Instruction → Callee → List Valu
 by_prefix q here i c vs s (prefixed.Constrained e) v = constrained_on q here i c vs s e v
 by_prefix q here i c vs s _ v = call_virtual q here i c vs s v
 
--- with the prefix as it was at the instruction
+-- `callvirt` on its receiver, with the prefix as it was at the instruction
 abbrev pub receives : Queries → Here → Instruction → Callee → List Value → State → Prefix → Value → Next
 receives q here i c vs s prefix v =
     if i.opcode == CALL then call_on q here i c vs s v else by_prefix q here i c vs s prefix v
@@ -133,7 +133,7 @@ received q here i c (v ∷ vs) s prefix = receives q here i c vs s prefix v
 
 -- ---- `call` and `callvirt`
 
--- the frame while it waits: the arguments gone, at the call
+-- the frame while it waits: still at the call, with the arguments off the stack
 abbrev pub waiting : List Value → State → State
 waiting stack s = moved s.top.at stack s
 
@@ -141,7 +141,7 @@ abbrev pub with_args : Queries → Here → Instruction → Callee → State →
 with_args q here i c s t =
     if c.signature.this then received q here i c t.0 (waiting t.1 s) s.top.prefix else runs q here i c t.0 (waiting t.1 s)
 
--- a static method's type, and that of a constructor, is begun (II.10.5.3)
+-- whether a call begins the type of its method: that of a static method or a constructor (II.10.5.3)
 abbrev pub begins : Callee → Bool
 begins c = not c.signature.this || c.method.constructor
 
@@ -168,7 +168,7 @@ is_abstract_type q e = let h = head_of q e in head_has type_flags.ABSTRACT h || 
 abbrev pub may_make : Queries → Callee → Bool
 may_make q c = c.method.constructor && c.signature.this && not (is_abstract_type q c.called.owner)
 
--- what is made is pushed, whatever the constructor returns
+-- pushes the new object or value, whatever the constructor returns
 abbrev pub gives_made : Here → Instruction → Value → Gives
 gives_made here i v s result bytes = goes_with here i (v ∷ s.top.stack) s bytes
 
@@ -205,7 +205,7 @@ new_object q here i s = elim i.operand [ method m ↦ closed_use q here m s (mak
 abbrev pub with_prefix : Prefix → State → State
 with_prefix p s = record s { top = record s.top { prefix = p } }
 
--- it holds for the next instruction, whatever that is
+-- sets a prefix, which holds for the next instruction, whatever that is
 abbrev pub goes_under : Here → Instruction → State → Prefix → Next
 goes_under here i s p = required (may_go here.code i.at i.next) s (went (with_prefix p (moved i.next s.top.stack s)) [])
 

@@ -45,11 +45,11 @@ plain e = (fold-TypeExpr (TypeExpr × TypeExpr) plain_layer e).1
 
 -- ---- closed types
 
--- how a type counts once it is closed
+-- where a closed type may stand
 pub data Standing : Type 0 where
   -- a parameter is left in it, or it has another number of arguments than its definition has parameters
   broken : Standing
-  -- VOID or a reference: no argument of a type and no element
+  -- VOID or a managed pointer's type: no argument of a type and no element
   alone : Standing
   whole : Standing
 
@@ -98,22 +98,22 @@ abbrev pub if_so : {A : Type 0} → Bool → A → Option A
 if_so true x = Some x
 if_so false x = None
 
--- a type with these arguments put in: a return, which can be VOID
+-- a return type with these arguments put in, which can be VOID
 unfoldable pub closed_return : Queries → List TypeExpr → List TypeExpr → TypeExpr → Option TypeExpr
 closed_return q targs margs e = let c = plain (subst targs margs e) in if_so (is_sound (standing q.head c)) c
 
--- a slot, a parameter or an operand: not VOID
+-- the type of a local, a parameter or an operand with these arguments put in: not VOID
 unfoldable pub closed_slot : Queries → List TypeExpr → List TypeExpr → TypeExpr → Option TypeExpr
 closed_slot q targs margs e = option_and_then (λ c. if is_void c then None else Some c) (closed_return q targs margs e)
 
--- an element or a field: not a reference either
+-- the type of an element or a field with these arguments put in: neither VOID nor a managed pointer's
 unfoldable pub closed_cell_by : (ℕ → Option Head) → List TypeExpr → List TypeExpr → TypeExpr → Option TypeExpr
 closed_cell_by heads targs margs e = let c = plain (subst targs margs e) in if_so (is_whole (standing heads c)) c
 
 abbrev pub closed_cell : Queries → List TypeExpr → List TypeExpr → TypeExpr → Option TypeExpr
 closed_cell q targs margs e = closed_cell_by q.head targs margs e
 
--- all of some, where each is there
+-- a list with an item in front, where both are there
 abbrev pub front : {A : Type 0} → Option A → Option (List A) → Option (List A)
 front (Some x) (Some xs) = Some (x ∷ xs)
 front _ _ = None
@@ -122,17 +122,17 @@ abbrev pub all_of : {A B : Type 0} → (A → Option B) → List A → Option (L
 all_of f [] = Some []
 all_of f (x ∷ xs) = front (f x) (all_of f xs)
 
--- an argument keeps its modifiers
+-- a generic argument with these arguments put in, which keeps its modifiers
 abbrev pub closed_arg : Queries → List TypeExpr → List TypeExpr → TypeExpr → Option TypeExpr
 closed_arg q targs margs e = let c = subst targs margs e in if_so (is_whole (standing q.head c)) c
 
 -- ---- operands
 
--- a type of an operand, in the running method
+-- goes on with the type of an operand, closed by the running method's arguments
 unfoldable pub closed : Queries → Here → Known TypeExpr → State → (TypeExpr → Next) → Next
 closed q here typ s f = known typ s (λ e. had (closed_slot q here.targs here.margs e) s f)
 
--- a type of an operand whose values are elements or cells
+-- goes on with the type of an operand, closed, whose values are elements or cells
 unfoldable pub closed_element : Queries → Here → Known TypeExpr → State → (TypeExpr → Next) → Next
 closed_element q here typ s f = known typ s (λ e. had (closed_cell q here.targs here.margs e) s f)
 
@@ -168,7 +168,7 @@ unfoldable pub closed_method_use : Queries → Here → MethodUse → Option Met
 closed_method_use q here u =
     option_and_then (λ owner. option_map (λ args. record u { owner = owner; args = args }) (all_of (closed_arg q here.targs here.margs) u.args)) (closed_cell q here.targs here.margs u.owner)
 
--- a method operand
+-- goes on with the method of an operand, closed
 unfoldable pub closed_use : Queries → Here → Known MethodUse → State → (Callee → Next) → Next
 closed_use q here operand s f = known operand s (λ u. had (option_and_then (callee_of q) (closed_method_use q here u)) s f)
 
@@ -184,6 +184,6 @@ accessed id owner f = record { id = id; owner = owner; field = f }
 unfoldable pub accessed_use : Queries → Here → FieldUse → Option Accessed
 accessed_use q here u = option_and_then (λ owner. option_map (accessed u.field.0 owner) (q.field u.field.0)) (closed_cell q here.targs here.margs u.owner)
 
--- a field operand; whether the field's own type has a meaning is looked at with its cell
+-- goes on with the field of an operand, closed; whether the field's own type has a meaning is checked with its cell
 unfoldable pub closed_field : Queries → Here → Known FieldUse → State → (Accessed → Next) → Next
 closed_field q here operand s f = known operand s (λ u. had (accessed_use q here u) s f)

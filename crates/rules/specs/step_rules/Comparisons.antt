@@ -16,7 +16,7 @@ pub data Test : Type 0 where
   less : Test
   less_unsigned : Test
   greater : Test
-  -- `cgt.un`, also "isn't null" of references
+  -- `cgt.un`, which of references also asks whether the first isn't null
   greater_unsigned : Test
   -- `bgt.un`
   greater_unsigned_numbers : Test
@@ -27,7 +27,7 @@ pub data Test : Type 0 where
 
 -- ---- numbers
 
--- two numbers of one kind: how wide they are, and the value that a number of the kind is
+-- two numbers of one kind: their width, and how a number of the kind becomes a value
 pub record Numbers : Type 0 where
   pub width : Width
   pub left : ℤ
@@ -61,7 +61,7 @@ compares at_most_unsigned w a b = not (below_unsigned w b a)
 
 -- ---- references and pointers
 
--- how two references or pointers compare
+-- the comparison of two references or pointers
 pub data Compared : Type 0 where
   -- whether they are the same, and whether the first is an object
   references : Bool → Bool → Compared
@@ -76,7 +76,7 @@ same_root (root.Field a f) (root.Field b g) = nat_eq a b && nat_eq f.0 g.0
 same_root (root.Static f e) (root.Static g d) = nat_eq f.0 g.0 && same_expr e d
 same_root _ _ = false
 
--- two pointers are equal where they lead to one place; their types aren't looked at
+-- two pointers are equal where they lead to one place; their types don't count
 unfoldable pub same_place : Path → Path → Bool
 same_place p o = same_root p.root o.root && pointwise nat_eq p.steps o.steps
 

@@ -68,7 +68,7 @@ simple core.AreEqual = λ q args s give. stuck s
 
 -- ---- members that call
 
--- what a member does with the result of what it called: the arguments are its own
+-- a member goes on with its own arguments and the result of the method that it called
 abbrev pub with_result : CoreCall → Queries → List Value → Value → State → Gives → Next
 with_result (core.Prints line of_object) q args v s give = print_form line of_object q (v ∷ []) s give
 with_result core.AreEqual q args v s give = given (narrowed BOOLEAN v) s (λ b. gives_value b s give)
@@ -81,7 +81,8 @@ with_option k q args s give (Some v) = with_result k q args v s give
 abbrev pub resumed : CoreCall → Queries → List Value → Gives → Gives
 resumed k q args give s v bytes = with_option k q args s give v
 
--- what was found runs: a member of the core library in this step, a method of the program in a frame for which this waits
+-- runs a method that was found: a member of the core library in this step, a method of the program in a frame for which this member
+-- waits
 abbrev pub run_found : Queries → CoreCall → List Value → Callee → List Value → State → Gives → Option CoreCall → Next
 run_found q k args c vs s give (Some found) = checked q c vs s (λ checked_vs. simple found q checked_vs s (resumed k q args give))
 run_found q k args c vs s give None = enter q c vs (waits.Core k args) s

@@ -21,7 +21,7 @@ abbrev pub ended_line : Bool → List ℕ → List ℕ
 ended_line true bytes = bytes ++ 10 ∷ []
 ended_line false bytes = bytes
 
--- the bytes of a string, of null none
+-- the bytes of a string; null has none
 abbrev pub bytes_of_text : State → Value → Option (List ℕ)
 bytes_of_text s value.Null = Some []
 bytes_of_text s v = option_map bytes_of_units (units_of s v)

@@ -58,7 +58,7 @@ same_form q _ s give = stuck s
 abbrev pub truth_text : ℤ → List ℕ
 truth_text n = if int_eq n (pos 0) then codes "False" else codes "True"
 
--- an unsigned type's number: its cells are kept as the stack has them
+-- the digits of an unsigned type's number, whose cells hold it as a signed one
 abbrev pub unsigned_text : ℕ → ℤ → List ℕ
 unsigned_text code n =
     if code == element.U4 then decimal (cast_unsigned w32 n) else if code == element.U8 then decimal (cast_unsigned w64 n) else signed_decimal n
@@ -123,7 +123,7 @@ abbrev pub put_cell : Queries → State → Cell → Value → Value → Option 
 put_cell q s c v (value.Object a) = with_object s a (option_and_then (put_cell_in q c v) (object_at s a))
 put_cell q s c v _ = None
 
--- .ctor(string): stores the object that it gets
+-- .ctor(string): stores its argument as the message
 unfoldable pub exception_text_form : CoreForm
 exception_text_form q (this ∷ v ∷ []) s give = given (put_cell q s message v this) s (λ t. gives_nothing t give)
 exception_text_form q _ s give = stuck s
@@ -134,7 +134,7 @@ exception_inner_form q (this ∷ v ∷ w ∷ []) s give =
     given (put_cell q s message v this) s (λ t. given (put_cell q t inner w this) t (λ u. gives_nothing u give))
 exception_inner_form q _ s give = stuck s
 
--- .ctor(string) of ArgumentNullException and ArgumentOutOfRangeException takes a parameter's name; null reads as the empty one
+-- .ctor(string) of ArgumentNullException and ArgumentOutOfRangeException takes a parameter's name; null counts as the empty name
 abbrev pub name_units : State → Value → Option (List ℕ)
 name_units s value.Null = Some []
 name_units s v = units_of s v
@@ -147,7 +147,7 @@ exception_parameter_form n q (this ∷ v ∷ []) s give =
     given (name_units s v) s (λ units. made_text (parameter_message n units) s (stored_text q this give))
 exception_parameter_form n q _ s give = stuck s
 
--- get_Message: the stored object, or for null a new text
+-- get_Message: the stored message, or where this is null a new text
 abbrev pub told_message : Queries → Obj → State → Gives → Value → Next
 told_message q o s give (value.Object m) = gives_value (value.Object m) s give
 told_message q o s give value.Null = gives_text (default_message q (type_of q o)) s give

@@ -86,7 +86,7 @@ all_units s (v ∷ vs) = option_and_then (λ us. option_map (λ more. us ++ more
 unfoldable pub string_concat_form : CoreForm
 string_concat_form q vs s give = given (all_units s vs) s (λ us. gives_text us s give)
 
--- the part from a place on, of a count of units; it begins from 0 to the length, and has from 0 to the rest
+-- the units from a place on, so many of them; None where they don't lie within the text
 abbrev pub part_if : List ℕ → ℕ → ℕ → Option (List ℕ)
 part_if us start count = if nat_le (start + count) (length us) then Some (take count (drop start us)) else None
 

@@ -58,7 +58,7 @@ object_this q owner _ s f = stuck s
 unfoldable pub core_this : Queries → TypeExpr → Value → State → (Value → Next) → Next
 core_this q owner v s f = if is_value q owner then pointed_this q owner v s f else object_this q owner v s f
 
--- an argument as its slot keeps it; an object is of the parameter's type
+-- an argument as its slot keeps it; an object has to be of the parameter's type
 abbrev pub of_type : Queries → State → TypeExpr → Value → Option Value
 of_type q s e (value.Object a) = if is_a q e (object_at s a) then Some (value.Object a) else None
 of_type q s e v = Some v
@@ -79,6 +79,6 @@ abbrev pub with_this : Queries → Callee → List Value → State → (List Val
 with_this q c [] s f = stuck s
 with_this q c (v ∷ vs) s f = core_this q c.called.owner v s (λ this. checked_args q c vs s (λ args. f (this ∷ args)))
 
--- the receiver first, then the arguments
+-- checks the receiver, then the arguments, and goes on with them
 unfoldable pub checked : Queries → Callee → List Value → State → (List Value → Next) → Next
 checked q c vs s f = if c.signature.this then with_this q c vs s f else checked_args q c vs s f

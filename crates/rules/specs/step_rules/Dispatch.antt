@@ -31,15 +31,15 @@ is_virtual m = has_flag m.flags VIRTUAL
 abbrev pub slots_of : Signature → ℕ
 slots_of sig = length sig.params + (if sig.this then 1 else 0)
 
--- the same number of arguments, and a value in both or in none
+-- two signatures with the same number of arguments, that both return a value or both none
 abbrev pub is_called_alike : Signature → Signature → Bool
 is_called_alike a b = nat_eq (slots_of a) (slots_of b) && beq (is_void a.ret) (is_void b.ret)
 
--- what is found has the call's own arguments
+-- the method that answers a virtual call, with the generic arguments of the call
 abbrev pub found_use : Queries → TypeExpr → Callee → Option MethodUse
 found_use q e c = option_map (λ (u : MethodUse). record u { args = c.called.args }) (q.answers e c.called.owner c.called.method.0)
 
--- the method that is found for an object of a type: none, an abstract one, or one that is called otherwise is stuck
+-- goes on with the method that answers a virtual call for an object of a type; none, an abstract one, or one of another form is stuck
 unfoldable pub dispatched : Queries → Callee → TypeExpr → State → (Callee → Next) → Next
 dispatched q c e s f =
     given (found_use q e c) s (λ u. given (q.method u.method.0) s (λ m. required (not (is_abstract m)) s (

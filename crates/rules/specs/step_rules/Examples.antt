@@ -1,4 +1,4 @@
--- Examples, each with what it comes to.
+-- Examples of programs and of steps, each with its result.
 use Rattle.std.specs.Prelude.{ℕ, ℤ, pos, negsuc, List, [], ◌∷◌, ◌++◌, codes}
 use Rattle.il_base.specs.declared.body.Form.TheVariants as form
 use Rattle.il_base.specs.declared.opcode.TheConstants as opcode

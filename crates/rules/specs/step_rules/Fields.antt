@@ -62,7 +62,7 @@ abbrev pub value_of_bytes : Queries → TypeExpr → List ℕ → Shape → Opti
 value_of_bytes q e bs (integer code) = number_in code bs
 value_of_bytes q e bs _ = zero_of q e
 
--- a static field that wasn't accessed before begins (II.16.3.2)
+-- a static field gets its initial value at its first access (II.16.3.2)
 abbrev pub first_value : Queries → Accessed → State → (State → Next) → TypeExpr → First → Next
 first_value q a s f e blank = had (zero_of q e) s (begins_with a s f)
 first_value q a s f e (bytes (Good bs)) = had (value_of_bytes q e bs (q.shape e)) s (begins_with a s f)
@@ -144,7 +144,7 @@ field_place q a (value.Object o) s f = field_of_object q a o s f
 field_place q a (value.Pointer p) s f = field_of_pointer q a p s f
 field_place q a _ s f = stuck s
 
--- `ldfld` also of a struct of the owner's type
+-- `ldfld` of a struct on the stack, which is of the owner's type
 abbrev pub load_part : Queries → Here → Instruction → Accessed → List Value → State → Parts → Next
 load_part q here i a stack s p =
     required (same_expr p.of a.owner) s (had (struct_cell q a.owner (cell_for a)) s (λ c.
@@ -160,14 +160,14 @@ load_field q here i a r stack s = load_from q here i a r stack s (parts_of r)
 abbrev pub address_field : Queries → Here → Instruction → Accessed → Value → List Value → State → Next
 address_field q here i a r stack s = field_place q a r s (λ p. at_place q p s (λ v. goes here i (value.Pointer p ∷ stack) s))
 
--- the object whole, then the value
+-- `stfld`: checks the object, then stores the value
 abbrev pub store_field : Queries → Here → Instruction → Accessed → Value → Value → List Value → State → Next
 store_field q here i a r v stack s =
     field_place q a r s (λ p. at_place q p s (λ old. given (fits q p.of v) s (λ w. put_at q p w s (goes here i stack))))
 
 -- ---- by opcode
 
--- a static instruction, or one that takes an object; an instance instruction on a static field drops its object, of any kind
+-- an access to a field with an object on the stack; where the field is static, the object is dropped, of whatever kind it is
 abbrev pub load_with : Queries → Here → Instruction → Accessed → Value → List Value → State → Next
 load_with q here i a r stack s = if is_static a then load_static q here i a stack s else load_field q here i a r stack s
 
@@ -190,7 +190,7 @@ access q here i a s =
 abbrev pub is_static_instruction : ℕ → Bool
 is_static_instruction code = code == LDSFLD || code == LDSFLDA || code == STSFLD
 
--- not a literal (II.16.1.2), and no static instruction on an instance field
+-- an instruction may not access a literal (II.16.1.2), nor an instance field by `ldsfld`, `ldsflda` or `stsfld`
 abbrev pub may_access : Instruction → Accessed → Bool
 may_access i a = not (is_literal a) && (is_static a || not (is_static_instruction i.opcode))
 

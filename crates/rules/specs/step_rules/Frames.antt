@@ -26,14 +26,14 @@ use Rattle.rules.specs.step_rules.Raising.{throw}
 
 -- ---- frames
 
--- at most this many
+-- the most frames at once
 abbrev pub frame_limit : ℕ
 frame_limit = 65536
 
 abbrev pub zero_local : Queries → MethodUse → TypeExpr → Option Value
 zero_local q u e = option_and_then (zero_of q) (closed_slot q (args_of u.owner) u.args e)
 
--- what the locals hold at first; None where one has no meaning or no zero value
+-- the initial values of the locals; None where one has no meaning or no zero value
 unfoldable pub zero_locals : Queries → MethodUse → Code → Option (List Value)
 zero_locals q u code = option_and_then (all_of (zero_local q u)) (good code.locals)
 
@@ -73,7 +73,7 @@ abbrev pub head_has : ℕ → Option Head → Bool
 head_has flag None = false
 head_has flag (Some h) = has_flag h.flags flag
 
--- with beforefieldinit the accesses to static fields alone begin it
+-- whether an access begins a type's initializer: with beforefieldinit only an access to a static field does
 abbrev pub begins_by : Queries → Bool → TypeExpr → Bool
 begins_by q by_field e = by_field || not (head_has BEFORE_FIELD_INIT (head_of q e))
 
@@ -91,7 +91,7 @@ init_of s e = option_map (λ x. x.init) (find (λ x. same_expr x.typ e) s.inits)
 abbrev pub with_init : TypeExpr → Init → State → State
 with_init e i s = record s { inits = s.inits ++ record { typ = e; init = i } ∷ [] }
 
--- an access while it runs, and after it, goes on; one that failed raises its exception again
+-- an access goes on while the initializer runs and after it; where the initializer failed, its exception is raised again
 abbrev pub begin_or : Queries → TypeExpr → MethodUse → State → (State → Next) → Option Init → Next
 begin_or q e u s f (Some begun) = f s
 begin_or q e u s f (Some ended) = f s
@@ -102,7 +102,7 @@ abbrev pub started_by : Queries → TypeExpr → State → (State → Next) → 
 started_by q e s f None = f s
 started_by q e s f (Some u) = begin_or q e u s f (init_of s e)
 
--- an access to a closed type, to a static field or another: where its initializer is due, that is entered, and the
--- instruction comes again
+-- An access to a closed type, to a static field of it or another one. Where the initializer is due, it is entered, and the
+-- instruction runs again after it.
 unfoldable pub started : Queries → Bool → TypeExpr → State → (State → Next) → Next
 started q by_field e s f = started_by q e s f (initializer q by_field e)

@@ -18,7 +18,7 @@ use Rattle.rules.specs.step_rules.Stores.{Access, by_code, by_reference, access_
 use Rattle.rules.specs.step_rules.Places.{at_place, put_at, alive}
 use Rattle.rules.specs.step_rules.Raising.{raise}
 
--- ---- a pointer that an access takes: kind, null, a frame that ended, type, cell
+-- ---- a pointer that an access takes, checked in this order: kind, null, a frame that ended, type, cell
 
 abbrev pub pointed : Queries → Access → Path → State → (Path → Value → Next) → Next
 pointed q a p s f = alive p s (required (allows q a p.of) s (at_place q p s (f p)))

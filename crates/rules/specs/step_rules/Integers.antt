@@ -39,7 +39,7 @@ is_native code = code == I || code == U
 abbrev pub is_long : ℕ → Bool
 is_long code = code == I8 || code == U8
 
--- in bytes
+-- the width of an integer type in bytes
 unfoldable pub width_of : ℕ → ℕ
 width_of code =
     if code == BOOLEAN || code == I1 || code == U1 then 1
@@ -74,7 +74,7 @@ if_not b n = if b then None else Some n
 abbrev pub only_if : Bool → ℤ → Option ℤ
 only_if b n = if b then Some n else None
 
--- what a value is worth for a slot of the type (III.1.6): an int64 for a 64-bit slot alone, every other for all others
+-- the number of a value for a slot of the type (III.1.6): an int64 fits a 64-bit slot only, any other integer every other slot
 unfoldable pub worth : ℕ → Value → Option ℤ
 worth code (value.I4 n) = if_not (is_long code) (widened code n)
 worth code (value.Native n) = if_not (is_long code) n
@@ -92,7 +92,7 @@ held_number (value.I8 n) = Some n
 held_number (value.Native n) = Some n
 held_number _ = None
 
--- an integer as a load of a type gives it, which has the width of the cell's
+-- an integer as a load of a type gives it, from a cell of the same width
 unfoldable pub shown : ℕ → Value → Option Value
 shown code v = option_map (number code) (held_number v)
 

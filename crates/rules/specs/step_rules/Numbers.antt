@@ -18,7 +18,7 @@ use Rattle.rules.specs.step_rules.Integers.{bits, fits_signed, fits_unsigned, wi
 use Rattle.rules.specs.step_rules.Comparisons.{Test, equal, less, less_unsigned, greater, greater_unsigned, Numbers, numbers, test}
 use Rattle.rules.specs.step_rules.Raising.{raise}
 
--- what an operation on numbers comes to
+-- the result of an operation on numbers
 pub data Answer : Type 0 where
   is : ℤ → Answer
   raises : CoreName → Answer
@@ -136,7 +136,7 @@ compute_values q here i stack s a b (Some t) = compare_values here i stack s a b
 compute_values q here i stack s a b None =
     if is_shift i.opcode then shift_values here i stack s a b else given (numbers a b) s (arithmetic_of q here i stack s)
 
--- of the lower operand a and the upper one b
+-- an instruction on two operands: the lower operand a and the upper one b
 unfoldable pub binary : Form
 binary q here i s =
     popped s.top.stack s (λ b below. popped below s (λ a stack. compute_values q here i stack s a b (comparison i.opcode)))
@@ -158,7 +158,7 @@ unary q here i s = popped s.top.stack s (λ v stack. given (unary_of i.opcode v)
 
 -- ---- conversions (III.3.27 to III.3.29)
 
--- to which integer type, whether the operand counts as unsigned, and whether a number that doesn't fit raises
+-- a conversion: its integer type, whether the operand counts as unsigned, and whether a number that doesn't fit raises
 pub record Conversion : Type 0 where
   pub to : ℕ
   pub unsigned : Bool

@@ -65,11 +65,11 @@ units_of s _ = None
 unfoldable pub units_of_bytes : List ℕ → List ℕ
 units_of_bytes bytes = flat_map encode_utf16 (chars bytes)
 
--- what a text is when it is printed: UTF-8, with U+FFFD for a surrogate that is in no pair
+-- the bytes of a text when it is printed: UTF-8, with U+FFFD for a surrogate that is in no pair
 unfoldable pub bytes_of_units : List ℕ → List ℕ
 bytes_of_units units = encode_utf8_all (utf16_lossy_chars units)
 
--- a text has at most this many units
+-- the most units of a text
 abbrev pub text_limit : ℕ
 text_limit = 16777216
 
@@ -121,7 +121,7 @@ own_message name.TargetParameterCountException = codes "Parameter count mismatch
 own_message name.TargetException = codes "Non-static method requires a target."
 own_message _ = codes "Exception was thrown."
 
--- the message of one that was given a parameter's name
+-- the message of an exception that was given a parameter's name
 unfoldable pub parameter_message : CoreName → List ℕ → List ℕ
 parameter_message n units = own_message n ++ codes " (Parameter '" ++ units ++ codes "')"
 
@@ -142,7 +142,7 @@ message_of q s o = unwrap_or (message_cell q s o) (default_message q (type_of q 
 unfoldable pub new_exception : Queries → CoreName → Obj
 new_exception q n = object.Instance (core_type q n) (zeros_of (q.cells (core_type q n)))
 
--- with an inner exception
+-- a new exception of the core library with an inner exception
 unfoldable pub wrapping : Queries → CoreName → ℕ → Obj
 wrapping q n a = let e = core_type q n in let cells = zeros_of (q.cells e) in
     object.Instance e (unwrap_or (with_cell q e cells inner (value.Object a)) cells)

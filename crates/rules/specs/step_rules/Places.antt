@@ -1,4 +1,4 @@
--- Places that managed pointers lead to (I.12.3.2.1): what stands there, and what a store makes of the state.
+-- Places that managed pointers lead to (I.12.3.2.1): their values, and the state after a store.
 use Rattle.std.specs.Prelude.{ℕ, List, [], ◌∷◌, nat_eq, Bool, true, false, not, ◌&&◌, Option, Some, None, slice_get, slice_set, find, map, if◌then◌else◌}
 use Rattle.std.specs.Option.{option_map, option_and_then, is_some}
 use Rattle.std.specs.List.{position}
@@ -44,7 +44,7 @@ set_if xs x at = option_map (λ old. slice_set xs at x) (slice_get xs at)
 unfoldable pub with_cell : Queries → TypeExpr → List Value → Cell → Value → Option (List Value)
 with_cell q e cells c v = option_and_then (set_if cells v) (cell_place c (q.cells e))
 
--- a cell of an object, and the object with another value there
+-- the value in a cell of an object
 abbrev pub cell_in : Queries → Cell → Obj → Option Value
 cell_in q c (object.Instance of cells) = cell_of q of cells c
 cell_in q c _ = None
@@ -63,7 +63,7 @@ value_in (k ∷ ks) v = option_and_then (λ (p : Parts). option_and_then (value_
 abbrev pub with_struct : Parts → ℕ → Value → Value
 with_struct p k v = value.Struct p.of (slice_set p.cells k v)
 
--- the same value with another at the end of the way
+-- a value with another one put at the end of a way into structs
 unfoldable pub put_in : List ℕ → Value → Value → Option Value
 put_in [] new v = Some new
 put_in (k ∷ ks) new v = option_and_then (λ (p : Parts). option_map (with_struct p k) (option_and_then (put_in ks new) (slice_get p.cells k))) (parts_of v)
@@ -150,7 +150,7 @@ set_arg k v f = record f { args = slice_set f.args k v }
 abbrev pub set_local : ℕ → Value → Frame → Frame
 set_local k v f = record f { locals = slice_set f.locals k v }
 
--- of a root that holds a value
+-- the state with another value at the root of a pointer
 abbrev pub put_root : Queries → State → Root → Value → Option State
 put_root q s (root.Arg n k) v = Some (with_frame n (set_arg k v) s)
 put_root q s (root.Local n k) v = Some (with_frame n (set_local k v) s)

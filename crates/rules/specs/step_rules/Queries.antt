@@ -25,10 +25,10 @@ pub record Queries : Type 0 where
   pub cells : TypeExpr → List Layout
   -- the initializer of a type (II.10.5.3)
   pub starts : ℕ → Option ℕ
-  -- whether the first can stand for the second (I.8.7)
+  -- whether a value of the first type can stand for one of the second (I.8.7)
   pub below : TypeExpr → TypeExpr → Bool
-  -- what a virtual call runs for an object of a type, with the closed type in which it was found (II.12.2): of the type,
-  -- of the closed owner of the called method, of that method
+  -- The method that a virtual call runs, with the closed type in which it was found (II.12.2). The arguments: the type of the
+  -- object, the closed owner of the called method, that method.
   pub answers : TypeExpr → TypeExpr → ℕ → Option MethodUse
   -- a type's text, in UTF-8
   pub text : TypeExpr → List ℕ

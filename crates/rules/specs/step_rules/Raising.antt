@@ -1,5 +1,5 @@
--- Exceptions (I.12.4.2): the search for a handler over all frames, and the way there through finally and fault handlers.
--- A step that raises searches from its instruction, and from the call of each caller; what has no handler ends the run before
+-- Exceptions (I.12.4.2): the search for a handler over all frames, and the way there through finally and fault handlers. A step
+-- that raises searches from its instruction, and from the call of each caller. An exception without a handler ends the run before
 -- any handler runs.
 use Rattle.std.specs.Prelude.{ℕ, suc, List, [], ◌∷◌, ◌++◌, take, nat_eq, map, Bool, true, false, ◌&&◌, ◌||◌, Option, Some, None, slice_get, if◌then◌else◌}
 use Rattle.std.specs.Option.{option_and_then}
@@ -57,7 +57,7 @@ abbrev pub is_in : Option Clause → ℕ → Bool
 is_in None at = false
 is_in (Some c) at = in_handler c at
 
--- those that an offset lies in: a raise, a leave or an unwinding that goes out of a handler forgets it
+-- the running handlers that an offset lies in: a raise, a leave or an unwinding that goes out of a handler drops it
 unfoldable pub still_running : Code → ℕ → List Running → List Running
 still_running code at running = filter (λ (r : Running). is_in (slice_get code.clauses r.clause) at) running
 
@@ -81,7 +81,7 @@ is_unwound at c = in_try c at && (is_finally c || is_fault c)
 abbrev pub unwound_in : Code → ℕ → List ℕ
 unwound_in code at = places_of (is_unwound at) 0 code.clauses
 
--- those of them that are within a catch clause
+-- the finally and fault clauses around an offset that are within a catch clause
 abbrev pub unwound_within : Code → ℕ → ℕ → List ℕ
 unwound_within code at clause = places_of (is_unwound at) 0 (take clause code.clauses)
 
@@ -90,7 +90,7 @@ left_here frame clause f None = []
 left_here frame clause f (Some here) =
     if nat_eq f.number frame then unwound_within here.code f.at clause else unwound_in here.code f.at
 
--- what is to run in a frame before the handler is reached, or the frame is left
+-- the finally and fault clauses to run in a frame before the handler is reached, or the frame is left
 unfoldable pub left_in : Queries → ℕ → ℕ → Frame → List ℕ
 left_in q frame clause f = left_here frame clause f (here_of q f)
 
@@ -100,7 +100,7 @@ change_init e i x = if same_expr x.typ e then record x { init = i } else x
 abbrev pub set_init : TypeExpr → Init → List Started → List Started
 set_init e i inits = map (change_init e i) inits
 
--- what becomes of initializers where a frame is left by an exception
+-- the initializers after an exception leaves a frame: the one that waits for the frame has failed
 abbrev pub failing : Waits → List ℕ → List Started → List Started
 failing (starts e) (a ∷ later) inits = set_init e (failed a) inits
 failing _ _ inits = inits
@@ -116,7 +116,7 @@ outside s u f fs = record s { top = f; below = fs; inits = failing s.top.waits u
 abbrev pub outer : Queries → State → Unwinding → Frame → Unwinding
 outer q s u f = record (further s.top.waits u) { left = left_in q u.frame u.clause f }
 
--- the next handler of the top frame, or what comes where none is left
+-- the next handler of the top frame: a finally or fault clause that is left, else the catch clause where the frame has it, else `out`
 abbrev pub next_handler : Code → Unwinding → List ℕ → State → Next → Next
 next_handler code u (n ∷ ns) s out = handler_begins code n (unwinding (record u { left = ns })) [] s
 next_handler code u [] s out =
@@ -125,7 +125,7 @@ next_handler code u [] s out =
 abbrev pub unwind_here : Queries → Unwinding → State → Next → Next
 unwind_here q u s out = given (here_of q s.top) s (λ (here : Here). next_handler here.code u u.left s out)
 
--- frame by frame: a frame is left after its last handler
+-- unwinds frame by frame: a frame is left after its last handler
 unfoldable pub unwind_to : Queries → Unwinding → State → List Frame → Next
 unwind_to q u s [] = unwind_here q u s (stuck s)
 unwind_to q u s (f ∷ fs) = unwind_here q u s (unwind_to q (outer q s u f) (outside s u f fs) fs)
@@ -135,7 +135,7 @@ unwind q u s = unwind_to q u s s.below
 
 -- ---- the search
 
--- what a frame has for an exception
+-- the result of the search for a handler in a frame
 pub data Found : Type 0 where
   nothing_found : Found
   -- a clause whose type has no meaning is looked at
@@ -183,7 +183,8 @@ caught_or q first later s f nothing_found out = out
 caught_or q first later s f bad_clause out = stopped s
 caught_or q first later s f (by_clause n) out = unwind q (unwinding_to q first later s f n) s
 
--- `first` is the exception in the top frame, `a` what it is in the frame f, `later` all that it became on the way
+-- The search for a handler. `first` is the exception in the top frame, `a` the one that it has become in the frame f, `later` all
+-- that it became on the way.
 unfoldable pub search : Queries → ℕ → ℕ → List ℕ → State → Frame → List Frame → Next
 search q first a later s f [] =
     caught_or q first later s f (found_in q s a f) (passed_on q (is_initializer f.waits) a later s (λ b all s. threw q s (object_at s b)))

@@ -33,7 +33,7 @@ use Rattle.rules.specs.step_rules.Calls.{pushed}
 abbrev pub in_block : ℕ → Clause → Bool
 in_block at c = in_try c at || in_handler c at
 
--- nothing, or the one value that is left, as its return type keeps it
+-- the result of a method: nothing, or the one value that is left, as its return type keeps it
 abbrev pub no_value : List Value → Option (Option Value)
 no_value [] = Some None
 no_value (v ∷ stack) = None
@@ -45,24 +45,24 @@ one_value q e _ = None
 unfoldable pub returned : Queries → TypeExpr → List Value → Option (Option Value)
 returned q e stack = if is_void e then no_value stack else one_value q e stack
 
--- of a method that returns nothing it is 0
+-- the exit code of a run; 0 where the entry method returns nothing
 abbrev pub exit_code : Option Value → ℤ
 exit_code (Some (value.I4 n)) = n
 exit_code _ = pos 0
 
 -- ---- back to the caller
 
--- the caller on top
+-- the state with the caller on top
 abbrev pub back_in : State → Frame → List Frame → State
 back_in s f fs = record s { top = f; below = fs }
 
--- the caller goes on after its call; where it may not, this instruction is stuck, and nothing is returned
+-- the caller goes on after its call; where the way to the next instruction isn't allowed, `ret` is stuck
 abbrev pub goes_back : Queries → State → State → List Value → List ℕ → Next
 goes_back q s t stack bytes =
     given (here_of q t.top) s (λ here. given (instruction_at here.code t.top.at) s (λ i.
     required (may_go here.code i.at i.next) s (went (moved i.next stack t) bytes)))
 
--- what the frame that ends had to do for the caller
+-- the return to the caller, by what the caller waits for
 abbrev pub back_by : Queries → State → State → Option Value → Waits → Next
 back_by q s t v waits.Nothing = goes_back q s t (pushed v t.top.stack) []
 back_by q s t v (waits.Makes a) = goes_back q s t (value.Object a ∷ t.top.stack) []
@@ -107,7 +107,7 @@ abbrev pub returns : Queries → Here → State → Signature → Next
 returns q here s sig =
     had (closed_return q here.targs here.margs sig.ret) s (λ e. given (returned q e s.top.stack) s (back q s s.below))
 
--- in a try block or a handler it is stuck
+-- `ret` (III.3.57): in a try block or a handler it is stuck
 unfoldable pub return : Form
 return q here i s =
     required (not (list_any (in_block i.at) here.code.clauses)) s (given (good here.method.signature) s (returns q here s))

@@ -1,4 +1,4 @@
--- Whole runs from an entry point (II.15.4.1.2): what is printed within n steps, and how the run ends, if it does.
+-- Whole runs from an entry point (II.15.4.1.2): the bytes printed within n steps, and the end of the run, if it has one.
 use Rattle.std.specs.Prelude.{ℕ, zero, suc, nat_eq, List, [], ◌∷◌, ◌++◌, Bool, true, false, not, ◌&&◌, ◌||◌, Option, Some, None}
 use Rattle.il_base.specs.declared.element.TheConstants.{I4, STRING}
 use Rattle.il_base.specs.declared.method_flags.TheConstants.{STATIC}
@@ -40,7 +40,7 @@ abbrev pub after : Next → (State → Outcome) → Outcome
 after (went s bytes) f = printed_before bytes (f s)
 after (over e) f = record { output = []; end = Some e }
 
--- from a state
+-- n steps from a state
 unfoldable pub run : Queries → ℕ → State → Outcome
 run q zero s = record { output = []; end = None }
 run q (suc n) s = after (step q s) (run q n)
@@ -52,7 +52,7 @@ pub data Beginning : Type 0 where
   begins : State → Beginning
   ends : End → Beginning
 
--- what has no meaning, and what isn't of an entry point's form, ends the run at the entry's offset 0
+-- an entry without a meaning, or without the form of an entry point, ends the run at its offset 0
 abbrev pub stopped_at : ℕ → Beginning
 stopped_at m = ends (Stopped (record { 0 = m }) 0)
 
@@ -75,7 +75,7 @@ abbrev pub stuck_unless : Bool → ℕ → Beginning → Beginning
 stuck_unless true m next = next
 stuck_unless false m next = stuck_at m
 
--- no parameter or one `string[]`, and nothing or an int32 in return
+-- the form of an entry point: no parameter or one `string[]`, and nothing or an int32 in return
 abbrev pub is_strings : TypeExpr → Bool
 is_strings e = same_expr e (expr.Array (expr.Prim STRING))
 
@@ -93,7 +93,7 @@ is_entry_signature sig = not sig.this && are_entry_params sig.params && is_entry
 abbrev pub is_entry : Callee → Bool
 is_entry c = has_flag c.method.flags STATIC && is_entry_signature c.signature
 
--- nothing on the heap, nothing begun; the frame is replaced by the first that is entered
+-- a state with an empty heap and no type begun; its frame is replaced by the first that is entered
 abbrev pub blank_state : Callee → List ℕ → State
 blank_state c input =
     record { heap = []; statics = []; inits = []; texts = []; types = []; top = frame_of 0 c.called [] [] nothing; below = []; entered = 0; input = input }
@@ -121,7 +121,7 @@ begins_with q m input c locals =
 abbrev pub entry_use : Method → ℕ → MethodUse
 entry_use f m = record { method = record { 0 = m }; owner = expr.Def (record { 0 = f.owner }); args = [] }
 
--- a method that isn't generic, with its locals
+-- the beginning of a run at an entry method, which isn't generic, with its locals
 abbrev pub begins_code : Queries → ℕ → List ℕ → Method → Code → Beginning
 begins_code q m input f code =
     or_stopped (callee_of q (entry_use f m)) m (λ c. or_stopped (zero_locals q c.called code) m (begins_with q m input c))
@@ -135,8 +135,7 @@ abbrev pub begins_method : Queries → ℕ → List ℕ → Method → Beginning
 begins_method q m input f =
     good_or_stopped f.signature m (λ sig. stopped_unless (takes (q.head f.owner) 0) m (begins_body q m input f sig f.body))
 
--- what a method that no type's run holds, a signature, a body, a local and a type without its arguments come to is looked at
--- before the form
+-- The beginning of a run. An entry in no type's run and bad signatures, bodies, locals and types are answered before a wrong form.
 unfoldable pub beginning : Queries → ℕ → List ℕ → Beginning
 beginning q m bytes = or_stopped (q.method m) m (begins_method q m (decoded bytes))
 

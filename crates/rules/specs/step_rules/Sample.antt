@@ -160,7 +160,7 @@ make_c at = ins at form.NewObj opcode.NEWOBJ (used.Method (Good (record { method
 abbrev pub field_of_c : Use
 field_of_c = used.Field (Good (record { field = record { 0 = 1 }; owner = def 2 }))
 
--- 30 steps of an example come to this
+-- an example prints these bytes and ends so within 30 steps
 abbrev pub Runs : Code → List ℕ → End → Type 0
 Runs code output end = run_from (world code) 0 [] 30 ≡ record { output = output; end = Some end }
 

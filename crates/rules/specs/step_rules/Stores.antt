@@ -86,7 +86,7 @@ zero_shape e field_handle = Some (value.Struct e [])
 zero_shape e (structure cells) = Some (value.Struct e (zeros_of cells))
 zero_shape e no_value = None
 
--- zero, null, or a struct of these
+-- the zero value of a type: zero, null, or a struct of these
 unfoldable pub zero_of : Queries → TypeExpr → Option Value
 zero_of q e = zero_shape e (q.shape e)
 
@@ -96,11 +96,11 @@ abbrev pub is_reference_shape : Shape → Bool
 is_reference_shape reference = true
 is_reference_shape _ = false
 
--- a class, an interface or an array
+-- whether a type is a class, an interface or an array
 unfoldable pub is_reference : Queries → TypeExpr → Bool
 is_reference q e = is_reference_shape (q.shape e)
 
--- also a value type that has no zero value
+-- whether a shape is a value type's, also where the type has no zero value
 abbrev pub is_value_shape : Shape → Bool
 is_value_shape reference = false
 is_value_shape pointer = false
@@ -123,7 +123,7 @@ abbrev pub access_shape : TypeExpr → Shape → Access
 access_shape e (integer code) = by_code code
 access_shape e _ = by_type e
 
--- of an instruction with a type
+-- the access of an instruction with this type
 unfoldable pub access_of : Queries → TypeExpr → Access
 access_of q e = access_shape e (q.shape e)
 
@@ -131,7 +131,7 @@ abbrev pub element_shape : TypeExpr → Shape → Access
 element_shape e reference = by_reference
 element_shape e shape = access_shape e shape
 
--- of an element instruction with a type: one of a reference type takes any array of references
+-- the access of an element instruction with this type: with a reference type it takes any array of references
 unfoldable pub element_access : Queries → TypeExpr → Access
 element_access q e = element_shape e (q.shape e)
 

@@ -46,7 +46,7 @@ innermost_from at best n (c ∷ cs) = innermost_from at (better at n c best) (su
 abbrev pub innermost : Code → ℕ → Option Placed
 innermost code at = innermost_from at None 0 code.clauses
 
--- what entered it; None for a handler that the method began in
+-- what entered the handler of a clause; None where it isn't among the running ones
 unfoldable pub reason_of : ℕ → List Running → Option Reason
 reason_of n running = option_map (λ r. r.reason) (find (λ r. nat_eq r.clause n) running)
 
@@ -87,7 +87,7 @@ crossed code at to = places_of (is_crossed at to) 0 code.clauses
 abbrev pub left_for : Code → ℕ → Frame → Frame
 left_for code to f = record f { at = to; stack = []; prefix = none; running = still_running code to f.running }
 
--- through these finally handlers, one in a step, to the target
+-- a `leave` through these finally handlers, one in a step, to the target
 unfoldable pub leave_through : Code → List ℕ → ℕ → State → Next
 leave_through code [] to s = went (record s { top = left_for code to s.top }) []
 leave_through code (n ∷ ns) to s = handler_begins code n (leaving ns to) [] s

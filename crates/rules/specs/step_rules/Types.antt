@@ -53,7 +53,7 @@ cast q here i s = elim i.operand [ typ e ↦ closed q here e s (casts q here i s
 abbrev pub boxes_value : Here → Instruction → State → TypeExpr → List Value → Value → Next
 boxes_value here i s e stack v = made (object.Boxed e v) s (λ a t. goes here i (value.Object a ∷ stack) t)
 
--- a reference stays as it is
+-- `box`: a reference stays as it is
 abbrev pub boxes : Queries → Here → Instruction → State → TypeExpr → Value → List Value → Next
 boxes q here i s e v stack =
     if is_reference q e then given (fits_reference v) s (λ w. goes here i (w ∷ stack) s)
@@ -78,12 +78,12 @@ unboxes q s e value.Null f = raise q NullReferenceException s
 unboxes q s e (value.Object a) f = given (object_at s a) s (λ o. or_invalid q s (boxed_of e o) (f a))
 unboxes q s e _ f = stuck s
 
--- a pointer into the box
+-- `unbox`: a pointer into the box
 abbrev pub unbox_pointer : Queries → Here → Instruction → State → TypeExpr → Next
 unbox_pointer q here i s e =
     required (is_value q e) s (popped s.top.stack s (λ v stack. unboxes q s e v (λ a w. goes here i (value.Pointer (path_into_box a e) ∷ stack) s)))
 
--- the value; of a reference type as `castclass`
+-- `unbox.any`: the value in the box; of a reference type it is `castclass`
 abbrev pub unbox_value : Queries → Here → Instruction → State → TypeExpr → Next
 unbox_value q here i s e =
     if is_reference q e then popped s.top.stack s (cast_class q here i s e)
@@ -109,7 +109,7 @@ closed_handle q here e =
 abbrev pub load_handle : Queries → Here → Instruction → State → TypeExpr → Next
 load_handle q here i s e = had (closed_handle q here e) s (λ c. goes here i (value.Handle c ∷ s.top.stack) s)
 
--- of a type or a field; of a method the run ends
+-- `ldtoken` of a type or a field; of a method it ends the run
 unfoldable pub load_token : Form
 load_token q here i s =
     elim i.operand [

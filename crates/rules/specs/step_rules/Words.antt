@@ -1,5 +1,5 @@
--- The words in which each form of instruction is written: a continuation goes on with what a look-up or the stack gave,
--- and what is missing ends the run.
+-- The words in which each form of instruction is written. A continuation goes on with the result of a look-up or of the stack; a
+-- missing one ends the run.
 use Rattle.std.specs.Prelude.{ℕ, nat_eq, nat_le, nat_lt, pos, List, [], ◌∷◌, ◌++◌, length, take, drop, reverse, Bool, true, false, not, ◌&&◌, ◌||◌, Option, Some, None, slice_get, find, if◌then◌else◌}
 use Rattle.std.specs.List.{list_all}
 use Rattle.std.specs.Option.{option_and_then}
@@ -96,7 +96,7 @@ good (Bad why) = None
 abbrev pub here_in : Frame → Method → Code → Here
 here_in f m code = record { method = m; code = code; targs = args_of f.method.owner; margs = f.method.args }
 
--- what a frame runs
+-- the body that a frame runs, with its arguments
 unfoldable pub here_of : Queries → Frame → Option Here
 here_of q f = option_and_then (λ m. option_and_then (λ body. option_and_then (λ code. Some (here_in f m code)) (good body)) m.body) (q.method f.method.method.0)
 
@@ -118,7 +118,7 @@ in_handler c at = covers c.at c.end at
 abbrev pub implies : Bool → Bool → Bool
 implies a b = not a || b
 
--- what is true of a range and two offsets where control doesn't leave it, and doesn't enter it
+-- control from `at` to `to` doesn't leave the clause's handler, and doesn't enter it
 abbrev pub stays_in_handler : Clause → ℕ → ℕ → Bool
 stays_in_handler c at to = implies (in_handler c at) (in_handler c to)
 

@@ -38,7 +38,7 @@ abbrev pub is_instance_virtual : Option MethodDefRow → Bool
 is_instance_virtual None = false
 is_instance_virtual (Some m) = is_virtual m && not (is_static m)
 
--- a body: a virtual method, not a static one, of the class or of one of its bases
+-- whether a method can be the body of a MethodImpl row: it is virtual, not static, and of the class or of one of its bases
 abbrev pub is_body : List AsmRec → TypeExpr → RowAt → Bool
 is_body recs e at = is_instance_virtual (method_row_at recs at) && have_method recs (with_bases recs (open_parent recs e)) at
 
@@ -92,7 +92,7 @@ slot_in recs slot e = in_definition recs (slot_in_run recs slot) e
 abbrev pub class_method_in : List AsmRec → RowAt → TypeExpr → Option RowAt
 class_method_in recs slot e = or_else (impl_in recs (declares_slot recs slot) e) (slot_in recs slot e)
 
--- from a type upwards
+-- the method of a class slot, searched from a type upwards
 unfoldable pub class_dispatch : List AsmRec → TypeExpr → RowAt → Option RowAt
 class_dispatch recs t slot = nearest (class_method_in recs slot) (with_bases recs t)
 
@@ -133,7 +133,7 @@ abbrev pub public_match_in : List AsmRec → List ℕ → Option MethodType → 
 public_match_in recs name None e = None
 public_match_in recs name (Some wanted) e = match_in recs is_public_virtual name wanted e
 
--- what a type has for a slot of this name and signature in an interface instance
+-- the method that a type has for a slot of this name and signature in an interface instance
 abbrev pub interface_method_in : List AsmRec → RowAt → TypeExpr → List ℕ → Option MethodType → TypeExpr → Option RowAt
 interface_method_in recs slot instance name wanted e =
     or_else (impl_in recs (declares_in recs slot instance (args_of e)) e) (public_match_in recs name wanted e)
@@ -143,7 +143,7 @@ good_signature None = None
 good_signature (Some (Bad why)) = None
 good_signature (Some (Good signature)) = Some signature
 
--- from the type that chooses upwards, its own parameters left open
+-- the method of an interface slot, searched from the type that chooses upwards, its own parameters left open
 abbrev pub from_choice : List AsmRec → RowAt → MethodDefRow → Option (Known MethodType) → Choice → Option RowAt
 from_choice recs slot m signature c =
     nearest (interface_method_in recs slot c.instance m.name (option_map (subst_method (args_of c.instance)) (good_signature signature))) (with_bases recs (open_parent recs c.of))
@@ -156,7 +156,7 @@ interface_method_by recs t instance slot m =
 unfoldable pub interface_method : List AsmRec → TypeExpr → TypeExpr → RowAt → Option RowAt
 interface_method recs t instance slot = option_and_then (interface_method_by recs t instance slot) (method_row_at recs slot)
 
--- that method is dispatched as a class slot
+-- the method that an interface slot dispatches to: the first one found, dispatched as a class slot
 unfoldable pub interface_dispatch : List AsmRec → TypeExpr → TypeExpr → RowAt → Option RowAt
 interface_dispatch recs t instance slot =
     option_and_then (class_dispatch recs t) (option_and_then (slot_of recs) (interface_method recs t instance slot))
@@ -167,7 +167,7 @@ interface_dispatch recs t instance slot =
 abbrev pub in_interface : List AsmRec → RowAt → Bool
 in_interface recs slot = list_any (is_interface_at recs) (listed (type_of_method recs slot))
 
--- for an interface slot `owner` is the interface instance, for a class slot it isn't looked at
+-- the method of a slot; for an interface slot `owner` is the interface instance, for a class slot it doesn't count
 abbrev pub dispatch_slot : List AsmRec → TypeExpr → TypeExpr → RowAt → Option RowAt
 dispatch_slot recs t owner slot =
     if in_interface recs slot then interface_dispatch recs t owner slot else class_dispatch recs t slot
@@ -175,7 +175,7 @@ dispatch_slot recs t owner slot =
 abbrev pub method_id : List AsmRec → RowAt → MethodId
 method_id recs at = record { 0 = rows_before methods_in recs at.asm + at.row }
 
--- what a virtual method, by its slot, is answered by in a type; None for a method that isn't virtual or isn't there
+-- the method that a virtual call runs in a type, by the slot of the called method; None where this isn't virtual or isn't there
 unfoldable pub dispatch : List AsmRec → TypeExpr → TypeExpr → MethodId → Option MethodId
 dispatch recs t owner m =
     option_map (method_id recs) (option_and_then (dispatch_slot recs t owner) (option_and_then (slot_of recs) (method_home recs m)))

@@ -24,7 +24,7 @@ void_layer (TypeExpr-F.Prim n) = n == VOID
 void_layer (TypeExpr-F.Mod required by x) = x
 void_layer _ = false
 
--- void, modifiers aside
+-- whether a type is void, modifiers aside
 unfoldable pub is_void : TypeExpr → Bool
 is_void = fold-TypeExpr Bool void_layer
 

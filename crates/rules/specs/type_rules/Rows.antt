@@ -25,7 +25,7 @@ field_row_at recs at = option_and_then (λ (rec : AsmRec). slice_get rec.field a
 abbrev pub run_places : {A : Type 0} → ℕ → ℕ → List A → List ℕ
 run_places first end rows = range_with_len (first - 1) (length (run_of first end rows))
 
--- what each row of a list gives, with the number of the row from 0
+-- a function applied to each row of a list, with the number of the row from 0
 abbrev pub each_from : {A B : Type 0} → (ℕ → A → List B) → ℕ → List A → List B
 each_from f k [] = []
 each_from f k (x ∷ xs) = f k x ++ each_from f (suc k) xs

@@ -84,7 +84,7 @@ rows_of recs members e =
     flat_map (λ (at : RowAt). flat_map (λ (rec : AsmRec). flat_map (λ (t : TypeDefRow). map (at_row at.asm) (members rec t at.row)) (listed (slice_get rec.type_def at.row))) (listed (slice_get recs at.asm)))
     (listed (home_of recs e))
 
--- all of the first type that pass a test, then those of each base that pass a second and that none before hides
+-- the rows of the first type, then those of each base that pass a test and that no row before hides
 abbrev pub collect : (RowAt → RowAt → Bool) → (TypeExpr → List RowAt) → (RowAt → Bool) → List RowAt → List TypeExpr → List RowAt
 collect hides rows test found [] = found
 collect hides rows test found (e ∷ es) =
@@ -102,7 +102,7 @@ field_places rec t k = places t.field_list_first t.field_list_end rec.field
 abbrev pub field_test : List AsmRec → (FieldRow → Bool) → RowAt → Bool
 field_test recs test at = list_any (λ (rec : AsmRec). list_any test (listed (slice_get rec.field at.row))) (listed (slice_get recs at.asm))
 
--- public, of a field's flags (II.23.1.5)
+-- whether a field is public, by its flags (II.23.1.5), and has this name
 abbrev pub is_public_field : List ℕ → FieldRow → Bool
 is_public_field name f = same_name f.name name && access_of f.flags == field_flags.PUBLIC
 
@@ -124,7 +124,7 @@ method_places rec t k = places t.method_list_first t.method_list_end rec.method_
 abbrev pub method_test : List AsmRec → (MethodDefRow → Bool) → RowAt → Bool
 method_test recs test at = list_any test (listed (method_row_at recs at))
 
--- an instance or a type initializer (II.10.5.1, II.10.5.3)
+-- whether a method is an instance constructor or a type initializer (II.10.5.1, II.10.5.3)
 abbrev pub is_constructor : MethodDefRow → Bool
 is_constructor m = same_name m.name (codes ".ctor") || same_name m.name (codes ".cctor")
 
@@ -138,7 +138,7 @@ abbrev pub same_slot : Option RowAt → Option RowAt → Bool
 same_slot None y = false
 same_slot (Some x) y = is_slot y x
 
--- a row of one of these types with this body, whose declaration has this slot
+-- whether a MethodImpl row has this body and a declaration with this slot
 abbrev pub declares : List AsmRec → Option RowAt → MethodUse → Bool
 declares recs slot d = list_any (λ at. same_slot slot (slot_of recs at)) (listed (method_home recs d.method))
 

@@ -63,7 +63,7 @@ type_of_row recs at =
 
 -- ---- a virtual method by name and signature
 
--- one of this name and signature, where the type has these arguments
+-- whether a method passes a test and has this name and signature, where its type has these arguments
 abbrev pub is_match : List AsmRec → (MethodDefRow → Bool) → ℕ → AsmRec → List TypeExpr → List ℕ → MethodType → MethodDefRow → Bool
 is_match recs test a rec targs name wanted m =
     same_name m.name name && (test m && is_method_type targs wanted (known_then (method_type (names_at recs a rec)) m.signature))
@@ -76,7 +76,7 @@ match_in_row recs test targs name wanted at rec row =
 unfoldable pub match_in : List AsmRec → (MethodDefRow → Bool) → List ℕ → MethodType → TypeExpr → Option RowAt
 match_in recs test name wanted e = in_definition recs (match_in_row recs test (args_of e) name wanted) e
 
--- in the first of these types that has one
+-- the result of a look-up in the first of these types that has one
 unfoldable pub nearest : {A : Type 0} → (TypeExpr → Option A) → List TypeExpr → Option A
 nearest look [] = None
 nearest look (e ∷ es) = or_else (look e) (nearest look es)
@@ -100,7 +100,7 @@ abbrev pub slot_by : (RowAt → Option RowAt) → RowAt → Option RowAt → Opt
 slot_by above at None = Some at
 slot_by above at (Some b) = above b
 
--- by way of at most n methods; no chain of overrides is longer than there are types
+-- the slot of a method, over at most n overridden methods; no chain of overrides is longer than there are types
 abbrev pub slot_of_row : List AsmRec → (RowAt → Option RowAt) → RowAt → MethodDefRow → Option RowAt
 slot_of_row recs above at m =
     if not (is_virtual m) then None

@@ -1,5 +1,5 @@
--- Which types a type can stand for (I.8.7), without variance: itself, Object, its base, its interfaces, and all that these
--- can stand for. T[] also stands for U[] where T is a reference type that stands for U.
+-- The types that a type can stand for (I.8.7), without variance: itself, Object, its base, its interfaces, and all that these can
+-- stand for. T[] also stands for U[] where T is a reference type that stands for U.
 use Rattle.std.specs.Prelude.{ℕ, zero, suc, List, [], ◌∷◌, ◌++◌, map, Option, Some, None, ◌==◌, ◌&&◌, ◌||◌, Bool, true, false, not, IsTrue}
 use Rattle.std.specs.List.{list_any, flat_map}
 use Rattle.std.specs.Option.{is_some, option_map, option_and_then}
@@ -27,7 +27,7 @@ bases_of recs e = put_in e (listed (option_and_then (base_at recs) (home_of recs
 unfoldable pub interfaces_of : List AsmRec → TypeExpr → List TypeExpr
 interfaces_of recs e = put_in e (flat_map (interfaces_at recs) (listed (home_of recs e)))
 
--- of an array it is System.Array (I.8.9.1)
+-- the types one step up: the base and the interfaces; of an array System.Array (I.8.9.1)
 abbrev pub up_in : List AsmRec → TypeExpr → TypeExpr-F TypeExpr → List TypeExpr
 up_in recs e (TypeExpr-F.Array x) = listed (option_map (λ t. expr.Def t) (array_type recs))
 up_in recs e _ = bases_of recs e ++ interfaces_of recs e
@@ -37,7 +37,7 @@ up recs e = up_in recs e (out-TypeExpr e)
 
 -- ---- the relation
 
--- a class, an interface or an array, but no value type (I.8.2.1)
+-- whether a definition is a class or an interface, and no value type (I.8.2.1)
 abbrev pub is_class_at : List AsmRec → Option RowAt → Bool
 is_class_at recs None = false
 is_class_at recs (Some at) = not (is_value_type recs at)
@@ -57,7 +57,7 @@ is_reference recs e = is_reference_in recs e (out-TypeExpr e)
 abbrev pub is_defined : List AsmRec → TypeExpr → Bool
 is_defined recs e = is_some (home_of recs e)
 
--- the least relation that is so; every type of a definition is below System.Object, whether or not it has a base
+-- the subtype relation, the least with these rules; every type of a definition is below System.Object, whether or not it has a base
 pub data IsSubtype (recs : List AsmRec) : TypeExpr → TypeExpr → Type 0 where
   same : (e : TypeExpr) → IsSubtype recs e e
   object : (a : TypeExpr) → IsTrue (is_defined recs a) → IsSubtype recs a (expr.Prim OBJECT)
@@ -66,7 +66,7 @@ pub data IsSubtype (recs : List AsmRec) : TypeExpr → TypeExpr → Type 0 where
 
 -- ---- the same as a search
 
--- what a type leads to, itself first; steps up pass each type of a linked world once, and System.Array before
+-- all types reachable by steps up from a type, itself first; a chain passes each type of a linked world once, and System.Array before
 unfoldable pub above : List AsmRec → TypeExpr → List TypeExpr
 above recs e = led_to same_expr (up recs) (suc (type_count recs)) (e ∷ [])
 
@@ -88,7 +88,7 @@ are_elements recs below None y = false
 are_elements recs below (Some x) None = false
 are_elements recs below (Some x) (Some y) = is_reference recs x && below x y
 
--- arrays at most n levels deep
+-- whether one type can stand for another, for arrays at most n levels deep
 unfoldable pub is_below : List AsmRec → ℕ → TypeExpr → TypeExpr → Bool
 is_below recs zero a b = leads_up recs a b
 is_below recs (suc n) a b = leads_up recs a b || are_elements recs (is_below recs n) (element_of a) (element_of b)

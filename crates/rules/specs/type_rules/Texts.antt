@@ -1,5 +1,5 @@
--- A type's text: its namespace, a full stop and its name; a nested type's name alone, behind its encloser and `+`; arguments
--- in brackets behind a constructed type, `[]` behind an array's element, `&` behind what is referred to.
+-- A type's text: its namespace, a full stop and its name; a nested type's name alone, after its encloser and `+`; arguments
+-- in brackets after a constructed type, `[]` after an array's element, `&` after what is referred to.
 use Rattle.std.specs.Prelude.{ℕ, zero, suc, List, [], ◌∷◌, ◌++◌, length, codes, Option, Some, None, slice_get, Bool, true, false}
 use Rattle.std.specs.Fmt.{decimal}
 use Rattle.il_base.specs.declared.ids.TypeId.{TypeId}
@@ -14,7 +14,7 @@ use Rattle.rules.specs.link_rules.Members.{type_home}
 
 -- ---- names of definitions
 
--- namespace and name; a type without a namespace has its name alone
+-- a type's full name: namespace, full stop and name; without a namespace the name alone
 abbrev pub full_name_of : List ℕ → List ℕ → List ℕ
 full_name_of [] name = name
 full_name_of (c ∷ cs) name = (c ∷ cs) ++ codes "." ++ name
@@ -32,7 +32,7 @@ abbrev pub part_or_none : Option ℕ → Option TypeDefRow → List ℕ
 part_or_none around None = []
 part_or_none around (Some t) = part_name around t
 
--- with its enclosers, at most n of them
+-- the name of a type with those of its enclosers, at most n of them
 abbrev pub nested_name : (ℕ → List ℕ) → Option ℕ → List ℕ → List ℕ
 nested_name outer None name = name
 nested_name outer (Some k) name = outer k ++ codes "+" ++ name
@@ -60,7 +60,7 @@ abbrev pub modifier_text : Bool → List ℕ
 modifier_text true = codes " modreq("
 modifier_text false = codes " modopt("
 
--- one level, with the text of each type that it holds in its place; parameters and modifiers as ILAsm writes them (II.7.1)
+-- the text of one level of a type, by the texts of the types that it holds; parameters and modifiers as ILAsm writes them (II.7.1)
 abbrev pub text_layer : List AsmRec → TypeExpr-F (List ℕ) → List ℕ
 text_layer recs (TypeExpr-F.Prim n) = definition_text recs (prim_type recs n)
 text_layer recs (TypeExpr-F.Def t) = definition_text recs (Some t)

@@ -1,4 +1,4 @@
--- What a linked world answers to each question of the machine.
+-- The answers of a linked world to the questions of the machine (`Queries`).
 use Rattle.std.specs.Prelude.{ℕ, suc, ◌+◌, ◌-◌, List, [], ◌∷◌, length, Option, Some, None, slice_get, ◌==◌, if◌then◌else◌}
 use Rattle.std.specs.List.{list_any}
 use Rattle.std.specs.Option.{option_and_then, option_map}
@@ -70,7 +70,7 @@ nearest_core recs (e ∷ es) = or_nearest (option_and_then (core_name_at recs) (
 
 -- ---- all questions
 
--- what the assemblies of a linked world answer, the last of which is the core library
+-- the answers of the assemblies of a linked world, the last of which is the core library
 unfoldable pub queries_of : List AsmRec → Queries
 queries_of recs = record {
   core = core_call recs;

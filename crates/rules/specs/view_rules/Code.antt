@@ -66,7 +66,7 @@ use_by recs a rec f (operand.Token token) = token_use recs a rec f token
 use_by recs a rec f (operand.Target at) = use_of.Target at
 use_by recs a rec f (operand.Targets ts) = use_of.Targets ts
 
--- IL offsets have 32 bits
+-- an instruction with its operand resolved; IL offsets have 32 bits
 unfoldable pub instruction_of : List AsmRec → ℕ → AsmRec → Instr → Instruction
 instruction_of recs a rec i = record { at = i.at; next = (i.at + length (instr_bytes i)) % 4294967296; form = i.form; opcode = i.opcode; operand = use_by recs a rec i.form i.operand }
 
@@ -95,7 +95,7 @@ abbrev pub locals_row : List AsmRec → ℕ → AsmRec → Option StandAloneSigR
 locals_row recs a rec None = Bad Unresolved
 locals_row recs a rec (Some row) = known_then (arguments_of (names_at recs a rec)) row.signature
 
--- a token of 0 is none
+-- the types of a body's locals; with a token of 0 there are none
 abbrev pub locals_of : List AsmRec → ℕ → AsmRec → ℕ → Known (List TypeExpr)
 locals_of recs a rec token =
     if token == 0 then Good [] else locals_row recs a rec (option_and_then (slice_get rec.stand_alone_sig) (index_in STAND_ALONE_SIG token))

@@ -40,7 +40,7 @@ EnumIsNumber = shape_query recs (def 2) ≡ shape.Integer element.I4
 abbrev pub EnumOfEnum : Type 0
 EnumOfEnum = shape_within recs 1 (def 3) ≡ shape.Structure (record { cell = cell.Field 3; typ = def 2; zero = value.I4 (pos 0) } ∷ [])
 
--- as deep as there may be structs: a struct more isn't there, and a number is
+-- at the greatest depth of nested structs a further struct has no value, and a number has one
 abbrev pub TooDeep : Type 0
 TooDeep = shape_within recs 0 (def 0) ≡ shape.NoValue
 

@@ -1,4 +1,4 @@
--- What places of closed types hold (I.12.1, II.10.1.2, II.13): shapes, the cells of objects, and the values that they begin with.
+-- The contents of places of closed types (I.12.1, II.10.1.2, II.13): shapes, the cells of objects, and their initial values.
 use Rattle.std.specs.Prelude.{ℕ, zero, suc, ◌+◌, ◌-◌, List, [], ◌∷◌, ◌++◌, length, map, Option, Some, None, slice_get, ◌==◌, ◌&&◌, ◌||◌, Bool, not, reverse, if◌then◌else◌}
 use Rattle.std.specs.List.{list_any, flat_map, filter}
 use Rattle.std.specs.Option.{option_and_then, option_map}
@@ -68,7 +68,7 @@ prim_shape n =
 abbrev pub layout_by : List AsmRec → (TypeExpr → Shape) → RowAt → TypeExpr → Option Layout
 layout_by recs below at e = option_map (λ v. record { cell = of_field (field_number recs at); typ = e; zero = v }) (zero_shape e (below e))
 
--- a field with its cell; None where its type is bad or has no zero value
+-- the cell of a field; None where the field's type is bad or has no zero value
 abbrev pub layout_of : List AsmRec → (TypeExpr → Shape) → List TypeExpr → RowAt → Option Layout
 layout_of recs below args at = option_and_then (layout_by recs below at) (cell_type recs args at)
 
@@ -127,11 +127,11 @@ shape_in recs below (TypeExpr-F.Array x) = reference
 shape_in recs below (TypeExpr-F.ByRef x) = pointer
 shape_in recs below _ = no_value
 
--- a value of more than so many structs in one another isn't there; what is no struct counts nothing
+-- the greatest depth of structs in one another; a deeper value type has no value
 abbrev pub most_nested : ℕ
 most_nested = 1024
 
--- a handle is a struct too
+-- a shape at the greatest depth of structs: a struct, and so a handle, has no value there
 abbrev pub without_struct : Shape → Shape
 without_struct (structure cells) = no_value
 without_struct type_handle = no_value

@@ -1,4 +1,4 @@
--- What the members of the core library's table do, by their types, names and parameters.
+-- The calls that the members of the core library's table are (`CoreCall`), by their types, names and parameters.
 use Rattle.std.specs.Prelude.{ℕ, List, map, Option, Some, None, position, unwrap_or, ◌==◌, Bool, true, false, if◌then◌else◌}
 use Rattle.std.specs.List.{flat_map}
 use Rattle.std.specs.Option.{option_and_then, option_map}
@@ -63,7 +63,7 @@ object_call core.Finalize ps = Some call.Idle
 object_call core.ReferenceEquals ps = Some call.SameReference
 object_call _ ps = None
 
--- of Boolean, Char and the integers, by element type
+-- the members of Boolean, Char and the integers, by element type
 abbrev pub primitive_call : ℕ → CoreName → CoreParams → Option CoreCall
 primitive_call code core.ToString ps = Some (call.NumberText code)
 primitive_call code core.Equals (One s) = Some (equals_by s (call.NumberIs code) call.IntEquals)
@@ -95,7 +95,7 @@ console_call core.ReadLine ps = Some call.ReadLine
 console_call core.Read ps = Some call.ReadUnit
 console_call _ ps = None
 
--- a constructor with one text: the message, or of two types the name of a parameter
+-- an exception's constructor with one text: the message, or for two types the name of a parameter
 abbrev pub text_call : CoreName → CoreCall
 text_call core.ArgumentNullException = call.ExceptionParameter core.ArgumentNullException
 text_call core.ArgumentOutOfRangeException = call.ExceptionParameter core.ArgumentOutOfRangeException

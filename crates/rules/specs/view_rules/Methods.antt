@@ -1,4 +1,4 @@
--- What a world answers on methods, fields and type definitions. Of their flags it tells those that a step looks at.
+-- The answers of a world on methods, fields and type definitions, with the flags that a step needs.
 use Rattle.std.specs.Prelude.{ℕ, suc, List, [], ◌∷◌, length, codes, Option, Some, None, slice_get, bit_and, ◌==◌, ◌&&◌, Bool, not, if◌then◌else◌}
 use Rattle.std.specs.List.{list_any, flat_map}
 use Rattle.std.specs.Option.{option_and_then, option_map}
@@ -46,7 +46,7 @@ signature_by m = record { this = m.this; own = m.generic; params = m.params; ret
 abbrev pub body_by : List AsmRec → ℕ → AsmRec → Known Body → Known Code
 body_by recs a rec b = known_map (code_of recs a rec) b
 
--- the core library's methods have no bodies of their own: what they do is said by the member that they are
+-- whether a row is the core library's: its methods have no bodies, and `CoreCall` says what they do
 abbrev pub is_core_row : List AsmRec → RowAt → Bool
 is_core_row recs at = suc at.asm == length recs
 

@@ -74,7 +74,7 @@ runtime_ref = record {
   hash_value = [];
 }
 
--- of the namespace System, in the first AssemblyRef row
+-- a TypeRef row of the namespace System, in the first AssemblyRef row
 abbrev pub system_ref : List ℕ → TypeRefRow
 system_ref name = record { resolution_scope = 0x23000001; name = name; namespace = codes "System" }
 
@@ -107,7 +107,7 @@ app = record empty {
   field_rva = record { rva = 0; field = 0x04000001; bytes = Good (1 ∷ 2 ∷ 3 ∷ []) } ∷ [];
 }
 
--- its rows stand where those of the core library do
+-- a core library whose rows have the places of the real one's
 abbrev pub core : AsmRec
 core = record empty {
   type_def =

@@ -1,4 +1,5 @@
--- Which rows go with kept ones, as the rules of marking give it: what kept rows name is kept. A type that is shown is kept.
+-- The rows that are kept with others, as the rules of marking require: the rows that kept rows name are kept. A type that is shown
+-- is kept.
 use Rattle.std.specs.Prelude.{◌≡◌, ℕ, List, Some, Bool, true, false, not, ◌||◌, IsTrue}
 use Rattle.std.specs.List.{Contains, list_all}
 use Rattle.il_base.specs.declared.ids.TypeId.{TypeId}

@@ -1,4 +1,4 @@
--- Rows of types, methods and fields, by which of them are kept, and where the kept ones stand in the other world.
+-- Rows of types, methods and fields: which are kept, and the places of the kept ones in the other world.
 use Rattle.std.specs.Prelude.{◌≡◌, ℕ, Bool, Some, IsTrue}
 use Rattle.std.specs.Option.{option_map}
 use Rattle.il_base.specs.declared.ids.TypeId.{TypeId}
@@ -16,7 +16,7 @@ use Rattle.rules.specs.type_rules.Dispatch.{method_id}
 use Rattle.rules.specs.view_rules.Layouts.{field_number}
 use Rattle.rules.specs.change_rules.Change.{Keep, Change}
 
--- where kept rows stand
+-- the places of kept rows in the other world
 pub record Places : Type 0 where
   pub typ : RowAt → RowAt
   pub method : RowAt → RowAt

@@ -1,5 +1,5 @@
--- What kept rows of a world have in another with new numbers: the same names and flags, moved types, and of lists of rows those that
--- are kept. Nothing is asked of rows that aren't kept.
+-- The kept rows of a world in another world with new numbers: they have the same names and flags, moved types, and of lists of rows
+-- the kept ones. Nothing is required of rows that aren't kept.
 use Rattle.std.specs.Prelude.{◌≡◌, ℕ, suc, List, [], length, map, Some, None, slice_get, nat_lt, Bool, IsTrue, ◌==◌, if◌then◌else◌}
 use Rattle.std.specs.List.{list_any, flat_map, filter}
 use Rattle.std.specs.Option.{option_map}
@@ -87,7 +87,7 @@ pub record SameMethod (m' m : MethodDefRow) : Type 0 where
 
 -- ---- a type's row
 
--- whether a token is of a type that the table of the core library has; behind those are names that only modifiers use (II.7.1.1)
+-- whether a token is of a type that the table of the core library has; after those are names that only modifiers use (II.7.1.1)
 abbrev pub is_table_type : ℕ → Bool
 is_table_type token = list_any (λ n. nat_lt n (length TYPES)) (listed (index_in TYPE_DEF token))
 

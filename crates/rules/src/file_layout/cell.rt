@@ -1,6 +1,6 @@
 use il_base::Text;
 
-/// What a cell of a table has (II.24.2.6), before the heaps are made.
+/// The content of a cell of a table (II.24.2.6), before the heaps are made.
 #[derive(Drop)]
 pub enum Cell {
     /// A number that stands in the cell: a constant, a row, a coded index or an address.

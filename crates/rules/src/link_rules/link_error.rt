@@ -5,8 +5,8 @@ pub enum LinkError {
     Bad {
         /// The assembly, from 0.
         file: u32,
-        /// 14 for an assembly's name that is taken, 15 for a type on a cycle, 16 for an encloser on a cycle, 17 for a
-        /// member that is there twice.
+        /// 14 for a duplicate name of an assembly, 15 for a type on a cycle, 16 for an encloser on a cycle, 17 for a duplicate
+        /// member.
         why: u8,
         /// The row, 0 for an assembly's name.
         token: u32,

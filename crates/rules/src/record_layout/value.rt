@@ -1,6 +1,6 @@
 use il_base::Text;
 
-/// What a row of a record has in a column (II.22).
+/// The value of a row of a record in a column (II.22).
 #[derive(Drop)]
 pub enum Value {
     /// A constant, an address, or the first row of a run, counted from 1.

@@ -1,4 +1,4 @@
-//! The flags that a step of the machine looks at. Other flags may change where an assembly is written anew (II.23.1).
+//! The flags that a step of the machine uses. Other flags may change where an assembly is written anew (II.23.1).
 
 /// Of a method: static, virtual, abstract (II.23.1.10).
 pub const METHOD: u16 = 0x450;

@@ -21,7 +21,7 @@ use Rattle.run_laws.specs.marked_laws.Flags.{HasMarks, keep_of, kept_of, RunsEnd
 use Rattle.run_laws.specs.marked_code_laws.Laws.{MethodsApart, FieldsApart, AreRead}
 use Rattle.run_laws.specs.marked_call_laws.Laws.{HasFewTypes}
 
--- what is so of files, and of a set without bad items
+-- properties of files, and of a set of facts without bad items
 pub record AreSound (inputs : List AsmRec) (has : Fact → Bool) : Type 0 where
   pub few : HasFewTypes inputs
   pub ends : RunsEnd (assemblies inputs)

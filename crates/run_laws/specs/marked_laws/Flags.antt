@@ -28,7 +28,7 @@ use Rattle.rules.specs.mark_rules.Shown.{parts_of_item}
 use Rattle.rules.specs.mark_rules.Marking.{given, one, two, three}
 use Rattle.rules.specs.change_rules.Change.{Keep}
 
--- A type of the core library behind those of its table, which is a name that modifiers alone use (II.7.1.1). The output of a trim has
+-- A type of the core library after those of its table, which is a name that modifiers alone use (II.7.1.1). The output of a trim has
 -- it where a modifier of what is kept names it.
 abbrev pub is_added_row : List AsmRec → RowAt → Bool
 is_added_row recs at = suc at.asm == length recs && nat_le (length TYPES) at.row

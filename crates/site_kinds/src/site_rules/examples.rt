@@ -1,4 +1,4 @@
-//! The examples of `specs/Examples`, proved by computing them.
+//! The examples of `specs/site_rules/Examples`, proved by computing them.
 
 ghost use Rattle.site_kinds.specs.site_rules.Examples as example;
 

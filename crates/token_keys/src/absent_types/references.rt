@@ -62,7 +62,7 @@ impl<'a> References<'a> {
         Ok(place)
     }
 
-    /// The place of a TypeRef row that names nothing, behind the types of the world.
+    /// The place of a TypeRef row that names nothing, after the types of the world.
     #[tactic(auto, unfolding(rules::specs::merge_rules::Absent::absent_type))]
     pub fn absent_type(&self, alloc: Global, at: RowAt) -> Result<Option<TypeId>, NoMemory>
         requires { IsReferences self.now }
@@ -78,7 +78,7 @@ impl<'a> References<'a> {
         }
     }
 
-    /// The TypeRef row of a place behind the types of the world.
+    /// The TypeRef row of a place after the types of the world.
     #[tactic(auto, unfolding(rules::specs::merge_rules::Absent::absent_row))]
     pub fn absent_row(&self, id: TypeId) -> Option<RowAt>
         requires { IsReferences self.now }

@@ -15,7 +15,7 @@ use il_base::{FieldId, MethodId, MethodSig, NoMemory, Seq, Sig, Text, TypeId};
 /// A type.
 #[derive(Drop)]
 pub enum TypeKey {
-    /// By its place among the types of the world, behind which are the references that name nothing.
+    /// By its place among the types of the world; the references that name nothing come after these.
     Named(TypeId),
     /// A signature over the types of the world.
     Spec(Sig),

@@ -8,7 +8,7 @@ use crate::keys::Keys;
 use mark_parts::mark_tables::marker::Marker;
 use merge_plan::moved_parts::NewTokens;
 
-/// A world with what is made of it once, and the numbers of the types that the tokens of each assembly name.
+/// A world with its tables, and the numbers of the types that the tokens of each assembly name.
 #[derive(Clone, Copy)]
 pub struct WorldKeys<'a> {
     pub marker: &'a Marker<'a>,

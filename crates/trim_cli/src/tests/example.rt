@@ -2,7 +2,7 @@
 
 use std::alloc::{AllocError, Global};
 
-/// Puts a part at a place, behind zeros.
+/// Puts a part at a place, after zeros.
 fn put(bytes: &mut Vec<u8>, at: usize, part: &[u8]) -> Result<(), AllocError> {
     for _ in bytes.len()..at {
         bytes.push(0)?;

@@ -1,4 +1,4 @@
--- A program that is to be trimmed, and what its trim goes by.
+-- A program to be trimmed, with its plan and its flaws.
 use Rattle.std.specs.Prelude.{◌≡◌, Bool, List, Option, Some, None, Result}
 use Rattle.il_base.specs.declared.ids.TypeId.{TypeId}
 use Rattle.il_base.specs.declared.ids.Place.{Place}
@@ -68,7 +68,7 @@ pub record IsFirst (recs : List AsmRec) (seen : TypeId → Bool) (kept : Kept) (
   pub first_is : first ≡ id_of recs both.first
   pub second_is : second ≡ id_of recs both.second
 
--- want of memory has no cause
+-- a refusal of a plan names the first collision; want of memory has no cause
 abbrev pub IsInTheWay : List AsmRec → (TypeId → Bool) → Kept → PlanError → Type 0
 IsInTheWay recs seen kept (error.Collision first second) = IsFirst recs seen kept first second
 IsInTheWay recs seen kept error.NoMemory = Unit {0}

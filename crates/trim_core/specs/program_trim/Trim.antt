@@ -1,5 +1,5 @@
--- What a trim of a linked world answers. `recs` are the records of the world: the inputs, and then the core library. What the program
--- needs, from its entry and the elements of descriptors, is `Marks recs entry roots`.
+-- The answers of a trim of a linked world. `recs` are the records of the world: the inputs, and then the core library. `Marks recs
+-- entry roots` are the facts that the program needs, from its entry and the elements of descriptors.
 use Rattle.std.specs.Prelude.{◌≡◌, ◌↔◌, ◌⊎◌, ℕ, Bool, false, IsTrue, List, Option, Some, None, Result, Ok, Err}
 use Rattle.il_base.specs.declared.ids.Item.{Item}
 use Rattle.il_base.specs.declared.ids.TypeId.{TypeId}
@@ -29,12 +29,12 @@ use Rattle.trim_core.specs.declared.program_trim.answers.TrimFault.TheVariants a
 
 -- ---- what is kept
 
--- of each item that is there the set says whether the program needs it, and it has no others
+-- the set has exactly the items of the world that the program needs
 pub record IsKeptSet (recs : List AsmRec) (entry : Option RowAt) (roots : List Root) (kept : Kept) : Type 0 where
   pub exact : (i : Item) → IsTrue (is_there recs (marked i)) → IsTrue (kept i) ↔ Marks recs entry roots (marked i)
   pub absent : (i : Item) → is_there recs (marked i) ≡ false → kept i ≡ false
 
--- of each type that is there the test says whether its name or identity can be seen when the program runs
+-- of the types of the world, the test holds for those whose name or identity can be seen when the program runs
 abbrev pub IsShownSet : List AsmRec → Option RowAt → List Root → (TypeId → Bool) → Type 0
 IsShownSet recs entry roots seen = (t : TypeId) → IsTrue (is_there recs (shown t)) → IsTrue (seen t) ↔ Marks recs entry roots (shown t)
 
@@ -46,7 +46,7 @@ pub record IsCollision (recs : List AsmRec) (entry : Option RowAt) (roots : List
   pub exact : IsShownSet recs entry roots seen
   pub first : collision recs seen (kept_types recs kept) ≡ answer
 
--- ---- what is wrong with what is needed
+-- ---- flaws of needed items
 
 abbrev pub flaw_at : Place → BadKind → Flaw
 flaw_at place kind = record { asm = place.asm; token = place.token; offset = place.offset; kind = kind }
@@ -54,26 +54,26 @@ flaw_at place kind = record { asm = place.asm; token = place.token; offset = pla
 abbrev pub HasNoFlaw : List AsmRec → Option RowAt → List Root → Type 0
 HasNoFlaw recs entry roots = IsFirstFlaw recs entry (Marks recs entry roots) None
 
--- the first flaw of what is needed is of this kind, at this place
+-- the first flaw of a needed item is of this kind, at this place
 abbrev pub IsFlawedAt : List AsmRec → Option RowAt → List Root → Place → BadKind → Type 0
 IsFlawedAt recs entry roots place kind = IsFirstFlaw recs entry (Marks recs entry roots) (Some (flaw_at place kind))
 
 -- ---- what is left
 
--- Where exactly what is needed is kept and none of it has a flaw, each signature and body of what is left has a spelling, unless a table
--- has more rows than it may.
+-- Where exactly the needed items are kept and none has a flaw, each signature and body of the record that is left has a spelling,
+-- unless a table has too many rows.
 abbrev pub LeftIsSpelled : List AsmRec → Option RowAt → List Root → Bool → Type 0
 LeftIsSpelled recs entry roots internal =
     (kept : Kept) (left : AsmRec) → IsKeptSet recs entry roots kept → HasNoFlaw recs entry roots → restricted internal recs kept ≡ Some left → rows_over left ≡ None → CanWrite left
 
 -- ---- the answers
 
--- of each fact whose item or type is there the test says whether the rules of marking derive it
+-- of the facts whose item or type is there, the test holds for those that the rules of marking derive
 abbrev pub AreFacts : List AsmRec → Option RowAt → List Root → (Fact → Bool) → Type 0
 AreFacts recs entry roots holds = (f : Fact) → IsTrue (is_there recs f) → IsTrue (holds f) ↔ Marks recs entry roots f
 
--- What is needed has no flaw, and no two types of it want one name. The bytes are those of the file that the rows of exactly what is
--- needed are laid out in, where each signature and body has a spelling; it passes no limit. The list has a line for each of them.
+-- No needed item has a flaw, and no two needed types want one name. The bytes are the file that the record of exactly the needed
+-- items is laid out in, where each signature and body has a spelling; it passes no limit. The keep list is that of these items.
 pub record TrimmedWorld (recs : List AsmRec) (entry : Option RowAt) (roots : List Root) (internal : Bool) (t : ProgramTrim) : Type 0 where
   pub kept : Kept
   pub exact : IsKeptSet recs entry roots kept
@@ -98,7 +98,7 @@ pub record Collides (recs : List AsmRec) (entry : Option RowAt) (roots : List Ro
   pub first_is : first ≡ id_of recs both.first
   pub second_is : second ≡ id_of recs both.second
 
--- the file of what is left passes a limit
+-- the trimmed file passes a limit
 pub record IsTooLong (recs : List AsmRec) (entry : Option RowAt) (roots : List Root) (internal : Bool) (which found : ℕ) : Type 0 where
   pub kept : Kept
   pub exact : IsKeptSet recs entry roots kept
@@ -113,7 +113,7 @@ pub record HasLongBody (recs : List AsmRec) (entry : Option RowAt) (roots : List
   pub place : Place
   pub flawed : IsFlawedAt recs entry roots place (Over which found)
 
--- why a trim left nothing; want of memory has no cause
+-- the refusals of a trim, each where it is due; want of memory has no cause
 abbrev pub RefusesWorld : List AsmRec → Option RowAt → List Root → Bool → TrimFault → Type 0
 RefusesWorld recs entry roots internal (refusal.Outside place what) = IsFlawedAt recs entry roots place (Outside what)
 RefusesWorld recs entry roots internal (refusal.Unresolved place) = IsFlawedAt recs entry roots place Unresolved

@@ -1,11 +1,11 @@
-//! What a trim of a world answers.
+//! The answers of a trim of a world.
 
 ghost use Rattle.std.specs.Prelude.{◌≡◌};
 ghost use Rattle.trim_core.specs.declared.program_trim.answers.TrimFault.TheVariants as fault;
 
 use il_base::{NoMemory, Place, Text, TypeId};
 
-/// What a trim left.
+/// The result of a trim.
 #[derive(Drop)]
 pub struct ProgramTrim {
     /// The file that is written.
@@ -14,12 +14,12 @@ pub struct ProgramTrim {
     pub kept: Text,
 }
 
-/// Why a trim left nothing.
+/// The refusals of a trim.
 #[derive(Clone, Copy, Debug, PartialEq, Eq)]
 pub enum TrimFault {
-    /// What is needed has a form outside the profile, by its number in `il_base::outside`.
+    /// A needed item has a form outside the profile, by its number in `il_base::outside`.
     Outside { place: Place, what: u8 },
-    /// What is needed has a part that names nothing.
+    /// A needed item has a part that names nothing.
     Unresolved { place: Place },
     /// Two types that are needed, of different assemblies, have one full name, and the second can't be renamed.
     Collision { first: TypeId, second: TypeId },

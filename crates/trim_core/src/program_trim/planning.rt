@@ -1,4 +1,4 @@
-//! The plan of a merge of what is kept.
+//! The plan of a merge of the kept items.
 
 ghost use Rattle.std.specs.Prelude.{IfOk, IfErr};
 ghost use Rattle.merge_plan.specs.Kept.{kept_by};

@@ -2,10 +2,10 @@ use descriptor_file::Root;
 use il_base::world_model::World;
 use rules::link_rules::RowAt;
 
-/// A program that is to be trimmed.
+/// A program to be trimmed.
 #[derive(Clone, Copy)]
 pub(crate) struct Program<'a> {
-    /// What a link gave.
+    /// The linked world.
     pub world: &'a World,
     /// The entry method.
     pub entry: Option<RowAt>,

@@ -41,7 +41,7 @@ fn refusal_of(flaw: Flaw) -> TrimFault
     }
 }
 
-/// The file of what is left of a program, and the keep list of what is kept.
+/// The trimmed file of a program, and the keep list of its kept items.
 fn write_left(
     alloc: Global,
     program: &Program<'_>,
@@ -67,7 +67,7 @@ fn write_left(
     Ok(ProgramTrim { bytes, kept })
 }
 
-/// The file and the keep list of what is kept of a program, by the plan for it.
+/// The trimmed file of a program and its keep list, by the plan of the merge.
 fn trim_kept(
     alloc: Global,
     program: &Program<'_>,
@@ -90,7 +90,7 @@ fn trim_kept(
     }
 }
 
-/// The trim of a program of which nothing that is needed has a flaw, by what is marked.
+/// The trim of a program whose needed items have no flaw, by its marked set.
 fn trim_marked(
     alloc: Global,
     program: &Program<'_>,
@@ -112,14 +112,14 @@ fn trim_marked(
     }
 }
 
-/// Trims the world that a link gave. Kept is what the entry method, by its row, and the elements of descriptors lead to, as
-/// `rules/specs/mark_rules/Marking` derives it, in one assembly, which has the name of the first input; with `internal` public types of
-/// the other inputs become internal.
+/// Trims the world that a link gave. The items that `rules/specs/mark_rules/Marking` derives from the entry method, by its row, and
+/// from the elements of descriptors are kept, in one assembly with the name of the first input. With `internal` public types of the
+/// other inputs become internal.
 ///
-/// `Outside` and `Unresolved` come exactly where something needed is outside of the profile or names nothing, with the first place
-/// by assembly, token and offset. `Collision` comes exactly where nothing needed has such a flaw and a type that is public or shown
-/// has the full name of an earlier one of another assembly, and it is the first such type; `Limit` 5 and 7 exactly where the file
-/// that is left has more rows or bytes than it may have. `NoMemory` alone is free.
+/// `Outside` and `Unresolved` come exactly where a needed item is outside of the profile or names nothing, with the first place by
+/// assembly, token and offset. `Collision` comes exactly where no needed item has such a flaw, and a type that is public or shown
+/// has the full name of an earlier type of another assembly. It names the first such type. `Limit` 5 and 7 come exactly where the
+/// trimmed file would have too many rows or bytes. `NoMemory` alone is free.
 pub fn trim_world(
     alloc: Global,
     world: &World,

@@ -1,4 +1,4 @@
-//! The file of what is left, and the keep list.
+//! The trimmed file, and the keep list.
 
 ghost use Rattle.std.specs.Prelude.{◌≡◌, None, IfOk, IfErr};
 ghost use Rattle.rules.specs.link_rules.Linked.{IsWorld};
@@ -33,7 +33,7 @@ pub(crate) fn file_of(alloc: Global, rec: &AsmRec) -> Result<Text, WriteError>
     }
 }
 
-/// The keep list of kept items, by what is asked of their world.
+/// The keep list of kept items, by the tables of their world.
 fn list_with(alloc: Global, marker: &Marker<'_>, kept: &KeptItems) -> Result<Text, NoMemory>
     requires { IsMarker marker.now }
     ensures { IfOk result (λ text. text ≡ keep_list (all_of marker.now) (kept_by kept.now)) }

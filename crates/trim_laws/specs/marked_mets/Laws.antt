@@ -10,7 +10,7 @@ use Rattle.merge_laws.specs.merged_references.Written.{KeepsMet}
 use Rattle.trim_laws.specs.marked_merge_rules.Merges.{IsMarkedMerge}
 use Rattle.trim_laws.specs.marked_merge_rules.Reads.{KeepsAllMet, members_met, KeepsMembers}
 
--- what is so of each merge that keeps exactly what is marked
+-- a property holds of each merge that keeps exactly the marked items
 abbrev pub OfMarked : (Merge → Type 0) → Type 0
 OfMarked P = (m : Merge) (entry : Option RowAt) (roots : List Root) → IsMarkedMerge m entry roots → P m
 

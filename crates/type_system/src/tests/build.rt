@@ -92,7 +92,7 @@ pub fn world(alloc: Global, recs: Seq<AsmRec>) -> Result<World, NoMemory>
     }
 }
 
-/// Puts an assembly behind others, by what fills its record.
+/// Appends an assembly to others, by what fills its record.
 pub fn push_filled<F: FnOnce(&mut AsmRec, Global) -> Result<(), NoMemory>>(
     recs: &mut Seq<AsmRec>,
     alloc: Global,
@@ -161,7 +161,7 @@ pub fn mention(
     })
 }
 
-/// The row, from 1, behind so many.
+/// The row, from 1, after so many.
 fn row_behind(count: usize) -> Result<u32, NoMemory> {
     match u32::try_from(count) {
         Ok(count) => Ok(count.saturating_add(1)),
@@ -204,7 +204,7 @@ pub fn class(
     define(rec, alloc, 0x0010_0001, name, extends, 0, methods)
 }
 
-/// A class with one field, which is to be pushed next, and with so many methods behind it.
+/// A class with one field, which is to be pushed next, and with so many methods after it.
 pub fn class_with_field(
     rec: &mut AsmRec,
     alloc: Global,

@@ -12,6 +12,6 @@ use Rattle.type_tables.specs.member_search.Wanted.{look_for}
 abbrev pub told : Found → members.Found
 told x = record { at = x.at; owner = x.owner }
 
--- `find_method` or `find_field`
+-- the method or the field that a search finds, as `find_method` or `find_field` has it
 abbrev pub find_member : List AsmRec → TypeExpr → List ℕ → Wanted → Option members.Found
 find_member recs parent name wanted = option_map (closed parent) (search (look_for recs name wanted) (with_bases recs (open_parent recs parent)))

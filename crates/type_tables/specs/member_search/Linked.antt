@@ -1,4 +1,4 @@
--- Assemblies beside the links of their type tokens.
+-- Assemblies with the links of their type tokens.
 use Rattle.std.specs.Prelude.{◌≡◌, Some, slice_get}
 use Rattle.std.specs.List.{AllZip}
 use Rattle.rules.specs.link_rules.Laws.{TellTokens, TellSignatures, TellMethods}
@@ -6,7 +6,7 @@ use Rattle.type_tables.specs.declared.member_search.linked.Linked.{Linked}
 use Rattle.type_tables.specs.declared.member_search.linked.Scope.{Scope}
 use Rattle.type_tables.specs.member_search.Names.{AreNames}
 
--- the links tell what tokens and signatures of the assemblies name, and each assembly has its names
+-- the links name what tokens and signatures of the assemblies name by the rules, and each assembly has its names
 pub record IsLinked (w : Linked) : Type 0 where
   pub tokens : TellTokens w.all.now w.links.now
   pub signatures : TellSignatures w.all.now w.links.now

@@ -1,4 +1,4 @@
--- Members that are looked for in the definition of a type, methods and fields alike.
+-- Members that are sought in the definition of a type, methods and fields alike.
 use Rattle.std.specs.Prelude.{ℕ, ◌==◌, ◌&&◌, not, List, Bool, false, Option, Some, None, slice_get}
 use Rattle.std.specs.Option.{option_map, option_and_then}
 use Rattle.il_base.specs.declared.method_flags.TheConstants.{PUBLIC, VIRTUAL}

@@ -1,4 +1,4 @@
--- What a step from a type leads to, of two kinds.
+-- The types one step from a type, for the two kinds of steps.
 use Rattle.std.specs.Prelude.{List}
 use Rattle.il_base.specs.declared.world_model.expr.TypeExpr.{TypeExpr}
 use Rattle.il_base.specs.declared.world_model.record.AsmRec.{AsmRec}

@@ -74,7 +74,7 @@ pub fn definition(all: &[AsmRec], ty: &TypeExpr) -> Result<Option<RowAt>, NoMemo
     }
 }
 
-/// Interface, of a type's flags (II.23.1.15).
+/// Whether a type is an interface, by its flags (II.23.1.15).
 fn is_interface_row(row: &TypeDefRow) -> bool
     ensures { result ≡ is_interface_row row.now }
 {

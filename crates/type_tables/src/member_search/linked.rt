@@ -7,7 +7,7 @@ use crate::member_search::names::Names;
 use il_base::AsmId;
 use il_base::world_model::{AsmRec, BadKind, Known, TypeExpr, TypeLink, type_link_at};
 
-/// Assemblies, and what their type tokens name.
+/// Assemblies, with the links of their type tokens.
 #[derive(Clone, Copy)]
 pub struct Linked<'a> {
     pub all: &'a [AsmRec],
@@ -16,7 +16,7 @@ pub struct Linked<'a> {
     pub names: &'a [Names<'a>],
 }
 
-/// The assembly among them whose tokens are read.
+/// Linked assemblies, and the one of them whose tokens are read.
 #[derive(Clone, Copy)]
 pub struct Scope<'a> {
     pub linked: Linked<'a>,

@@ -16,23 +16,23 @@ use il_base::{MethodSig, NoMemory, Sig, access_of, has_flag, method_flags};
 use rules::link_rules::{MethodType, RowAt};
 use std::alloc::Global;
 
-/// Among which methods of a type one is looked for (II.23.1.10).
+/// The methods of a type among which one is sought (II.23.1.10).
 #[derive(Clone, Copy, Debug, PartialEq, Eq)]
 pub enum Among {
-    /// Those that a reference can name: all but compiler-controlled ones.
+    /// The methods that a reference can name: all but compiler-controlled ones.
     Named,
     Virtual,
     PublicVirtual,
 }
 
-/// What is looked for beside a name: the signature of a method or the type of a field.
+/// What a search wants beside a name: the signature of a method or the type of a field.
 #[derive(Drop)]
 pub enum Wanted {
     Method(Among, MethodType),
     Field(TypeExpr),
 }
 
-/// CompilerControlled, of a member's flags: no reference names such a member (II.23.1.5, II.23.1.10).
+/// Whether a member is compiler-controlled, by its flags: no reference names such a member (II.23.1.5, II.23.1.10).
 fn is_compiler_controlled(flags: u16) -> bool
     ensures { result ≡ is_compiler_controlled flags }
 {
@@ -79,7 +79,7 @@ fn rows_named<'a>(wanted: &Wanted, names: &'a Names<'_>, name: &[u8]) -> &'a [u3
     }
 }
 
-/// Whether a method has this signature where its type has these arguments. One with a bad signature hasn't.
+/// Whether a method has this signature where its type has these arguments. A method with a bad signature hasn't.
 fn is_method_type(
     alloc: Global,
     scope: &Scope<'_>,
@@ -100,7 +100,7 @@ fn is_method_type(
     }
 }
 
-/// Whether a field has this type where its own type has these arguments. One with a bad signature hasn't.
+/// Whether a field has this type where its own type has these arguments. A field with a bad signature hasn't.
 fn is_field_type(
     alloc: Global,
     scope: &Scope<'_>,
@@ -176,8 +176,8 @@ fn first_fitting(
     Ok(None)
 }
 
-/// The first member, by its row from 0, with this name and signature in the run of a type. Signatures are made for those
-/// with the name alone.
+/// The first member, by its row from 0, with this name and signature in the run of a type. Signatures are made only for the members
+/// with the name.
 fn member_in(
     alloc: Global,
     scope: &Scope<'_>,

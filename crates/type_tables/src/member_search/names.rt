@@ -72,7 +72,7 @@ impl<'a> Names<'a> {
     }
 }
 
-/// The names in each of the assemblies.
+/// The members of each assembly by name.
 pub fn names_of<'a>(alloc: Global, all: &'a [AsmRec]) -> Result<Vec<Names<'a>>, NoMemory>
     ensures { IfOk result (λ names. AllZip AreNames all.now names.items) }
 {

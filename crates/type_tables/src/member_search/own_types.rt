@@ -11,7 +11,7 @@ use il_base::{NoMemory, Seq, TypeId};
 use rules::link_rules::RowAt;
 use std::alloc::Global;
 
-/// A type's own parameters.
+/// The generic parameters of a type, as arguments.
 pub fn own_args(alloc: Global, count: u32) -> Result<Seq<TypeExpr>, NoMemory>
     ensures { IfOk result (λ args. args ≡ own_args count) }
 {
@@ -63,7 +63,7 @@ pub fn definition_expr(all: &[AsmRec], at: RowAt) -> Result<TypeExpr, NoMemory>
     }
 }
 
-/// A type in itself: with its own parameters as arguments.
+/// A definition as a type: with its own generic parameters as arguments.
 #[tactic(auto, unfolding(rules::specs::link_rules::Members::own_type))]
 pub fn own_type(
     alloc: Global,
@@ -84,8 +84,8 @@ pub fn own_type(
     Ok(TypeExpr::Inst(id, args))
 }
 
-/// A parent with its own parameters in place of its arguments, since a reference's signature speaks of them; System.Array
-/// for an array.
+/// A parent with its own generic parameters in place of its arguments, since a reference's signature is written in these;
+/// System.Array for an array.
 #[tactic(auto, unfolding(rules::specs::link_rules::Members::open_parent))]
 pub fn open_parent(alloc: Global, all: &[AsmRec], parent: &TypeExpr) -> Result<TypeExpr, NoMemory>
     ensures { IfOk result (λ ty. ty ≡ open_parent all.now parent.now) }

@@ -10,7 +10,7 @@ use std::alloc::Global;
 #[derive(Clone, Copy)]
 pub struct Run {
     pub first: u32,
-    /// The row behind the last.
+    /// The row past the last.
     pub end: u32,
 }
 

@@ -1,4 +1,4 @@
-//! Which types are references to objects: classes, interfaces and arrays (I.8.2.1).
+//! Types of references to objects: classes, interfaces and arrays (I.8.2.1).
 
 ghost use Rattle.std.specs.Prelude.{◌≡◌, IfOk};
 ghost use Rattle.std.specs.List.{list_any};

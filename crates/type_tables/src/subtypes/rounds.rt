@@ -1,5 +1,4 @@
-//! What a type leads to, step by step, in as many rounds as are needed. A round looks only at the types that the last one
-//! found.
+//! The types reachable from a type, in rounds. A round goes only from the types that the last one found.
 
 ghost use Rattle.std.specs.Prelude.{◌≡◌, ◌≤◌, ◌++◌, ◌∷◌, [], drop, length, IfOk, OnOk};
 ghost use Rattle.std.specs.List.{flat_map, list_any};
@@ -19,16 +18,16 @@ use il_base::NoMemory;
 use il_base::world_model::{AsmRec, TypeExpr};
 use std::alloc::Global;
 
-/// What a step from a type leads to.
+/// The kinds of steps from a type to others.
 #[derive(Clone, Copy)]
 enum Step {
-    /// Its base and its interfaces.
+    /// To its base and its interfaces.
     Up,
-    /// Its interfaces alone.
+    /// To its interfaces alone.
     Interfaces,
 }
 
-/// Puts what one step from a type leads to at the end.
+/// Adds the types one step from a type.
 fn add_next(
     alloc: Global,
     tables: &Tables<'_>,
@@ -45,7 +44,7 @@ fn add_next(
     }
 }
 
-/// What one step from some types leads to, one after the other.
+/// The types one step from some types, those of each type in order.
 fn led_by(
     alloc: Global,
     tables: &Tables<'_>,
@@ -90,7 +89,7 @@ fn add_all(found: &mut Vec<TypeExpr>, types: Vec<TypeExpr>) -> Result<(), NoMemo
     Ok(())
 }
 
-/// Puts what the types from a place on lead to at the end, where it isn't among them.
+/// Adds the types one step from those at `start` and after it, where they aren't there yet.
 fn add_round(
     alloc: Global,
     tables: &Tables<'_>,
@@ -107,7 +106,7 @@ fn add_round(
     Ok(())
 }
 
-/// What a type leads to in at most so many steps, itself first. It ends as soon as a round finds nothing new.
+/// All types reachable from a type in at most `steps` steps, itself first. The search ends as soon as a round finds nothing new.
 fn led_to(
     alloc: Global,
     tables: &Tables<'_>,
@@ -140,7 +139,7 @@ fn type_count(all: &[AsmRec]) -> Result<u32, NoMemory>
     rows_before(all, Counted::Types, all.len())
 }
 
-/// All that steps up from a type lead to, itself first: its bases and all their interfaces.
+/// All types reachable by steps up from a type, itself first: its bases and all their interfaces.
 #[tactic(auto, unfolding(rules::specs::type_rules::Subtypes::above))]
 pub fn above(alloc: Global, tables: &Tables<'_>, ty: &TypeExpr) -> Result<Vec<TypeExpr>, NoMemory>
     requires { IsTables tables.now }
@@ -151,7 +150,7 @@ pub fn above(alloc: Global, tables: &Tables<'_>, ty: &TypeExpr) -> Result<Vec<Ty
     led_to(alloc, tables, Step::Up, rounds, ty)
 }
 
-/// An interface and all interfaces that its rows lead to, itself first, the nearest before those behind them.
+/// An interface and all interfaces reachable by its rows, itself first, nearer ones before farther ones.
 #[tactic(auto, unfolding(rules::specs::type_rules::Dispatch::implied))]
 pub fn implied(alloc: Global, tables: &Tables<'_>, ty: &TypeExpr) -> Result<Vec<TypeExpr>, NoMemory>
     requires { IsTables tables.now }

@@ -83,7 +83,7 @@ fn add_array(all: &[AsmRec], found: &mut Vec<TypeExpr>) -> Result<(), NoMemory>
     }
 }
 
-/// Puts what is one step above a type at the end: its base, then its interfaces; System.Array for an array.
+/// Adds the types one step above a type: its base, then its interfaces; System.Array for an array.
 #[tactic(auto, unfolding(rules::specs::type_rules::Subtypes::up))]
 pub(crate) fn add_up(
     alloc: Global,
@@ -106,8 +106,7 @@ pub(crate) fn add_up(
     }
 }
 
-/// What is one step above a type: its base, then its interfaces, with the type's arguments put in; for an array
-/// System.Array.
+/// The types one step above a type: its base, then its interfaces, with the type's arguments put in; for an array System.Array.
 pub fn up(alloc: Global, tables: &Tables<'_>, ty: &TypeExpr) -> Result<Vec<TypeExpr>, NoMemory>
     requires { IsTables tables.now }
     ensures { IfOk result (λ found. found.items ≡ up tables.now.world.now.recs ty.now) }

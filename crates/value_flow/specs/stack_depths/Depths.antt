@@ -45,7 +45,7 @@ abbrev pub is_wrong_at : ℕ → ℕ → ℕ → Option Exit → Bool
 is_wrong_at count most d None = true
 is_wrong_at count most d (Some e) = is_wrong_by count most d e
 
--- whether an instruction goes wrong where it is reached at the depth d; there is none behind the last
+-- whether an instruction goes wrong where it is reached at the depth d; there is none past the last
 abbrev pub is_wrong : List Exit → ℕ → ℕ → ℕ → Bool
 is_wrong exits most i d = is_wrong_at (length exits) most d (slice_get exits i)
 

@@ -83,7 +83,7 @@ pub(crate) fn innermost(handlers: &[Handler], at: u32) -> Option<Placed>
     best
 }
 
-/// The clauses behind the first `count`.
+/// The clauses after the first `count`.
 fn behind(handlers: &[Handler], count: usize) -> &[Handler]
     ensures { result.now ≡ drop count handlers.now }
 {

@@ -133,7 +133,7 @@ impl Walks<'_> {
 impl Reached {
     ghost use Rattle.value_flow.specs.slot_flow.Found.{is_found, IsReached};
 
-    /// All that is carried in a body, as `specs/Carrying` has it.
+    /// All that is carried in a body, as `specs/slot_flow/Carrying` has it.
     pub fn of(alloc: Global, flow: &Flowing<'_>) -> Result<Reached, NoMemory>
         requires { IsWithin flow.now }
         ensures { IfOk result (IsReached flow.now) }

@@ -71,7 +71,7 @@ pub fn has_name(rec: &AsmRec, mapped: Mapped, name: &[u8], k: u32) -> bool
     }
 }
 
-/// Puts the rows with a name behind those found, of the rows from `start` to before `end`.
+/// Appends the rows with a name to those found, of the rows from `start` to before `end`.
 fn add_named(
     rec: &AsmRec,
     mapped: Mapped,
@@ -91,7 +91,7 @@ fn add_named(
     Ok(())
 }
 
-/// Puts the rows of a run that have a name behind those found.
+/// Appends the rows of a run that have a name to those found.
 fn add_in_run(
     rec: &AsmRec,
     mapped: Mapped,

@@ -89,7 +89,7 @@ fn id_of(all: &[AsmRec], kind: Kind, at: RowAt) -> Result<Item, NoMemory>
     Ok(item_of(kind, n))
 }
 
-/// Puts the ids of members behind others.
+/// Appends the ids of members to others.
 fn add_ids(
     all: &[AsmRec],
     kind: Kind,
@@ -105,7 +105,7 @@ fn add_ids(
     Ok(())
 }
 
-/// Puts the ids of the members of a kind that types have under a name behind others.
+/// Appends the ids of the members of a kind that types have under a name to others.
 fn add_named(
     alloc: Global,
     tables: &Tables<'_>,

@@ -1,4 +1,4 @@
--- Which cells there are, and when the tokens in them fit 32 bits.
+-- The rows and columns of tables, and the numbers whose tokens fit 32 bits.
 use Rattle.std.specs.Prelude.{◌≡◌, ℕ, ◌/◌, ◌^◌, ◌<◌, ◌≤◌, true, nat_lt, List, length}
 use Rattle.il_base.specs.declared.cli_format.column.Column.{Column}
 use Rattle.il_base.specs.declared.cli_format.column.Column.TheVariants.{Index, IndexOrNone, Coded, CodedOrNone}

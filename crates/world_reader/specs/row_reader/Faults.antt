@@ -1,4 +1,4 @@
--- What is kept of the parts that have no meaning, so that each is read once. `bs` are the bytes of the file, `m` those of its
+-- The faults that are kept of parts without a meaning, so that each part is read once. `bs` are the bytes of the file, `m` those of its
 -- metadata.
 use Rattle.std.specs.Prelude.{◌≡◌, ℕ, List, [], Option, Some, unwrap_or, nat_eq}
 use Rattle.std.specs.HashMap.{get}
@@ -29,7 +29,7 @@ pub record OfSignatures {A : Type 0} (of_blob : List ℕ → Known A) (m : List 
 pub record OfBodies (bs : List ℕ) (faults : Faults) : Type 0 where
   pub tell : (rva : ℕ) (fault : Fault) → fault_of faults rva ≡ Some fault → (body_by bs rva ≡ Some (Bad fault.why)) × (bad_offset bs rva ≡ fault.at)
 
--- what was met of a table is so, whose signatures a reading gives
+-- the faults that were met in a table are those of its signatures, by this reading, and of its bodies
 pub record IsMet {A : Type 0} (of_blob : List ℕ → Known A) (bs : List ℕ) (met : Met) : Type 0 where
   pub signatures : OfSignatures of_blob (metadata_of bs) met.signatures
   pub bodies : OfBodies bs met.bodies

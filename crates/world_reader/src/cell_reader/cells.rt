@@ -181,8 +181,8 @@ impl<'a> Assembly<'a> {
         token_by(column_at(table, column), self.word(table, column, row))
     }
 
-    /// The row behind the last of the run that begins in a cell: where that of the next row begins, or behind the last row
-    /// of the table `target` that the runs are of.
+    /// The row past the last of the run that begins in a cell: where the run of the next row begins, or past the last row of
+    /// `target`, the table of the runs.
     #[tactic(auto, unfolding(rules::specs::record_format::Cells::run_end))]
     pub fn run_end(&self, table: u8, column: usize, target: u8, row: u32) -> u32
         requires { HasRow (metadata_of self.now) table row }

@@ -13,10 +13,10 @@ use il_base::{Body, NoMemory};
 use il_code::{BodyError, ReadBody, read_body, read_header};
 use std::alloc::Global;
 
-/// What stands at the address of a body.
+/// The body at an RVA, with the place of its fault.
 #[derive(Drop)]
 pub struct FoundBody {
-    /// None where the address is 0.
+    /// None where the RVA is 0.
     pub body: Option<Known<Body>>,
     /// The IL offset of a bad body's fault, 0 otherwise.
     pub bad_at: u32,
@@ -63,7 +63,7 @@ fn body_in(alloc: Global, bytes: &[u8]) -> Result<FoundBody, NoMemory>
     }
 }
 
-/// The body at an address, which is read.
+/// Reads the body at an RVA.
 #[tactic(auto, unfolding(rules::specs::record_format::Parts::body_by, rules::specs::record_format::Parts::bad_offset))]
 fn body_by(alloc: Global, file: &Assembly, rva: u32) -> Result<FoundBody, NoMemory>
     ensures { IfOk result (λ f. (f.body ≡ parts.body_by file.now rva) × (f.bad_at ≡ parts.bad_offset file.now rva)) }
@@ -83,7 +83,7 @@ fn body_by(alloc: Global, file: &Assembly, rva: u32) -> Result<FoundBody, NoMemo
     }
 }
 
-/// The body at an address. One whose fault is known isn't read again.
+/// The body at an RVA. A body whose fault is known isn't read again.
 #[tactic(auto)]
 pub fn body_of(
     alloc: Global,

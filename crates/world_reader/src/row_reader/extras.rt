@@ -1,4 +1,4 @@
-//! Rows that hang on members.
+//! Rows that belong to members.
 #![tactic(auto, unfolding(il_base::specs::cli_format::Tables::column_of, il_base::specs::cli_format::Columns::columns_of, il_base::specs::cli_format::Columns::schema, rules::specs::record_format::Others::constant_row, rules::specs::record_format::Others::custom_attribute_row, rules::specs::record_format::Others::field_marshal_row, rules::specs::record_format::Others::decl_security_row, rules::specs::record_format::Others::field_layout_row, rules::specs::record_format::Others::impl_map_row))]
 
 ghost use Rattle.il_base.specs.declared.table.TheConstants.{CONSTANT, CUSTOM_ATTRIBUTE, DECL_SECURITY, FIELD_LAYOUT, FIELD_MARSHAL, IMPL_MAP};

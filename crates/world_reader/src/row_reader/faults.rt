@@ -1,4 +1,5 @@
-//! Parts without a meaning that were met, by what names them: what many rows name is read once.
+//! The faults of parts without a meaning, by the number or the address that names the part, so that a part which many rows name is
+//! read once.
 
 ghost use Rattle.std.specs.Prelude.{◌≡◌, ℕ, None, Some, OnOk, nat_eq, if◌then◌else◌};
 ghost use Rattle.world_reader.specs.row_reader.Faults.{fault_of};
@@ -23,7 +24,7 @@ pub struct Faults {
 }
 
 impl Faults {
-    /// None was met. It takes no memory.
+    /// No faults. It takes no memory.
     pub fn new(alloc: Global) -> Faults
         ensures { (n : ℕ) → fault_of result n ≡ None }
     {
@@ -48,7 +49,7 @@ impl Faults {
     }
 }
 
-/// What was met of a table's parts.
+/// The faults met so far in the parts of a table's rows.
 #[derive(Drop)]
 pub struct Met {
     /// By the numbers of blobs.
@@ -58,7 +59,7 @@ pub struct Met {
 }
 
 impl Met {
-    /// Nothing was met. It takes no memory.
+    /// No faults so far. It takes no memory.
     pub fn nothing(alloc: Global) -> Met
         ensures signatures { (n : ℕ) → fault_of result.signatures n ≡ None }
         ensures bodies { (n : ℕ) → fault_of result.bodies n ≡ None }

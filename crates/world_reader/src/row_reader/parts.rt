@@ -10,7 +10,7 @@ use il_base::{MethodSig, NoMemory, Sig};
 use sig_blobs::{SigError, read_field, read_method};
 use std::alloc::Global;
 
-/// What a signature's blob gives: a value, or what is bad there.
+/// The signature of a blob: a value, or why there is none.
 pub fn known<T: Drop>(read: Result<T, SigError>) -> Result<Known<T>, NoMemory>
     ensures { (given : Result T (ℕ × ℕ)) → Answers read given → IfOk result (λ k. k ≡ parts.known_of given) }
 {

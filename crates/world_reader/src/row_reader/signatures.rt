@@ -19,7 +19,7 @@ pub trait HasSignature: Drop {
     const TABLE: u8;
     /// The column of the signature's blob, from 0.
     const COLUMN: usize;
-    /// What such a blob means.
+    /// The value of such a blob.
     type Signature: Drop;
 
     ghost TABLE: { ℕ };
@@ -28,7 +28,7 @@ pub trait HasSignature: Drop {
 
     ghost of_blob: { List ℕ → Known Self.Signature };
 
-    /// What a blob means, or why it has no meaning.
+    /// The value of a blob, or why it has none.
     fn read_signature(alloc: Global, blob: &[u8]) -> Result<Known<Self::Signature>, NoMemory>
         requires { length blob.now < 2 ^ 32 }
         ensures { IfOk result (λ k. k ≡ of_blob blob.now) };

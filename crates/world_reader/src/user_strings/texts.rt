@@ -138,7 +138,7 @@ fn marks_of(alloc: Global, count: usize, methods: &[MethodDefRow]) -> Result<Vec
     Ok(marks)
 }
 
-/// Puts a text behind others, if there is one.
+/// Appends a text to others, if there is one.
 fn put(texts: &mut Seq<UserText>, text: Option<UserText>) -> Result<(), NoMemory>
     ensures { OnOk result (texts.new ≡ and_text texts.old text) }
 {

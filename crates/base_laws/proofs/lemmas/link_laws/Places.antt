@@ -6,7 +6,7 @@ use Rattle.il_base.specs.world_model.Worlds.{rows_before}
 use Rattle.rules.specs.link_rules.Linked.{links_from}
 use Rattle.base_laws.proofs.lemmas.link_laws.Lists.{get_front, get_behind}
 
--- a link of an assembly, behind those of the assemblies before
+-- a link of an assembly, after those of the assemblies before
 pub link_in : {A : Type 0} (links : ℕ → AsmRec → List A) (count : AsmRec → ℕ) → ((i : ℕ) (r : AsmRec) → length (links i r) ≡ count r)
     → (recs : List AsmRec) (i a j : ℕ) (rec : AsmRec) → slice_get recs a ≡ Some rec → j ≡ i + a → (k : ℕ) → k < count rec
     → slice_get (links_from links i recs) (rows_before count recs a + k) ≡ slice_get (links j rec) k

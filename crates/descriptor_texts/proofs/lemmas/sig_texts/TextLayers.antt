@@ -86,5 +86,5 @@ pub on_ok : {A E : Type 0} (P Q : Type 0) (r : Result A E) → (P → Q) → OnO
 on_ok P Q (Ok x) f p = f p
 on_ok P Q (Err e) f p = p
 
--- texts behind others, one level of a type at a time
+-- texts after others, one level of a type at a time
 pub ruleset writing = (put_prim, put_def, put_inst, put_array, put_by_ref, put_var, put_mvar, put_mod)

@@ -17,7 +17,7 @@ unfolding inner_names
 inner_push rec [] k = simp append-nil
 inner_push rec (j ∷ ks) k = ap (λ (t : List ℕ). t ++ inner_name rec j) (inner_push rec ks k) ∙ append_assoc (inner_name rec k) (inner_names rec ks) (inner_name rec j)
 
--- a name put behind, in which `/` is 47
+-- a name put after `/`, which is 47
 pub more_put : (rec : AsmRec) (out signed put full left new : List ℕ) (row : ℕ) → left ≡ new ++ row ∷ [] → signed ≡ out ++ 47 ∷ [] → put ≡ signed ++ bare_name rec row → out ++ inner_names rec left ≡ full → put ++ inner_names rec new ≡ full
 more_put rec out signed put full left new row l s p h = rw (p, s) (simp append_assoc (rw (l, inner_push rec new row) at h))
 

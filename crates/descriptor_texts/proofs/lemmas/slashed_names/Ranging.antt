@@ -15,7 +15,7 @@ range_end f made k end done =
     let n : end - k ≡ 0 = omega arith in
     ap (λ (m : ℕ). made ++ map f (range_with_len k m)) n ∙ append-nil made
 
--- a place in it, where nothing is made of the numbers behind it
+-- a place in it, where nothing is made of the numbers after it
 pub range_get : {A : Type 0} (f : ℕ → List A) (n s : ℕ) → ((j : ℕ) → s + n ≤ j → f j ≡ []) → (k : ℕ) → unwrap_or (slice_get (map f (range_with_len s n)) k) [] ≡ f (s + k)
 range_get f zero s none k = sym (none (s + k) (omega arith))
 range_get f (suc n) s none zero = ap f (sym (add-zero s))

@@ -31,7 +31,7 @@ padded_long bs =
 
 -- ---- where a body stands
 
--- what stands behind some bytes begins with them
+-- what stands after some bytes begins with them
 behind_extends : (before : List ℕ) (b : Option (Known Body)) → (more : List ℕ) × (behind before b ≡ before ++ more)
 unfolding body_behind
 behind_extends before None = ([], sym (append-nil before))

@@ -16,7 +16,7 @@ use Rattle.file_laws.proofs.lemmas.written_image.Numbers.{number_middle, number_
 abbrev is_zero : ℕ → Bool
 is_zero b = b == 0
 
--- a name with its zeros, as it is read where other bytes stand behind it
+-- a name with its zeros, as it is read where other bytes stand after it
 pub record Named (name : List ℕ) (count padding : ℕ) (stream : StreamName) : Type 0 where
   pub size : length name ≡ count + padding
   pub short : count ≤ 32

@@ -51,7 +51,7 @@ pub part_between : (xs ys zs : List ℕ) (at : ℕ) → at ≡ length xs → tak
 part_between xs ys zs at e =
     rw (e, append_assoc, drop-append_seam xs (ys ++ zs)) (take-append_seam ys zs)
 
--- the bytes from a place in the middle of three parts on: the middle, and others behind it
+-- the bytes from a place in the middle of three parts on: the middle, and others after it
 pub tail_between : (xs ys zs : List ℕ) (at k : ℕ) → at ≡ length xs → length ys ≤ k → (rest : List ℕ) × (take k (drop at ((xs ++ ys) ++ zs)) ≡ ys ++ rest)
 tail_between xs ys zs at k e h =
     let count : k ≡ length ys + (k - length ys) = omega arith in

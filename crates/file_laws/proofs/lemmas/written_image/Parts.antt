@@ -35,7 +35,7 @@ mapped_is p b rva len low high room = rw (section_is p b rva low high) (placed (
 
 -- ---- the parts of the section
 
--- the bytes before the CLI header, and those behind the metadata
+-- the bytes before the CLI header, and those after the metadata
 abbrev pub before_cli : Parts → List ℕ
 before_cli p = headers_bytes p ++ (word (hint_rva p) ++ word 0)
 

@@ -19,7 +19,7 @@ use Rattle.file_laws.specs.written_tables.Written.{IsText, IsIn, StringsReadBack
 use Rattle.file_laws.proofs.lemmas.written_tables.Places.{Stands, stands_first, stands_in, stands_at, stands_within, stands_dropped, byte_stands, item_stands, length_items, length_items_before}
 use Rattle.file_laws.proofs.lemmas.written_tables.Once.{Items, in_first}
 
--- ---- an item of a list stands at its place, behind whatever stands before the items
+-- ---- an item of a list stands at its place, after whatever stands before the items
 
 in_rest : (y : List ℕ) (ys : Items) (x : List ℕ) → bytes_eq y x ≡ false → IsIn (y ∷ ys) x → IsIn ys x
 in_rest y ys x other h = elim (in_first y ys x h) [
@@ -131,7 +131,7 @@ strings_law texts = record {
   within = string_within texts;
 }
 
--- ---- bytes behind their length
+-- ---- bytes after their length
 
 counted_there : (xs rest : List ℕ) (n : ℕ) → length xs ≡ n → n < 536870912 → counted_at (shortest n ++ (xs ++ rest)) ≡ Some xs
 unfolding counted_at bytes_at

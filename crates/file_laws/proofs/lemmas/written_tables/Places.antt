@@ -63,9 +63,9 @@ byte_stands b at xs p =
     let value : little_number 1 (b ∷ p.after) ≡ b = omega arith in
     rw (long, stands_dropped xs (b ∷ []) at p, value) refl
 
--- ---- items one behind another
+-- ---- items one after another
 
--- the item with a number stands behind those before it
+-- the item with a number stands after those before it
 pub item_stands : {X : Type 0} (f : X → List ℕ) (xs : List X) (k : ℕ) (x : X) → slice_get xs k ≡ Some x
     → Stands (flat_map f xs) (length (flat_map f (take k xs))) (f x)
 item_stands f [] k x e = absurd (none-some x e)

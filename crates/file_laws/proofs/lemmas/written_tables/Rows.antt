@@ -20,7 +20,7 @@ use Rattle.file_laws.proofs.lemmas.written_tables.Counts.{head, rows_bytes, all_
 
 -- ---- pieces of one table and of all
 
--- the tables of a list behind those before them
+-- the tables of a list after those before them
 tables_more : (sizes : ℕ) (tables : Tables) (u : ℕ) (xs : Tables) (k : ℕ)
     → length (tables_bytes sizes tables u (take (suc k) xs)) ≡ length (tables_bytes sizes tables u (take k xs)) + length (table_bytes sizes tables (u + k) (get_or xs k []))
 unfolding tables_bytes
@@ -36,7 +36,7 @@ tables_more sizes tables u (rows ∷ more) (suc k) =
     ap (λ (t : ℕ). length (table_bytes sizes tables t (get_or more k []))) (omega arith) in
     omega (arith, rest, same, length-append front (tables_bytes sizes tables (suc u) (take (suc k) more)), length-append front (tables_bytes sizes tables (suc u) (take k more)))
 
--- a table stands behind those before it
+-- a table stands after those before it
 tables_stand : (sizes : ℕ) (tables : Tables) (u : ℕ) (xs : Tables) (k : ℕ) (rows : List Row) → slice_get xs k ≡ Some rows
     → Stands (tables_bytes sizes tables u xs) (length (tables_bytes sizes tables u (take k xs))) (table_bytes sizes tables (u + k) rows)
 unfolding tables_bytes
@@ -102,7 +102,7 @@ module _ (sizes : ℕ) (tables : Tables) (h : CanTables sizes tables) where
       let w : ℕ = laid.width sizes tables c in
       omega (arith, length_row cs ns fits.1, width_same c, length-append (little_bytes w n) (row_bytes sizes tables cs ns), length-bytes_low_first 0 w n)
 
-  -- a cell stands behind the columns before it, and its number fits
+  -- a cell stands after the columns before it, and its number fits
   cell_stands : (cs : List Column) (row : Row) → FitsRow sizes tables cs row → (c n : ℕ) → slice_get row c ≡ Some n
       → Stands (row_bytes sizes tables cs row) (widths ts (take c cs)) (little_bytes (width ts (get_or cs c U8)) n) × (n < 256 ^ width ts (get_or cs c U8))
   unfolding row_bytes widths FitsRow

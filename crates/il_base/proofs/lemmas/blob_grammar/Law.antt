@@ -76,7 +76,7 @@ pub bind_stops : {A B : Type 0} (r : Result A Fault) (f : A → Result B Fault) 
 bind_stops (Ok y) f d e = absurd cc
 bind_stops (Err c) f d e = cc
 
--- ---- one reader behind another
+-- ---- one reader after another
 
 pub record Then {A B : Type 0} (R : A → List ℕ → Type 0) (Q : A → B → List ℕ → Type 0) (y : B) (bs : List ℕ) : Type 0 where
   pub first : A
@@ -145,7 +145,7 @@ module _ {A B : Type 0} (r : Reader A) (R : A → List ℕ → Type 0) (q : A �
             }
       ]
 
-  -- what follows is looked at only behind a value that has a spelling
+  -- what follows is looked at only after a value that has a spelling
   pub then_law_where : Law r R → ((x : A) (front : List ℕ) → R x front → Law (q x) (Q x)) → ((x : A) (front : List ℕ) → R x front → Inhabited (Q x)) → Law both (Then R Q)
   then_law_where law laws some = record { takes = then_takes law laws; refuses = then_refuses law laws some }
 
@@ -213,7 +213,7 @@ same_law r q R same law = record {
 
 -- ---- by the first byte
 
--- what a reader does behind a first byte: it keeps to the grammar, or the byte is bad
+-- what a reader does after a first byte: it keeps to the grammar, or the byte is bad
 pub data Behind {A : Type 0} (b : ℕ) (r : Reader A) (R : A → List ℕ → Type 0) : Type 0 where
   reads : Law r R → Behind b r R
   never : (what : ℕ) → IsKind what (b ∷ []) → ((bs : List ℕ) → r bs ≡ Err (suc (length bs), what)) → Behind b r R

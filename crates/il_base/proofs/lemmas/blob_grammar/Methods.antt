@@ -201,7 +201,7 @@ field_again _ _ (field s bs h) rest = type_again levels s bs h rest
 pub field_written : (s : Sig) (bs : List ℕ) → IsField s bs → IsField s (field_bytes s)
 field_written _ _ (field s bs h) = field s (type_bytes s) (type_written levels s bs h)
 
--- ---- types behind a leading byte and a count
+-- ---- types after a leading byte and a count
 
 module _ (lead : ℕ) where
   counted_some : Inhabited (AreCounted lead)

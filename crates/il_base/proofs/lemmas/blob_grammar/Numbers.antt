@@ -98,7 +98,7 @@ takes_at (other b bs le) n rest fits e = absurd (let k = at_other b bs le in cc)
 pub refused : {A : Type 0} (r : Reader A) (R : A → List ℕ → Type 0) (bs : List ℕ) (size why left what : ℕ) → r bs ≡ Err (size, why) → r bs ≡ Err (left, what) → Refuses r R bs size why → Refuses r R bs left what
 refused {A = A} r R bs size why left what h e t = subst (λ (p : ℕ × ℕ). Refuses r R bs p.0 p.1) (err_is {A = A × List ℕ} (size, why) (left, what) (sym h ∙ e)) t
 
--- zeros behind the beginning of a long form
+-- zeros after the beginning of a long form
 pub record Filled (h : ℕ) (bs : List ℕ) : Type 0 where
   pub value : ℕ
   pub more : List ℕ

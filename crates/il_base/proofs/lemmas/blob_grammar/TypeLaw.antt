@@ -39,7 +39,7 @@ module _ (room : ℕ) (law : Law (type_at room) (IsType room)) where
       λ (y : Sig) (bs : List ℕ) p. rw (p.tail.1, p.parts) (modified room required p.first p.tail.0 p.front p.back p.head p.tail.2) in
       wider whole (then_law token_at IsToken (λ t bs. type_at room bs >>= λ s. Ok (Mod required t s.0, s.1)) S token_law inner some)
 
-  -- the arguments, behind their count, the token and the kind
+  -- the arguments, after their count, the token and the kind
   Args : Bool → ℕ → ℕ → Sig → List ℕ → Type 0
   Args value t n y bs = (ss : List Sig) × (y ≡ Inst value t ss) × Row room n ss bs
 

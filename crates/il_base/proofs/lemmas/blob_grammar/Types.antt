@@ -116,7 +116,7 @@ class_behind b =
 pub class_law : Law class_at IsClass
 class_law = any_law class_at IsClass class_some refl class_behind
 
--- ---- types one behind another
+-- ---- types one after another
 
 abbrev pub Row : ℕ → ℕ → List Sig → List ℕ → Type 0
 Row room n ss bs = (length ss ≡ n) × AreTypes room ss bs

@@ -184,7 +184,7 @@ pub record TakesBody (bs : List ℕ) (x : Body × ℕ) : Type 0 where
   pub within : x.1 ≤ length bs
   pub spelled : take x.1 bs ≡ body_spelling filler x.0
 
--- what is known of a header and the code behind it
+-- what is known of a header and the code after it
 record Known (bs : List ℕ) (h : Header) (code : List Instr) : Type 0 where
   pub header : TakesHeader bs h
   pub is : IsCode 0 code

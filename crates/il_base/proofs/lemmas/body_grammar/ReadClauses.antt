@@ -22,7 +22,7 @@ field_2 n at bs fits e = is_2 n at bs fits (need_ok (number_at 2 bs at) (fault (
 pub field_4 : (n at : ℕ) (bs : List ℕ) → IsBytes bs → field_at 4 bs at ≡ Ok n → IsField 4 at bs n
 field_4 n at bs fits e = is_4 n at bs fits (need_ok (number_at 4 bs at) (fault (length bs) BODY) n e)
 
--- two parts, one behind the other
+-- two parts, one after the other
 pub join : (at a b : ℕ) (bs x y : List ℕ) → take a (drop at bs) ≡ x → take b (drop (at + a) bs) ≡ y → take (a + b) (drop at bs) ≡ x ++ y
 join at a b bs x y p q = take-add a b (drop at bs) ∙ ap₂ (λ (s t : List ℕ). s ++ t) p (ap (take b) (drop-drop a at bs) ∙ q)
 
@@ -158,7 +158,7 @@ then_ok : (before : List Handler) (r : Result Handler Fault) (f : Handler → Li
 then_ok before (Ok h) f total e = (h, refl, e)
 then_ok before (Err d) f total e = let no = ap (λ (p : List Handler × Option Fault). p.1) e in absurd cc
 
--- clauses and the bytes that they take, behind those before
+-- clauses and the bytes that they take, after those before
 pub record TakesClauses (n : ℕ) (fat : Bool) (from : ℕ) (bs : List ℕ) (before total : List Handler) : Type 0 where
   pub clauses : List Handler
   pub all : total ≡ before ++ clauses

@@ -90,7 +90,7 @@ instr_takes at place bs x fits e =
       within = omega (arith, takes.within, opcode.within, length-drop size bs);
     })
 
--- instructions and the bytes that they take, behind those before
+-- instructions and the bytes that they take, after those before
 pub record TakesCode (from : ℕ) (bs : List ℕ) (before total : List Instr) : Type 0 where
   pub code : List Instr
   pub out : total ≡ before ++ code

@@ -1,4 +1,4 @@
--- A body that was written is read again, whatever stands behind it.
+-- A body that was written is read again, whatever stands after it.
 use Rattle.std.proofs.Common.{◌≡◌, ℕ, ◌+◌, ◌-◌, ◌*◌, ◌/◌, ◌%◌, ◌^◌, ◌<◌, ◌≤◌, Bool, true, false, not, cond, eqb, ltb, ◌||◌, List, [], ◌∷◌, ◌++◌, length, take, drop, None, Ok, refl, sym, ap, ap₂, subst, ◌∙◌, append_assoc, add-zero, arith}
 use Rattle.std.specs.List.{AllByRecursion}
 use Rattle.std.proofs.lemmas.Bool.{eq-eqb, ne_eqb, le-ltb}

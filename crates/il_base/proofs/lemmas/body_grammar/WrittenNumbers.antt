@@ -37,7 +37,7 @@ number_shift k at j before bs len =
     let rest : drop (at + j) (before ++ bs) ≡ drop j bs = sym (drop-drop j at (before ++ bs)) ∙ ap (λ (x : List ℕ). drop j x) (drop_at before bs at len) in
     ap₂ (λ (b : Bool) (x : List ℕ). cond b (Some (little_number k x)) None) long rest
 
--- the field of a number behind what stands before and a part in between
+-- the field of a number after what stands before and a part in between
 pub field_in : (k n at j : ℕ) (before mid after : List ℕ) → length before ≡ at → length mid ≡ j → n < 256 ^ k
     → field_at k (before ++ (mid ++ (little_bytes k n ++ after))) (at + j) ≡ Ok n
 field_in k n at j before mid after len lens lt =

@@ -17,7 +17,7 @@ at_last recs i left rec total lt is e h =
     let one : drop i recs ≡ rec ∷ [] = here recs i rec lt is ∙ ap (λ (ys : List AsmRec). rec ∷ ys) (drop_all (i + 1) recs le) in
     subst (λ (xs : List AsmRec). core_row xs left ≡ total) one h
 
--- one assembly with others behind it
+-- one assembly with others after it
 of_more : (rec : AsmRec) (rest : List AsmRec) (left : ℕ) → 0 < length rest
     → core_row (rec ∷ rest) left ≡ (if nat_lt left (length rec.method_def) then None else core_row rest (left - length rec.method_def))
 unfolding core_row

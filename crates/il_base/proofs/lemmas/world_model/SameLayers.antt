@@ -46,7 +46,7 @@ same_mvars n m = paired (TypeExpr-F.MVar n) (TypeExpr-F.MVar m) _ _ (expr.rolls-
 pub same_mods : (p q : Bool) (t u : TypeId) (x y : TypeExpr) → same_expr (expr.Mod p t x) (expr.Mod q u y) ≡ (same_bool p q && nat_eq t.0 u.0 && same_expr x y)
 same_mods p q t u x y = paired (TypeExpr-F.Mod p t x) (TypeExpr-F.Mod q u y) _ _ (expr.rolls-Mod p t x) (expr.rolls-Mod q u y)
 
--- behind the same modifier
+-- types under the same modifier
 pub same_inner : (p q : Bool) (t u : TypeId) (x y : TypeExpr) → (same_bool p q && nat_eq t.0 u.0) ≡ true → same_expr (expr.Mod p t x) (expr.Mod q u y) ≡ same_expr x y
 same_inner p q t u x y h = same_mods p q t u x y ∙ ap (λ (b : Bool). b && same_expr x y) h
 

@@ -1,4 +1,4 @@
--- The forms of a dependency, by the first argument and those behind it.
+-- The forms of a dependency, by the first argument and those after it.
 use Rattle.std.proofs.Common.{◌≡◌, ℕ, List, [], ◌∷◌, Option, refl}
 use Rattle.attr_blobs.specs.declared.value.Arg.{Arg}
 use Rattle.attr_blobs.specs.declared.value.Arg.TheOpen.{Arg-F}

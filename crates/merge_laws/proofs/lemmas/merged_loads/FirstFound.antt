@@ -88,7 +88,7 @@ module _ {A : Type 0} (key : A → ℕ) (n : ℕ) where
   put_ordered x [] up = (λ z c. absurd (none_in z c), tt)
   put_ordered x (y ∷ ys) up = ordered_case (nat_lt (key x) (key y)) x y ys refl up (put_ordered x ys up.1)
 
-  -- all behind are greater
+  -- all items after it are greater
   front_by : (x y : A) (ys : List A) (b : Bool) → (b ≡ true → find has (y ∷ ys) ≡ None) → cond b (Some x) (find has (y ∷ ys)) ≡ or_else (find has (y ∷ ys)) (cond b (Some x) None)
   front_by x y ys true h = sym (ap (λ (o : Option A). or_else o (Some x)) (h refl))
   front_by x y ys false h = sym (or_none (find has (y ∷ ys)))

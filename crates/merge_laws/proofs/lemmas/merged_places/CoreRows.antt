@@ -130,7 +130,7 @@ found_name xs x j e =
     let there = found_from x xs 0 j (sym (position_from-zero (same_core_name x) xs) ∙ e ∙ ap Some z) in
     record { there = there; low = place_within xs j x there }
 
--- ---- rows with names behind so many own rows
+-- ---- rows with names after so many own rows
 
 module _ (own : ℕ) (names those : List CoreTypeName) where
   pub record NamedRow (r s : ℕ) : Type 0 where

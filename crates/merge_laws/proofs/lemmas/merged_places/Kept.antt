@@ -289,7 +289,7 @@ module _ (count : AsmRec → ℕ) (recs : List AsmRec) (number_item : ℕ → It
       lower_by (rows_before count recs a + k) (is_before a k x) x (filter (is_before a k) xs)
       ∙ (λ i. cond (before_by_number a k rec e le x hs.0.0 i) (number_at count recs x ∷ lower_rows a k rec e le xs hs.1 i) (lower_rows a k rec e le xs hs.1 i))
 
-  -- where a run begins or ends: behind as many rows as are kept of those before it
+  -- where a run begins or ends: after as many rows as are kept of those before it
   pub run_is : (a row : ℕ) (rec : AsmRec) → slice_get recs a ≡ Some rec → suc a < length recs → row - 1 ≤ count rec
       → run_at those a row ≡ suc (rank keeps (rows_before count recs a + (row - 1)))
   unfolding run_at

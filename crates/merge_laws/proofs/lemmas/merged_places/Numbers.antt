@@ -145,7 +145,7 @@ module _ (count : AsmRec → ℕ) (c : CoreRows) (recs : List AsmRec) (number_it
   pub new_kept_row : (at : RowAt) (j : ℕ) → IsThere count recs at → new_row (those count recs number_item kept) at ≡ Some j → new_of (number_at count recs at) ≡ j
   new_kept_row at j is e = by_row (number_at count recs at) at (Some j) (there_home count recs at is) e
 
-  -- of a row of the core library: in its new place behind the kept rows
+  -- of a row of the core library: in its new place after the kept rows
   pub new_core : (at : RowAt) (s : ℕ) → IsThere count recs at → suc at.asm ≡ length recs → c.to at.row ≡ Some s
       → new_of (number_at count recs at) ≡ length (those count recs number_item kept) + s
   new_core at s is last goes =
@@ -155,7 +155,7 @@ module _ (count : AsmRec → ℕ) (c : CoreRows) (recs : List AsmRec) (number_it
       by_row (number_at count recs at) at None (there_home count recs at is) (new_row_core count recs number_item kept at last)
       ∙ other_core c (length (those count recs number_item kept)) (in_inputs count recs) (in_all count recs) (number_at count recs at) s (omega (arith, number)) lt (ap c.to row ∙ goes)
 
-  -- of no row: behind all
+  -- of no row: after every row
   pub new_none : (n : ℕ) → home_from count 0 recs n ≡ None → new_of n ≡ length (those count recs number_item kept) + c.count + n
   unfolding new_number
   new_none n e =

@@ -194,7 +194,7 @@ module _ (count : AsmRec → ℕ) where
       by_home None e = at_first recs n
       by_home (Some at) e = home_number recs n at e
 
-  -- ---- inputs and the core library behind them
+  -- ---- inputs and the core library after them
 
   last : (xs : List AsmRec) (c : AsmRec) → rows_before count (xs ++ c ∷ []) (suc (length xs)) ≡ rows_before count (xs ++ c ∷ []) (length xs) + count c
   unfolding rows_before

@@ -1,4 +1,4 @@
--- Lists in an order: each item stands in a relation to all behind it. A sort by a key keeps the items and puts them in order.
+-- Lists in an order: each item stands in a relation to all after it. A sort by a key keeps the items and puts them in order.
 use Rattle.std.proofs.Common.{◌≡◌, ◌<◌, ◌≤◌, ℕ, zero, suc, ◌+◌, List, [], ◌∷◌, ◌++◌, length, map, Bool, true, false, ◌⊎◌, inl, inr, Option, Some, None, refl, sym, ap, subst, ◌∙◌, arith, ltb-true}
 use Rattle.std.specs.Prelude.{slice_get, nat_lt, if◌then◌else◌}
 use Rattle.std.specs.List.{Contains, flat_map, filter, range_with_len}
@@ -20,7 +20,7 @@ pairs R [] up k row next e f = absurd (cc)
 pairs {X} R (x ∷ xs) up zero row next e f = let same : x ≡ row = cc in subst (λ (z : X). R z next) same (up.0 next (place_in xs 0 next f))
 pairs R (x ∷ xs) up (suc k) row next e f = pairs R xs up.1 k row next e f
 
--- a later item behind an earlier one
+-- a later item after an earlier one
 pub later : {X : Type 0} (R : X → X → Type 0) (xs : List X) → Ordered R xs → (j k : ℕ) (x y : X) → j < k → slice_get xs j ≡ Some x → slice_get xs k ≡ Some y → R x y
 later R [] up j k x y lt e f = absurd (cc)
 later R (z ∷ xs) up j zero x y lt e f = absurd (omega arith)

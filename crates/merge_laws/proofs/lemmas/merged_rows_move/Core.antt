@@ -1,4 +1,4 @@
--- The core library stands behind the kept rows, as it did behind the inputs: its types, members and primitives.
+-- The core library stands after the kept rows, as it did after the inputs: its types, members and primitives.
 use Rattle.std.proofs.Common.{◌≡◌, ◌<◌, ◌≤◌, ℕ, suc, ◌+◌, ◌-◌, Bool, true, false, nat_lt, List, [], ◌∷◌, ◌++◌, length, map, Option, Some, None, ◌⊎◌, inl, inr, refl, sym, ap, subst, ◌∙◌, arith}
 use Rattle.std.specs.Prelude.{IsTrue, slice_get, position, unwrap_or, if◌then◌else◌}
 use Rattle.std.specs.List.{position_or_len, flat_map}
@@ -86,7 +86,7 @@ array_test = refl
 array_below : 21 < length core_record.type_def
 array_below = ltb-true 21 (length core_record.type_def) array_test
 
--- no member stands behind the last
+-- no member stands after the last
 member_past : (ts : List CoreType) (at : ℕ) → length (all_methods ts) ≤ at → member_in ts at ≡ None
 unfolding all_methods member_in
 member_past [] at le = refl
@@ -154,7 +154,7 @@ module _ (m : Merge) (is : IsMerge m) where
   pub types_more : length core_record.type_def ≤ types_in (core_of m)
   types_more = let long = ap length (before_types m) ∙ length-append core_record.type_def (map (added_row core_record) (names_before m)) in omega (arith, long)
 
-  -- ---- places behind the rows of inputs
+  -- ---- places after the rows of inputs
 
   pub last_before : length (before m) - 1 ≡ length m.inputs
   last_before = let long = before_length m in omega (arith, long)

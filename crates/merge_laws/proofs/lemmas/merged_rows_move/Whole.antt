@@ -48,7 +48,7 @@ use Rattle.merge_laws.proofs.lemmas.merged_rows_move.Core.{type_count, type_row_
 use Rattle.merge_laws.proofs.lemmas.merged_rows_move.Heads.{head_moved, fits_moved}
 use Rattle.merge_laws.proofs.lemmas.merged_rows_move.RowsOf.{LikeMethod, interface_moved, explicit_moved, method_row_moved, method_row_absent, instance_moved}
 
--- ---- rows behind the core library's table
+-- ---- rows after the core library's table
 
 table_by : (token r : ℕ) → token / 16777216 ≡ 2 → token % 16777216 ≡ r → list_any (λ n. nat_lt n (length TYPES)) (listed (index_from r)) ≡ true → token ≤ 33554432 + length TYPES
 table_by token zero t e h = absurd (cc)

@@ -220,7 +220,7 @@ module _ (names those : List CoreTypeName) where
         (in_behind core_record.type_def (map (added_row core_record) those) (own + a.place) a.place refl ∙ map_at (added_row core_record) those a.place y y_there) passes_y none_new
         ∙ ap (λ (n : ℕ). Some n) z
 
-  -- a name that modifiers alone find is found behind the table
+  -- a name that modifiers alone find is found after the table
   pub added_again : (r s : ℕ) (row : TypeDefRow) → TYPE_COUNT ≤ r → slice_get old.type_def r ≡ Some row → type_in old None row.namespace row.name ≡ Some r → (core_rows own names those).to r ≡ Some s
       → (TYPE_COUNT ≤ s) × (type_in new None row.namespace row.name ≡ Some s)
   added_again r s row le there first to =

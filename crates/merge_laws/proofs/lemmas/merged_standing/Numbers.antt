@@ -35,7 +35,7 @@ use Rattle.merge_laws.proofs.lemmas.merged_owners.Every.{Every, all_none, all_on
 use Rattle.merge_laws.proofs.lemmas.merged_standing.Low.{bound, below, Low, IsLow, prim_low, named_low, added_low}
 
 module _ (recs : List AsmRec) where
-  -- behind the types of the world are the references that name nothing
+  -- after the types of the world are the references that name nothing
   abbrev pub most : ℕ
   most = bound recs + length (reference_rows recs)
 

@@ -1,4 +1,4 @@
--- Each type that is referred to has one row, with the core library behind the inputs.
+-- Each type that is referred to has one row, with the core library after the inputs.
 use Rattle.std.proofs.Common.{◌≡◌, ◌<◌, ℕ, zero, suc, ◌-◌, List, [], ◌∷◌, ◌++◌, length, Some, None, refl, sym, ap, subst, ◌∙◌, arith}
 use Rattle.std.specs.Prelude.{slice_get}
 use Rattle.std.specs.List.{Contains}

@@ -82,7 +82,7 @@ section_length b n =
     sum : (p q h c d : ℕ) → p ≡ q → h ≡ 4 → c ≡ d → p + h + c ≡ q + (4 + d)
     sum p q h c d e f g = omega (arith, e, f, g)
 
--- what stands behind the code
+-- what stands after the code
 abbrev pub behind_size : Body → ℕ → ℕ
 behind_size b n = if has_section b then aligned (12 + n) - (12 + n) + (4 + clause_size b.fat_handlers * length b.handlers) else 0
 

@@ -1,4 +1,4 @@
--- Pieces that are put one behind another.
+-- Pieces that are put one after another.
 use Rattle.std.proofs.Common.{◌≡◌, ℕ, List, ◌++◌, Result, Ok, Err, OnOk, ap, ◌∙◌, append_assoc}
 use Rattle.rules.specs.file_layout.Bytes.{word}
 

@@ -12,7 +12,7 @@ use Rattle.rules.specs.link_rules.Members.{home_from}
 use Rattle.rules.specs.type_rules.Rows.{type_row_at}
 use Rattle.base_laws.proofs.lemmas.type_laws.Places.{home_is, place_has}
 
--- a row at or behind an assembly, whose number among the rows from there on is n
+-- a row at or after an assembly, whose number among the rows from there on is n
 pub record Numbered (count : AsmRec → ℕ) (a : ℕ) (recs : List AsmRec) (n : ℕ) (at : RowAt) : Type 0 where
   pub here : a ≤ at.asm
   pub number : rows_before count recs (at.asm - a) + at.row ≡ n

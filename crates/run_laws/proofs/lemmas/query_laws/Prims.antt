@@ -42,7 +42,7 @@ named_by n row false h = absurd (cc)
 known_code : (n : ℕ) (row : TypeDefRow) → is_code_of n row ≡ true → list_any (is_code_of n) core_record.type_def ≡ true
 known_code n row h = named_by n row (same_name row.namespace (codes "System")) (ap (is_code n) (sym (prim_is row)) ∙ h)
 
--- ---- so rows behind the table change no search
+-- ---- so rows after the table change no search
 
 module _ {A : Type 0} (t : A → Bool) where
   found_by : (x : A) (xs ys : List A) (d : ℕ) (b : Bool) → t x ≡ b → (b || list_any t xs) ≡ true → (list_any t xs ≡ true → position_from t (d + 1) (xs ++ ys) ≡ position_from t (d + 1) xs)

@@ -53,12 +53,12 @@ code_pinned s = ap (fold-Sig (List ℕ) code_layer) (sym (sig.rolls-Pinned s)) �
 -- the code of a signature, one level at a time
 pub ruleset coding = (code_prim, code_named, code_array, code_by_ref, code_inst, code_var, code_mvar, code_mod, code_pinned)
 
--- ---- added behind what was there
+-- ---- added after what was there
 
 behind : (code front one rest new all : List ℕ) → one ≡ code ++ front → new ≡ one ++ rest → all ≡ front ++ rest → new ≡ code ++ all
 behind code front one rest new all e f g = f ∙ ap (λ (xs : List ℕ). xs ++ rest) e ∙ append_assoc code front rest ∙ ap (λ (xs : List ℕ). code ++ xs) (sym g)
 
--- a signature behind what was added before it
+-- a signature after what was added before it
 pub inner_added : (code front one new all : List ℕ) (s now : Sig) → one ≡ code ++ front → now ≡ s → new ≡ one ++ sig_code now → all ≡ front ++ sig_code s → new ≡ code ++ all
 inner_added code front one new all s now e f g h = behind code front one (sig_code s) new all e (g ∙ ap (λ (x : Sig). one ++ sig_code x) f) h
 

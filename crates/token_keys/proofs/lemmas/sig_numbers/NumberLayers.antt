@@ -52,7 +52,7 @@ in_pinned s = ap (fold-Sig (List ℕ) numbers_layer) (sym (sig.rolls-Pinned s)) 
 -- the numbers in a signature, one level at a time
 pub ruleset numbering = (in_prim, in_named, in_array, in_by_ref, in_inst, in_var, in_mvar, in_mod, in_pinned)
 
--- ---- added behind what was there
+-- ---- added after what was there
 
 -- nothing more
 pub none_added : (before all : List ℕ) → all ≡ [] → before ≡ before ++ all

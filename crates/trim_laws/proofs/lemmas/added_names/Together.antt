@@ -62,7 +62,7 @@ module _ (names those : List CoreTypeName) where
   unfolding core_with
   rows_are = refl
 
-  -- the name of a row behind the table
+  -- the name of a row after the table
   pub name_of : (r : ℕ) (row : TypeDefRow) → own ≤ r → slice_get (core_with core_record names).type_def r ≡ Some row → (x : CoreTypeName) × (slice_get names (r - own) ≡ Some x) × (added_row core_record x ≡ row)
   name_of r row le e =
       of_map (added_row core_record) names (r - own) row

@@ -66,7 +66,7 @@ front_found t [] ys d k e = absurd (cc)
 front_found t (x ∷ xs) ys d k e = front_by d k (t x) (position_from t (d + 1) xs) (position_from t (d + 1) (xs ++ ys)) (front_found t xs ys (d + 1) k) e
 
 module _ (recs : List AsmRec) (a : ℕ) (rec : AsmRec) (last : suc a ≡ length recs) (here : slice_get recs a ≡ Some rec) where
-  -- a row of a type behind the first is no `<Module>`
+  -- a row of a type after the first is no `<Module>`
   module_by : (o : Option TypeDefRow) → (list_any (is_module_type 20) (listed o) || false) ≡ false
   module_by None = refl
   module_by (Some row) = refl

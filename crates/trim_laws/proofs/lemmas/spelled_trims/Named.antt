@@ -51,7 +51,7 @@ each_of P xs h k x e = h.each x (place_in xs k x e)
 type_tokens : (ns : List ℕ) → Every IsTypeToken ns → AreTypeTokens ns
 type_tokens ns h n c = h.each n c
 
--- the records of two crates that say the same of each element
+-- the records of two modules that say the same of each element
 spelled_every : {A : Type 0} (P : A → Type 0) (xs : List A) → Every P xs → spelled.Every P xs
 spelled_every P xs h = record { each = h.each }
 

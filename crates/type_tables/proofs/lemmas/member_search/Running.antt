@@ -27,7 +27,7 @@ pub grouped : (a b c : Bool) → (a && (b && c)) ≡ (a && b && c)
 grouped true b c = refl
 grouped false b c = refl
 
--- all that is behind a place
+-- all that is after a place
 pub all_behind : (n : ℕ) (ks : List ℕ) → take (length ks - n) (drop n ks) ≡ drop n ks
 all_behind n ks = take_all (length ks - n) (drop n ks) (let e = length-drop n ks in omega (arith, e))
 

@@ -39,7 +39,7 @@ rows_interfaces recs a rec args row groups are =
     (λ r. with_if args (r.class == token) (only_interface recs (good_type (token_type recs a rec r.interface))))
     ∙ with_each args (interface_of recs a rec token) rec.interface_impl
 
--- what a loop has put behind what was there, at its end
+-- what a loop has put after what was there, at its end
 pub all_put : {A B : Type 0} (f : A → List B) (old found all : List B) (xs : List A) (i : ℕ) → length xs ≤ i → found ++ flat_map f (drop i xs) ≡ old ++ flat_map f xs → flat_map f xs ≡ all
     → found ≡ old ++ all
 all_put {A = A} {B = B} f old found all xs i le e h =
