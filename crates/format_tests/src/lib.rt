@@ -1,10 +1,12 @@
-//! Tests of the readers of images, tables, signatures, attribute values, descriptors and records, of the image that is written, of
+//! Tests of the readers of images, tables, signatures, bodies, attribute values, descriptors and records, of the image that is written, of
 //! the core library, of values, and of what types and references name: values from outside, through public calls alone. They stand apart,
 //! since a crate with tests is proved a second time. Nothing goes in or comes out.
 #![tactic(auto)]
 
 #[cfg(test)]
 mod attributes;
+#[cfg(test)]
+mod bodies;
 #[cfg(test)]
 mod coded_indices;
 #[cfg(test)]

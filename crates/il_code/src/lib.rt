@@ -23,6 +23,3 @@ pub use reading::read_body;
 pub use rules::offender;
 pub use sizes::instr_size;
 pub use writing::write_body;
-
-#[cfg(test)]
-mod tests;

@@ -1,8 +1,8 @@
 ghost use Rattle.std.specs.Prelude.{◌<◌, ◌^◌, length};
 
-use super::*;
 use il_base::body_grammar::{BODY, FILTER, FLOAT, INSTRUCTION};
 use il_base::{Form, Handler, Instr, NoMemory, Operand};
+use il_code::{BodyError, offender, read_body, write_body};
 use std::test::Fail;
 
 /// The body of a program that writes a text: `ldstr 70000001`, `call 0a000001`, `ret`, and two bytes after it.
@@ -134,7 +134,7 @@ fn nops(rt: &HostRuntime, count: u32) -> Result<Vec<Instr>, NoMemory> {
 /// The first clause that doesn't keep the rules in 20 bytes of `nop`.
 fn judged(rt: &HostRuntime, all: &[Handler]) -> Result<Option<usize>, NoMemory> {
     let code = nops(rt, 20)?;
-    rules::offender(rt.alloc(), &code, 20, all)
+    offender(rt.alloc(), &code, 20, all)
 }
 
 #[test]
@@ -214,9 +214,6 @@ fn crossing_at_the_end(rt: &HostRuntime, count: u32) -> Result<Vec<Handler>, NoM
 fn many_clauses(rt: HostRuntime) -> Result<(), Fail> {
     let all = crossing_at_the_end(&rt, 100_000)?;
     let code = nops(&rt, 400_000)?;
-    assert_eq!(rt;
-        rules::offender(rt.alloc(), &code, 400_000, &all)?,
-        Some(99_998)
-    );
+    assert_eq!(rt; offender(rt.alloc(), &code, 400_000, &all)?, Some(99_998));
     Ok(())
 }
