@@ -1,5 +1,5 @@
 -- What holds of the core table, as tests on its types.
-use Rattle.std.specs.Prelude.{ℕ, zero, suc, ◌+◌, ◌-◌, ◌==◌, nat_eq, nat_le, nat_lt, Bool, true, false, not, ◌&&◌, ◌||◌, List, [], ◌∷◌, codes, slice_get, Option, Some, None, if◌then◌else◌}
+use Rattle.std.specs.Prelude.{ℕ, zero, suc, ◌+◌, ◌-◌, ◌==◌, nat_eq, nat_le, Bool, true, false, not, ◌&&◌, ◌||◌, List, [], ◌∷◌, codes, slice_get, Option, Some, None, if◌then◌else◌}
 use Rattle.std.specs.List.{list_any, list_all, starts_with, ends_with}
 use Rattle.std.specs.Cmp.Lexicographic.{pointwise}
 use Rattle.il_base.specs.declared.type_flags.TheConstants as type_flags

@@ -21,9 +21,6 @@ pub data IsWritten (m : Merge) (t : TypeId) : Type 0 where
   kept_type : (at : RowAt) (k : ℕ) → type_home (before m) t ≡ Some at → suc at.asm < length (before m) → new_row (kept_types (before m) m.kept) at ≡ Some k → IsWritten m t
   core_type : (at : RowAt) → type_home (before m) t ≡ Some at → suc at.asm ≡ length (before m) → Contains (type_refs (before m) (output m).mets) t → IsWritten m t
 
-abbrev pub AreWritten : Merge → List TypeId → Type 0
-AreWritten m ts = (t : TypeId) → Contains ts t → IsWritten m t
-
 -- what is met of inputs is kept
 abbrev pub KeepsMet : Merge → Met → Type 0
 KeepsMet m x =

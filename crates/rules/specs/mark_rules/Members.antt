@@ -182,7 +182,3 @@ members_by recs flags t =
     ++ flat_map (λ e. event_item recs e ∷ map (method_item recs) (event_accessors recs e)) (events_by recs flags t)
     ++ nested_by recs flags t
     ++ map (impl_item recs) (impls_by recs flags t)
-
--- whether kinds name a constructor
-abbrev pub names_constructors : ℕ → Bool
-names_constructors kinds = not (kinds % 8 == 0)
