@@ -1,6 +1,6 @@
 //! The bodies, with the offsets of their instructions as a file has them.
 
-use crate::build::{CLASS_C, EXCEPTION, OBJECT, ONE_LOCAL, TEXT_A, push_method};
+use crate::build::{CLASS_C, EXCEPTION, MISSING, OBJECT, ONE_LOCAL, TEXT_A, UNREAD, push_method};
 use il_base::world_model::AsmRec;
 use il_base::{Body, Form, Handler, Instr, NoMemory, Operand, Seq, opcode};
 use std::alloc::Global;
@@ -155,6 +155,28 @@ fn left(code: &mut Seq<Instr>) -> Result<(), NoMemory> {
     ret(code, 26)
 }
 
+/// `t = the handle of C; the address of t is taken; t is used`
+fn taken(code: &mut Seq<Instr>) -> Result<(), NoMemory> {
+    ldtoken(code, 0)?;
+    stloc(code, 5)?;
+    slot(code, 6, Form::LdLocA, opcode::LDLOCA_S, 0)?;
+    pop(code, 8)?;
+    ldloc(code, 9)?;
+    pop(code, 10)?;
+    ret(code, 11)
+}
+
+/// A call of a method whose parameter is of a type that isn't there, then `ldtoken` of one whose signature has no reading.
+fn named(code: &mut Seq<Instr>) -> Result<(), NoMemory> {
+    ldarg(code, 0)?;
+    token(code, 1, Form::Call, opcode::CALL, MISSING)?;
+    ldnull(code, 6)?;
+    token(code, 7, Form::LdToken, opcode::LDTOKEN, UNREAD)?;
+    pop(code, 12)?;
+    pop(code, 13)?;
+    ret(code, 14)
+}
+
 /// A body with one local.
 fn body_of(code: Seq<Instr>, handlers: Seq<Handler>) -> Body {
     Body {
@@ -214,10 +236,24 @@ fn push_left(rec: &mut AsmRec, alloc: Global) -> Result<(), NoMemory> {
     push_method(rec, alloc, b"Left", body_of(code, handlers))
 }
 
-/// The methods 0 to 3.
+fn push_taken(rec: &mut AsmRec, alloc: Global) -> Result<(), NoMemory> {
+    let mut code = Seq::new(alloc);
+    taken(&mut code)?;
+    push_method(rec, alloc, b"Taken", body_of(code, Seq::new(alloc)))
+}
+
+fn push_named(rec: &mut AsmRec, alloc: Global) -> Result<(), NoMemory> {
+    let mut code = Seq::new(alloc);
+    named(&mut code)?;
+    push_method(rec, alloc, b"Named", body_of(code, Seq::new(alloc)))
+}
+
+/// The methods 0 to 5.
 pub fn push_bodies(rec: &mut AsmRec, alloc: Global) -> Result<(), NoMemory> {
     push_caught(rec, alloc)?;
     push_branches(rec, alloc)?;
     push_switches(rec, alloc)?;
-    push_left(rec, alloc)
+    push_left(rec, alloc)?;
+    push_taken(rec, alloc)?;
+    push_named(rec, alloc)
 }

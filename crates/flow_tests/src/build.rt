@@ -5,10 +5,10 @@ ghost use Rattle.rules.specs.link_rules.Linked.{IsWorld};
 
 use crate::bodies::push_bodies;
 use il_base::world_model::{
-    AsmRec, AssemblyRefRow, AssemblyRow, Known, MemberRefRow, MemberSig, MethodDefRow,
+    AsmRec, AssemblyRefRow, AssemblyRow, BadKind, Known, MemberRefRow, MemberSig, MethodDefRow,
     StandAloneSigRow, TypeDefRow, TypeRefRow, UserText, World,
 };
-use il_base::{Body, MethodSig, NoMemory, Seq, Sig, Text, element};
+use il_base::{Body, MethodSig, NoMemory, Seq, Sig, Text, element, outside};
 use resolver::link;
 use std::alloc::Global;
 
@@ -20,6 +20,10 @@ pub const CLASS_C: u32 = 0x0200_0003;
 pub const EXCEPTION: u32 = 0x0a00_0001;
 /// The signature of one local.
 pub const ONE_LOCAL: u32 = 0x1100_0001;
+/// The method after those of `bodies`, whose parameter is of a type that isn't there.
+pub const MISSING: u32 = 0x0600_0007;
+/// The last method, whose signature has no reading.
+pub const UNREAD: u32 = 0x0600_0008;
 /// The text `A`.
 pub const TEXT_A: u32 = 0x7000_0001;
 
@@ -166,6 +170,34 @@ fn push_text(rec: &mut AsmRec, alloc: Global) -> Result<(), NoMemory> {
     })
 }
 
+/// A static method.
+fn push_row(
+    rec: &mut AsmRec,
+    alloc: Global,
+    name: &[u8],
+    signature: Known<MethodSig>,
+    body: Option<Known<Body>>,
+) -> Result<(), NoMemory> {
+    rec.method_def.push(MethodDefRow {
+        rva: 0x2050,
+        impl_flags: 0,
+        flags: 0x16,
+        name: text(alloc, name)?,
+        signature,
+        param_list_first: 1,
+        param_list_end: 1,
+        body,
+        bad_at: 0,
+    })
+}
+
+/// The signature of a static method of one parameter that returns nothing.
+fn of_one(alloc: Global, param: Sig) -> Result<Known<MethodSig>, NoMemory> {
+    let mut params = Seq::new(alloc);
+    params.push(param)?;
+    Ok(Known::Good(signature(false, params)))
+}
+
 /// A static method of one parameter, an object.
 pub fn push_method(
     rec: &mut AsmRec,
@@ -173,34 +205,42 @@ pub fn push_method(
     name: &[u8],
     body: Body,
 ) -> Result<(), NoMemory> {
-    let mut params = Seq::new(alloc);
-    params.push(Sig::Prim(element::OBJECT))?;
-    rec.method_def.push(MethodDefRow {
-        rva: 0x2050,
-        impl_flags: 0,
-        flags: 0x16,
-        name: text(alloc, name)?,
-        signature: Known::Good(signature(false, params)),
-        param_list_first: 1,
-        param_list_end: 1,
-        body: Some(Known::Good(body)),
-        bad_at: 0,
-    })
+    let signature = of_one(alloc, Sig::Prim(element::OBJECT))?;
+    push_row(rec, alloc, name, signature, Some(Known::Good(body)))
 }
 
-/// `class P` with the methods of `bodies`, and `class C`.
+/// The methods without a body.
+fn push_bodiless(rec: &mut AsmRec, alloc: Global) -> Result<(), NoMemory> {
+    let nothing = Sig::Named {
+        value: false,
+        token: 0x0100_0003,
+    };
+    let signature = of_one(alloc, nothing)?;
+    push_row(rec, alloc, b"Missing", signature, None)?;
+    push_row(
+        rec,
+        alloc,
+        b"Unread",
+        Known::Bad(BadKind::Outside(outside::SIGNATURE)),
+        None,
+    )
+}
+
+/// `class P` with the methods of `bodies` and two without a body, and `class C`.
 fn fill(rec: &mut AsmRec, alloc: Global) -> Result<(), NoMemory> {
     push_assembly(rec, alloc)?;
     push_reference(rec, alloc)?;
     mention(rec, alloc, b"Object")?;
     mention(rec, alloc, b"Exception")?;
+    mention(rec, alloc, b"Nothing")?;
     class(rec, alloc, b"<Module>", 0, 1, 1)?;
-    class(rec, alloc, b"P", OBJECT, 1, 5)?;
-    class(rec, alloc, b"C", OBJECT, 5, 5)?;
+    class(rec, alloc, b"P", OBJECT, 1, 9)?;
+    class(rec, alloc, b"C", OBJECT, 9, 9)?;
     push_constructor(rec, alloc)?;
     push_local(rec, alloc)?;
     push_text(rec, alloc)?;
-    push_bodies(rec, alloc)
+    push_bodies(rec, alloc)?;
+    push_bodiless(rec, alloc)
 }
 
 /// Appends an assembly to others, by what fills its record.

@@ -171,3 +171,39 @@ fn through_a_finally_handler(rt: HostRuntime) -> Result<(), Fail> {
     assert_eq!(rt; wrong, None);
     Ok(())
 }
+
+/// A local whose address is taken has a value of which nothing is known too, before that as well; an argument beside it doesn't.
+#[test]
+fn where_an_address_is_taken(rt: HostRuntime) -> Result<(), Fail> {
+    let alloc = rt.alloc();
+    let world = world(alloc)?;
+    let rows: &[Row<'_>] = &[
+        (0, 0, &[Known::Argument]),
+        (0, 1, &[Known::Null, Known::Opaque]),
+        (6, 1, &[Known::Handle, Known::Opaque]),
+        (8, 2, &[Known::Opaque]),
+        (10, 2, &[Known::Handle, Known::Opaque]),
+        (11, 0, &[Known::Argument]),
+    ];
+    let wrong = wrong_in(alloc, &world, 4, rows)?;
+    assert_eq!(rt; wrong, None);
+    Ok(())
+}
+
+/// A call counts by its method's signature, also where that names a type that isn't there. Nothing goes on after `ldtoken` of a
+/// method whose signature has no reading.
+#[test]
+fn by_the_signature_of_a_method(rt: HostRuntime) -> Result<(), Fail> {
+    let alloc = rt.alloc();
+    let world = world(alloc)?;
+    let rows: &[Row<'_>] = &[
+        (1, 2, &[Known::Argument]),
+        (6, 0, &[Known::Argument]),
+        (7, 2, &[Known::Null]),
+        (12, 0, &[]),
+        (12, 2, &[]),
+    ];
+    let wrong = wrong_in(alloc, &world, 5, rows)?;
+    assert_eq!(rt; wrong, None);
+    Ok(())
+}

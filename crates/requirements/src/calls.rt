@@ -106,7 +106,7 @@ fn put_call(
 {
     let annotated = body.annotated;
     let marker = annotated.marker;
-    match called_in(alloc, marker.tables.world, used) {
+    match called_in(marker.tables.world, used) {
         Err(error) => Err(error),
         Ok(None) => Ok(()),
         Ok(Some(c)) => put_called(alloc, body, offset, used.method, c, sites),
@@ -127,7 +127,7 @@ fn put_creation(
 {
     let annotated = body.annotated;
     let marker = annotated.marker;
-    match called_in(alloc, marker.tables.world, used) {
+    match called_in(marker.tables.world, used) {
         Err(error) => Err(error),
         Ok(None) => Ok(()),
         Ok(Some(c)) => put_arguments(alloc, body, offset, used.method, c, sites),

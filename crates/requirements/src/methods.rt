@@ -106,7 +106,7 @@ pub fn sites(
 {
     let marker = annotated.marker;
     let world = marker.tables.world;
-    let method = match method_of(alloc, world, m) {
+    let method = match method_of(world, m) {
         Err(error) => return Err(error),
         Ok(None) => return Err(NoMemory),
         Ok(Some(method)) => method,

@@ -1,3 +1,4 @@
 pub mod Told
 pub mod Slots
+pub mod Flags
 pub mod Unreferenced

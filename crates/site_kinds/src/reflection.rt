@@ -6,16 +6,14 @@ ghost use Rattle.rules.specs.type_rules.Rows.{type_row_at};
 ghost use Rattle.value_flow.specs.flow_rules.Sources.{is_called};
 ghost use Rattle.mark_parts.specs.mark_tables.Assemblies.{all_of};
 ghost use Rattle.site_kinds.specs.Known.{IsAnnotated};
-ghost use Rattle.rules.specs.declared.link_rules.member_type.MethodType.{MethodType};
-ghost use Rattle.site_kinds.specs.Signatures.{any_of};
 ghost use Rattle.site_kinds.specs.site_rules.Kinds.{is_system_class, is_core_class, is_of_class, is_core_member, is_name_search, is_type_search, searched_kinds, is_creation, has_one_parameter, made_kinds, method_kinds};
 
 use crate::annotated::own_method_kinds;
+use crate::annotation_flags::types::signature_at;
 use crate::known::Annotated;
-use crate::texts::method_type;
 use il_base::world_model::{AsmRec, TypeDefRow};
 use il_base::{MethodId, NoMemory};
-use rules::link_rules::{MethodType, RowAt};
+use rules::link_rules::RowAt;
 use rules::mark_rules::member_kinds;
 use std::alloc::Global;
 use type_tables::member_search::linked::assembly_at;
@@ -149,39 +147,27 @@ pub fn is_creation(annotated: &Annotated<'_>, m: MethodId) -> Result<bool, NoMem
     is_core_member(annotated, m, b"Activator", b"CreateInstance")
 }
 
-fn is_one_parameter(ty: &Option<MethodType>) -> bool
-    ensures { result ≡ any_of (λ (t : MethodType). t.generic == 1) ty.now }
-{
-    match ty {
-        None => false,
-        Some(ty) => ty.generic == 1,
-    }
-}
-
 /// Whether a method has one generic parameter.
 #[tactic(auto, unfolding(crate::specs::site_rules::Kinds::has_one_parameter))]
-fn has_one_parameter(
-    alloc: Global,
-    annotated: &Annotated<'_>,
-    m: MethodId,
-) -> Result<bool, NoMemory>
+fn has_one_parameter(annotated: &Annotated<'_>, m: MethodId) -> Result<bool, NoMemory>
     requires { IsAnnotated annotated.now }
     ensures { IfOk result (λ has. has ≡ has_one_parameter (all_of annotated.now.marker.now) m) }
 {
-    let ty = method_type(alloc, annotated, m)?;
-    let has = is_one_parameter(&ty);
-    drop(ty);
-    Ok(has)
+    let marker = annotated.marker;
+    let recs = marker.tables.world.recs.as_slice();
+    match method_home(recs, m) {
+        Err(error) => Err(error),
+        Ok(None) => Ok(false),
+        Ok(Some(at)) => match signature_at(recs, at) {
+            None => Ok(false),
+            Some(sig) => Ok(sig.generic == 1),
+        },
+    }
 }
 
 /// What `Activator.CreateInstance<T>` asks for of T; 0 for any other method.
 #[tactic(auto, unfolding(crate::specs::site_rules::Kinds::made_kinds))]
-fn made_kinds(
-    alloc: Global,
-    annotated: &Annotated<'_>,
-    m: MethodId,
-    k: u32,
-) -> Result<u32, NoMemory>
+fn made_kinds(annotated: &Annotated<'_>, m: MethodId, k: u32) -> Result<u32, NoMemory>
     requires { IsAnnotated annotated.now }
     ensures { IfOk result (λ kinds. kinds ≡ made_kinds (all_of annotated.now.marker.now) m k) }
 {
@@ -192,7 +178,7 @@ fn made_kinds(
     if !creates {
         return Ok(0);
     }
-    let one = has_one_parameter(alloc, annotated, m)?;
+    let one = has_one_parameter(annotated, m)?;
     if !one {
         return Ok(0);
     }
@@ -210,6 +196,6 @@ pub fn method_kinds(
     ensures { IfOk result (λ kinds. kinds ≡ method_kinds (all_of annotated.now.marker.now) m k) }
 {
     let own = own_method_kinds(alloc, annotated, m, k)?;
-    let made = made_kinds(alloc, annotated, m, k)?;
+    let made = made_kinds(annotated, m, k)?;
     Ok(own | made)
 }

@@ -2,26 +2,28 @@
 
 ghost use Rattle.std.specs.Prelude.{◌≡◌, slice_get, IfOk};
 ghost use Rattle.std.specs.List.{list_any};
+ghost use Rattle.std.specs.Option.{option_and_then};
 ghost use Rattle.il_base.specs.world_model.Worlds.{known_then, sig_expr};
 ghost use Rattle.rules.specs.link_rules.Signatures.{names_at};
 ghost use Rattle.rules.specs.link_rules.Cycles.{listed};
+ghost use Rattle.rules.specs.type_rules.Slots.{method_home};
 ghost use Rattle.rules.specs.mark_rules.Annotations.{good_expr};
 ghost use Rattle.mark_parts.specs.mark_tables.Assemblies.{recs_of, place_of, rec_of, all_of, IsAssembly};
 ghost use Rattle.site_kinds.specs.Known.{IsAnnotated};
-ghost use Rattle.site_kinds.specs.site_rules.Fails.{is_string, takes_string, parameter_type, return_type, field_is_string, is_text_slot};
-ghost use Rattle.site_kinds.specs.Signatures.{good_signature, signature_of, any_of};
-ghost use Rattle.rules.specs.declared.link_rules.member_type.MethodType.{MethodType};
+ghost use Rattle.site_kinds.specs.site_rules.Fails.{is_string, takes_string, field_is_string, is_text_slot};
+ghost use Rattle.site_kinds.specs.Signatures.{parameter_slot, return_slot, slot_type, any_of};
 
 use crate::annotated::field_home;
+use crate::annotation_flags::types::{parameter_type, return_type};
 use crate::known::Annotated;
 use crate::site_rules::Target;
 use il_base::world_model::{FieldRow, Known, TypeExpr};
 use il_base::{FieldId, MethodId, NoMemory, element};
 use mark_parts::mark_tables::assembly::Assembly;
-use rules::link_rules::{MethodType, RowAt};
+use rules::link_rules::RowAt;
 use std::alloc::Global;
 use type_tables::member_search::method_types::open_type;
-use type_tables::methods::{method_home, method_type_at};
+use type_tables::methods::method_home;
 
 /// Whether a type is `string`, modifiers aside.
 #[tactic(auto, unfolding(crate::specs::site_rules::Fails::is_string))]
@@ -40,44 +42,47 @@ fn is_string(e: &TypeExpr) -> bool
     }
 }
 
-/// The signature of a method; None where it has no reading, or there is no such method.
-pub(crate) fn method_type(
+/// The type of a parameter of a method, counted from 0 without `this`, if it is there.
+fn parameter_of(
     alloc: Global,
     annotated: &Annotated<'_>,
     m: MethodId,
-) -> Result<Option<MethodType>, NoMemory>
+    n: u32,
+) -> Result<Option<TypeExpr>, NoMemory>
     requires { IsAnnotated annotated.now }
-    ensures { IfOk result (λ ty. ty ≡ signature_of (all_of annotated.now.marker.now) m) }
+    ensures { IfOk result (λ ty. ty ≡ option_and_then (λ at. slot_type (all_of annotated.now.marker.now) at (parameter_slot n)) (method_home (all_of annotated.now.marker.now) m)) }
 {
     let marker = annotated.marker;
-    let at = match method_home(marker.tables.world.recs.as_slice(), m) {
-        Err(error) => return Err(error),
-        Ok(None) => return Ok(None),
-        Ok(Some(at)) => at,
-    };
-    match method_type_at(alloc, &marker.tables, at) {
+    match method_home(marker.tables.world.recs.as_slice(), m) {
         Err(error) => Err(error),
         Ok(None) => Ok(None),
-        Ok(Some(Known::Bad(_))) => Ok(None),
-        Ok(Some(Known::Good(ty))) => Ok(Some(ty)),
+        Ok(Some(at)) => parameter_type(alloc, marker, at, n),
     }
 }
 
-fn parameter_is_string(ty: &MethodType, n: u32) -> bool
-    ensures { result ≡ list_any is_string (parameter_type n ty.now) }
+/// The type of what a method returns, if it is there.
+fn return_of(
+    alloc: Global,
+    annotated: &Annotated<'_>,
+    m: MethodId,
+) -> Result<Option<TypeExpr>, NoMemory>
+    requires { IsAnnotated annotated.now }
+    ensures { IfOk result (λ ty. ty ≡ option_and_then (λ at. slot_type (all_of annotated.now.marker.now) at return_slot) (method_home (all_of annotated.now.marker.now) m)) }
 {
-    match ty.params.get(n as usize) {
-        None => false,
-        Some(param) => is_string(param),
+    let marker = annotated.marker;
+    match method_home(marker.tables.world.recs.as_slice(), m) {
+        Err(error) => Err(error),
+        Ok(None) => Ok(None),
+        Ok(Some(at)) => return_type(alloc, marker, at),
     }
 }
 
-fn any_parameter(ty: &Option<MethodType>, n: u32) -> bool
-    ensures { result ≡ any_of (λ (t : MethodType). list_any is_string (parameter_type n t)) ty.now }
+fn is_text(ty: &Option<TypeExpr>) -> bool
+    ensures { result ≡ any_of is_string ty.now }
 {
     match ty {
         None => false,
-        Some(ty) => parameter_is_string(ty, n),
+        Some(ty) => is_string(ty),
     }
 }
 
@@ -89,36 +94,21 @@ fn takes_text(
     n: u32,
 ) -> Result<bool, NoMemory>
     requires { IsAnnotated annotated.now }
-    ensures { IfOk result (λ is. is ≡ takes_string (all_of annotated.now.marker.now) m (parameter_type n)) }
+    ensures { IfOk result (λ is. is ≡ takes_string (all_of annotated.now.marker.now) m (parameter_slot n)) }
 {
-    let ty = method_type(alloc, annotated, m)?;
-    let is = any_parameter(&ty, n);
+    let ty = parameter_of(alloc, annotated, m, n)?;
+    let is = is_text(&ty);
     drop(ty);
     Ok(is)
-}
-
-fn return_is_string(ty: &MethodType) -> bool
-    ensures { result ≡ list_any is_string (return_type ty.now) }
-{
-    is_string(&ty.ret)
-}
-
-fn any_return(ty: &Option<MethodType>) -> bool
-    ensures { result ≡ any_of (λ (t : MethodType). list_any is_string (return_type t)) ty.now }
-{
-    match ty {
-        None => false,
-        Some(ty) => return_is_string(ty),
-    }
 }
 
 /// Whether a method returns a text.
 fn returns_text(alloc: Global, annotated: &Annotated<'_>, m: MethodId) -> Result<bool, NoMemory>
     requires { IsAnnotated annotated.now }
-    ensures { IfOk result (λ is. is ≡ takes_string (all_of annotated.now.marker.now) m return_type) }
+    ensures { IfOk result (λ is. is ≡ takes_string (all_of annotated.now.marker.now) m return_slot) }
 {
-    let ty = method_type(alloc, annotated, m)?;
-    let is = any_return(&ty);
+    let ty = return_of(alloc, annotated, m)?;
+    let is = is_text(&ty);
     drop(ty);
     Ok(is)
 }

@@ -151,7 +151,7 @@ impl<'g> Flow<'g> {
         ensures { IsFlowOf types.now.recs m graph.now result }
     {
         let world = types.world();
-        let method = match method_of(alloc, world, m) {
+        let method = match method_of(world, m) {
             Err(_) => return Err(FlowError::NoMemory),
             Ok(None) => return Err(FlowError::NoMemory),
             Ok(Some(method)) => method,

@@ -185,7 +185,7 @@ fn returned(m: MethodId, called: Option<Called>) -> Doing
     }
 }
 
-fn call_move(alloc: Global, m: &Method<'_>, n: u16, u: &MethodUse) -> Result<Doing, NoMemory>
+fn call_move(m: &Method<'_>, n: u16, u: &MethodUse) -> Result<Doing, NoMemory>
     requires { IsHere m.now }
     ensures { IfOk result (λ d. move_in d ≡ call_move m.now.world.now.recs n u.now) }
 {
@@ -198,7 +198,7 @@ fn call_move(alloc: Global, m: &Method<'_>, n: u16, u: &MethodUse) -> Result<Doi
     if n == opcode::CALL && text {
         return Ok(Doing::Turn(Turning::FromText));
     }
-    match called_in(alloc, m.world, u) {
+    match called_in(m.world, u) {
         Err(error) => Err(error),
         Ok(called) => Ok(returned(u.method, called)),
     }
@@ -225,18 +225,13 @@ fn named_field<'w>(m: &Method<'w>, operand: &Operand) -> Option<&'w FieldUse>
     }
 }
 
-fn used_move(
-    alloc: Global,
-    m: &Method<'_>,
-    n: u16,
-    u: Option<&MethodUse>,
-) -> Result<Doing, NoMemory>
+fn used_move(m: &Method<'_>, n: u16, u: Option<&MethodUse>) -> Result<Doing, NoMemory>
     requires { IsHere m.now }
     ensures { IfOk result (λ d. move_in d ≡ used_move m.now.world.now.recs n (option_copied u.entry)) }
 {
     match u {
         None => Ok(Doing::Nothing),
-        Some(u) => call_move(alloc, m, n, u),
+        Some(u) => call_move(m, n, u),
     }
 }
 
@@ -310,7 +305,7 @@ fn doing_by(
         Form::LdStr => text_of(alloc, m, operand),
         Form::Dup => Ok(Doing::Twice),
         Form::Cast => Ok(Doing::Back),
-        Form::Call => used_move(alloc, m, n, named_use(m, operand)),
+        Form::Call => used_move(m, n, named_use(m, operand)),
         Form::NewObj => Ok(Doing::Make(Source::Opaque)),
         Form::Field => Ok(field_move(n, named_field(m, operand))),
         Form::LdToken => token_move(m, owner, token_in(operand)),

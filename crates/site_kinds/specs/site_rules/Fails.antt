@@ -1,24 +1,27 @@
 -- When a source doesn't have what a site asks for: kinds of members of the type that it stands for, or a known name.
-use Rattle.std.specs.Prelude.{ℕ, List, [], ◌∷◌, ◌==◌, ◌&&◌, Bool, true, false, not, bit_and, slice_get}
+use Rattle.std.specs.Prelude.{ℕ, List, ◌==◌, ◌&&◌, Bool, true, false, not, bit_and, Option, slice_get}
 use Rattle.std.specs.List.{list_any}
+use Rattle.std.specs.Option.{option_and_then}
 use Rattle.il_base.specs.declared.ids.MethodId.{MethodId}
 use Rattle.il_base.specs.declared.element.TheConstants.{STRING}
+use Rattle.il_base.specs.declared.sig.Sig.{Sig}
+use Rattle.il_base.specs.declared.sig.MethodSig.{MethodSig}
 use Rattle.il_base.specs.declared.world_model.expr.TypeExpr.{TypeExpr, fold-TypeExpr}
 use Rattle.il_base.specs.declared.world_model.expr.TypeExpr.TheOpen.{TypeExpr-F}
 use Rattle.il_base.specs.declared.world_model.members.FieldRow.{FieldRow}
 use Rattle.il_base.specs.declared.world_model.record.AsmRec.{AsmRec}
 use Rattle.il_base.specs.world_model.Worlds.{known_then, sig_expr}
 use Rattle.rules.specs.declared.link_rules.row_at.RowAt.{RowAt}
-use Rattle.rules.specs.declared.link_rules.member_type.MethodType.{MethodType}
 use Rattle.rules.specs.link_rules.Signatures.{names_at}
 use Rattle.rules.specs.link_rules.Cycles.{listed}
-use Rattle.rules.specs.type_rules.Slots.{method_home, type_of_row}
+use Rattle.rules.specs.type_rules.Slots.{method_home}
 use Rattle.rules.specs.type_rules.Rows.{rec_at}
-use Rattle.rules.specs.mark_rules.Annotations.{good_type_of_row, good_expr}
+use Rattle.rules.specs.mark_rules.Annotations.{good_expr}
 use Rattle.value_flow.specs.declared.flow_rules.source.Source.{Source}
 use Rattle.value_flow.specs.declared.flow_rules.source.Source.TheVariants as source
 use Rattle.site_kinds.specs.declared.site_rules.target.Target.{Target}
 use Rattle.site_kinds.specs.declared.site_rules.target.Target.TheVariants as target
+use Rattle.site_kinds.specs.Signatures.{parameter_slot, return_slot, slot_type, any_of}
 use Rattle.site_kinds.specs.site_rules.Kinds.{field_home, promised}
 
 -- ---- slots of texts
@@ -32,15 +35,8 @@ string_layer _ = false
 unfoldable pub is_string : TypeExpr → Bool
 is_string = fold-TypeExpr Bool string_layer
 
-abbrev pub takes_string : List AsmRec → MethodId → (MethodType → List TypeExpr) → Bool
-takes_string recs m slots =
-    list_any (λ (at : RowAt). list_any (λ (t : MethodType). list_any is_string (slots t)) (good_type_of_row (type_of_row recs at))) (listed (method_home recs m))
-
-abbrev pub parameter_type : ℕ → MethodType → List TypeExpr
-parameter_type n t = listed (slice_get t.params n)
-
-abbrev pub return_type : MethodType → List TypeExpr
-return_type t = t.ret ∷ []
+abbrev pub takes_string : List AsmRec → MethodId → (MethodSig → Option Sig) → Bool
+takes_string recs m slot = any_of is_string (option_and_then (λ at. slot_type recs at slot) (method_home recs m))
 
 abbrev pub field_is_string : List AsmRec → RowAt → AsmRec → Bool
 field_is_string recs at rec =
@@ -48,8 +44,8 @@ field_is_string recs at rec =
 
 -- whether a target is a slot of a text: a known text there is a known name
 unfoldable pub is_text_slot : List AsmRec → Target → Bool
-is_text_slot recs (target.Param m n) = takes_string recs m (parameter_type n)
-is_text_slot recs (target.Return m) = takes_string recs m return_type
+is_text_slot recs (target.Param m n) = takes_string recs m (parameter_slot n)
+is_text_slot recs (target.Return m) = takes_string recs m return_slot
 is_text_slot recs (target.Field f) =
     list_any (λ (at : RowAt). list_any (field_is_string recs at) (listed (rec_at recs at))) (listed (field_home recs f))
 is_text_slot recs _ = false

@@ -1,23 +1,26 @@
 -- Which kinds of members are promised of what a source stands for, and which kinds the members of reflection ask for.
 use Rattle.std.specs.Prelude.{ℕ, suc, List, length, codes, Option, Some, None, ◌==◌, ◌&&◌, ◌||◌, Bool, bit_or, if◌then◌else◌}
 use Rattle.std.specs.List.{list_any}
+use Rattle.std.specs.Option.{option_and_then}
 use Rattle.il_base.specs.declared.ids.TypeId.{TypeId}
 use Rattle.il_base.specs.declared.ids.MethodId.{MethodId}
 use Rattle.il_base.specs.declared.ids.FieldId.{FieldId}
+use Rattle.il_base.specs.declared.sig.MethodSig.{MethodSig}
 use Rattle.il_base.specs.declared.world_model.types.TypeDefRow.{TypeDefRow}
 use Rattle.il_base.specs.declared.world_model.record.AsmRec.{AsmRec}
 use Rattle.il_base.specs.world_model.Core.{same_name}
 use Rattle.rules.specs.declared.link_rules.row_at.RowAt.{RowAt}
-use Rattle.rules.specs.declared.link_rules.member_type.MethodType.{MethodType}
 use Rattle.rules.specs.link_rules.Members.{home_from, type_home, fields_in}
 use Rattle.rules.specs.link_rules.Cycles.{listed}
-use Rattle.rules.specs.type_rules.Slots.{method_home, type_of_method, type_of_row}
+use Rattle.rules.specs.type_rules.Slots.{method_home, type_of_method}
 use Rattle.rules.specs.type_rules.Rows.{type_row_at}
-use Rattle.rules.specs.mark_rules.Annotations.{Holder, parameter, return_value, field, type_parameter, method_parameter, flags_of, good_type_of_row}
+use Rattle.rules.specs.mark_rules.Annotations.{Holder, parameter, return_value, field, type_parameter, method_parameter}
 use Rattle.rules.specs.declared.mark_rules.member_kinds.TheConstants as kind
 use Rattle.value_flow.specs.declared.flow_rules.source.Source.{Source}
 use Rattle.value_flow.specs.declared.flow_rules.source.Source.TheVariants as source
 use Rattle.value_flow.specs.flow_rules.Sources.{is_called}
+use Rattle.site_kinds.specs.Signatures.{signature_at, any_of}
+use Rattle.site_kinds.specs.annotation_flags.Flags.{flags_of}
 
 -- ---- annotations
 
@@ -90,8 +93,7 @@ is_creation recs m = is_core_member recs m (codes "Activator") (codes "CreateIns
 
 -- a method with one generic parameter
 unfoldable pub has_one_parameter : List AsmRec → MethodId → Bool
-has_one_parameter recs m =
-    list_any (λ (at : RowAt). list_any (λ (t : MethodType). t.generic == 1) (good_type_of_row (type_of_row recs at))) (listed (method_home recs m))
+has_one_parameter recs m = any_of (λ (s : MethodSig). s.generic == 1) (option_and_then (signature_at recs) (method_home recs m))
 
 -- what `Activator.CreateInstance<T>` asks for of T; 0 for any other method
 unfoldable pub made_kinds : List AsmRec → MethodId → ℕ → ℕ

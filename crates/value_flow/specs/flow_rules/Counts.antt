@@ -17,16 +17,27 @@ use Rattle.rules.specs.mark_rules.Bodies.{is_field_token, is_method_token, is_te
 use Rattle.value_flow.specs.declared.flow_rules.called.Called.{Called}
 use Rattle.value_flow.specs.flow_rules.Methods.{called_in}
 
--- ---- operands that name something
+-- ---- what an operand names
 
 abbrev pub good_one : {A : Type 0} → Known A → Option A
 good_one (Good x) = Some x
 good_one (Bad why) = None
 
+-- the signature of the method that a token names; None where it names none, or the signature has no reading
+abbrev pub called_token : List AsmRec → ℕ → AsmRec → ℕ → Option Called
+called_token recs a rec token = option_and_then (called_in recs) (good_one (method_named recs a rec token))
+
+abbrev pub called_operand : List AsmRec → ℕ → AsmRec → Operand → Option Called
+called_operand recs a rec (operand.Token token) = called_token recs a rec token
+called_operand recs a rec _ = None
+
+-- ---- operands that name something
+
+-- what `ldtoken` takes (III.4.17): a field, a method whose signature has a reading, or a type
 abbrev pub is_good_handle : List AsmRec → ℕ → AsmRec → ℕ → Bool
 is_good_handle recs a rec token =
     if is_field_token rec token then is_some (good_one (field_named recs a rec token))
-    else if is_method_token token then is_some (good_one (method_named recs a rec token))
+    else if is_method_token token then is_some (called_token recs a rec token)
     else is_some (good_one (token_type recs a rec token))
 
 -- whether the token of an instruction names what its form takes
@@ -41,13 +52,6 @@ is_good_token recs a rec _ token = is_some (good_one (token_type recs a rec toke
 abbrev pub is_good_operand : List AsmRec → ℕ → AsmRec → Form → Operand → Bool
 is_good_operand recs a rec f (operand.Token token) = is_good_token recs a rec f token
 is_good_operand recs a rec f _ = true
-
--- ---- the method that a call or `newobj` names
-
--- None where its signature has no reading
-abbrev pub called_operand : List AsmRec → ℕ → AsmRec → Operand → Option Called
-called_operand recs a rec (operand.Token token) = option_and_then (called_in recs) (good_one (method_named recs a rec token))
-called_operand recs a rec _ = None
 
 -- ---- counts: values taken, and values put there after that
 

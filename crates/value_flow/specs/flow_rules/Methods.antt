@@ -1,11 +1,13 @@
 -- A method with a body, as the evaluation stack sees it (II.23.2.1, II.23.2.6, II.25.4).
-use Rattle.std.specs.Prelude.{ℕ, List, [], ◌∷◌, length, Option, Some, None, slice_get, ◌==◌, Bool, true, false, not, if◌then◌else◌}
+use Rattle.std.specs.Prelude.{ℕ, List, length, Option, Some, None, slice_get, ◌==◌, Bool, false, not, if◌then◌else◌}
 use Rattle.std.specs.Option.{option_and_then, option_map}
 use Rattle.il_base.specs.declared.ids.MethodId.{MethodId}
 use Rattle.il_base.specs.declared.body.Body.{Body}
-use Rattle.il_base.specs.declared.sig.Sig.{Sig}
+use Rattle.il_base.specs.declared.sig.Sig.{Sig, fold-Sig}
+use Rattle.il_base.specs.declared.sig.Sig.TheOpen.{Sig-F}
+use Rattle.il_base.specs.declared.sig.MethodSig.{MethodSig}
 use Rattle.il_base.specs.declared.element.TheConstants.{VOID}
-use Rattle.il_base.specs.declared.table.TheConstants.{STAND_ALONE_SIG}
+use Rattle.il_base.specs.declared.table.TheConstants.{STAND_ALONE_SIG, TYPE_SPEC}
 use Rattle.il_base.specs.declared.world_model.known.Known.{Known}
 use Rattle.il_base.specs.declared.world_model.known.Known.TheVariants.{Good, Bad}
 use Rattle.il_base.specs.declared.world_model.expr.TypeExpr.{TypeExpr, fold-TypeExpr}
@@ -14,10 +16,10 @@ use Rattle.il_base.specs.declared.world_model.expr.MethodUse.{MethodUse}
 use Rattle.il_base.specs.declared.world_model.members.MethodDefRow.{MethodDefRow}
 use Rattle.il_base.specs.declared.world_model.members.StandAloneSigRow.{StandAloneSigRow}
 use Rattle.il_base.specs.declared.world_model.record.AsmRec.{AsmRec}
-use Rattle.il_base.specs.world_model.Tokens.{index_in}
+use Rattle.il_base.specs.world_model.Tokens.{table_of, index_in}
 use Rattle.rules.specs.declared.link_rules.row_at.RowAt.{RowAt}
-use Rattle.rules.specs.declared.link_rules.member_type.MethodType.{MethodType}
-use Rattle.rules.specs.type_rules.Slots.{method_home, type_of_row}
+use Rattle.rules.specs.link_rules.Signatures.{token_type}
+use Rattle.rules.specs.type_rules.Slots.{method_home}
 use Rattle.rules.specs.type_rules.Rows.{rec_at}
 use Rattle.value_flow.specs.declared.flow_rules.called.Called.{Called}
 
@@ -32,17 +34,38 @@ void_layer _ = false
 unfoldable pub is_void : TypeExpr → Bool
 is_void = fold-TypeExpr Bool void_layer
 
-abbrev pub called_of : MethodType → Called
-called_of m = record { this = m.this; params = length m.params; returns = not (is_void m.ret) }
+abbrev pub is_void_named : Known TypeExpr → Bool
+is_void_named (Good e) = is_void e
+is_void_named (Bad why) = false
 
-abbrev pub called_by : Option (Known MethodType) → Option Called
-called_by None = None
-called_by (Some (Good m)) = Some (called_of m)
-called_by (Some (Bad why)) = None
+-- whether a TypeDef or TypeRef token of an assembly names `void`; a TypeSpec token names nothing in a signature
+abbrev pub names_void : List AsmRec → ℕ → AsmRec → ℕ → Bool
+names_void recs a rec token = if table_of token == TYPE_SPEC then false else is_void_named (token_type recs a rec token)
 
--- a method's own signature; None where it has no reading
+abbrev pub void_sig_layer : List AsmRec → ℕ → AsmRec → Sig-F Bool → Bool
+void_sig_layer recs a rec (Sig-F.Prim n) = n == VOID
+void_sig_layer recs a rec (Sig-F.Named value token) = names_void recs a rec token
+void_sig_layer recs a rec (Sig-F.Mod required token x) = x
+void_sig_layer recs a rec (Sig-F.Pinned x) = x
+void_sig_layer recs a rec _ = false
+
+-- whether a signature of an assembly is that of `void`, modifiers aside; a type that isn't there isn't `void`
+unfoldable pub is_void_sig : List AsmRec → ℕ → AsmRec → Sig → Bool
+is_void_sig recs a rec = fold-Sig Bool (void_sig_layer recs a rec)
+
+abbrev pub called_of : List AsmRec → ℕ → AsmRec → MethodSig → Called
+called_of recs a rec s = record { this = s.this; params = length s.params; returns = not (is_void_sig recs a rec s.ret) }
+
+abbrev pub called_by : List AsmRec → ℕ → AsmRec → Known MethodSig → Option Called
+called_by recs a rec (Good s) = Some (called_of recs a rec s)
+called_by recs a rec (Bad why) = None
+
+abbrev pub called_row : List AsmRec → RowAt → AsmRec → Option Called
+called_row recs at rec = option_and_then (λ (m : MethodDefRow). called_by recs at.asm rec m.signature) (slice_get rec.method_def at.row)
+
+-- a method's own signature, whether the types that it names are there or not; None where it has no reading
 unfoldable pub called_at : List AsmRec → RowAt → Option Called
-called_at recs at = called_by (type_of_row recs at)
+called_at recs at = option_and_then (called_row recs at) (rec_at recs at)
 
 abbrev pub called_in : List AsmRec → MethodUse → Option Called
 called_in recs u = option_and_then (called_at recs) (method_home recs u.method)

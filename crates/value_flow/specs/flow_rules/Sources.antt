@@ -1,7 +1,6 @@
 -- Sources: what is known of where a value comes from, and how a call turns one into another.
-use Rattle.std.specs.Prelude.{ℕ, suc, List, [], ◌∷◌, ◌++◌, length, map, codes, find, Option, Some, None, ◌==◌, ◌&&◌, nat_eq, Bool, true, false}
+use Rattle.std.specs.Prelude.{ℕ, suc, List, length, codes, find, Option, Some, None, ◌==◌, ◌&&◌, Bool, true, false}
 use Rattle.std.specs.List.{list_any}
-use Rattle.std.specs.Option.{option_and_then}
 use Rattle.il_base.specs.declared.ids.TypeId.{TypeId}
 use Rattle.il_base.specs.declared.ids.MethodId.{MethodId}
 use Rattle.il_base.specs.declared.world_model.expr.TypeExpr.{TypeExpr, fold-TypeExpr}

@@ -1,6 +1,6 @@
 -- How control goes from an instruction to others (III.3, I.12.4.2.5): to the next one, to the targets of a branch, through the
 -- finally handlers that `leave` crosses, and from each instruction of a try block to its handlers. Instructions are counted from 0.
-use Rattle.std.specs.Prelude.{ℕ, suc, ◌+◌, ◌-◌, List, [], ◌∷◌, ◌++◌, length, map, drop, find, nat_eq, nat_lt, nat_le, ◌==◌, ◌&&◌, Bool, true, false, not, Option, Some, None, unwrap_or, if◌then◌else◌}
+use Rattle.std.specs.Prelude.{ℕ, suc, ◌+◌, List, [], ◌∷◌, ◌++◌, length, map, drop, find, nat_eq, nat_lt, nat_le, ◌==◌, ◌&&◌, Bool, true, not, Option, Some, None, unwrap_or, if◌then◌else◌}
 use Rattle.std.specs.List.{flat_map, position_from}
 use Rattle.il_base.specs.declared.body.Form.{Form}
 use Rattle.il_base.specs.declared.body.Form.TheVariants as form

@@ -9,7 +9,6 @@ use crate::body_graph::methods::Method;
 use crate::body_graph::operands::{called_operand, is_good_operand};
 use crate::flow_rules::Called;
 use il_base::{Form, Instr, NoMemory, Operand, opcode};
-use std::alloc::Global;
 
 /// Values taken, and values put there after that.
 pub type Counts = (u32, u32);
@@ -163,7 +162,6 @@ fn of_creation(called: Option<Called>) -> Result<Option<Counts>, NoMemory>
 }
 
 fn counts_by(
-    alloc: Global,
     m: &Method<'_>,
     form: Form,
     n: u16,
@@ -173,11 +171,11 @@ fn counts_by(
     ensures { IfOk result (λ counts. counts ≡ counts_by m.now.world.now.recs m.now.asm m.now.rec.now m.now.own.returns form n operand.now) }
 {
     match form {
-        Form::Call => match called_operand(alloc, m, operand) {
+        Form::Call => match called_operand(m, operand) {
             Err(error) => Err(error),
             Ok(called) => of_call(called),
         },
-        Form::NewObj => match called_operand(alloc, m, operand) {
+        Form::NewObj => match called_operand(m, operand) {
             Err(error) => Err(error),
             Ok(called) => of_creation(called),
         },
@@ -219,16 +217,13 @@ fn counts_by(
 /// What an instruction of a method takes and puts; None where its operand names nothing, or a method whose signature has no
 /// reading.
 #[tactic(auto, unfolding(crate::specs::flow_rules::Counts::counts_of))]
-pub(crate) fn counts_of(
-    alloc: Global,
-    m: &Method<'_>,
-    i: &Instr,
-) -> Result<Option<Counts>, NoMemory>
+pub(crate) fn counts_of(m: &Method<'_>, i: &Instr) -> Result<Option<Counts>, NoMemory>
     requires { IsHere m.now }
     ensures { IfOk result (λ counts. counts ≡ counts_of m.now.world.now.recs m.now.asm m.now.rec.now m.now.own.returns i.now) }
 {
-    if !is_good_operand(m, i.form, &i.operand) {
-        return Ok(None);
+    match is_good_operand(m, i.form, &i.operand) {
+        Err(error) => Err(error),
+        Ok(false) => Ok(None),
+        Ok(true) => counts_by(m, i.form, i.opcode, &i.operand),
     }
-    counts_by(alloc, m, i.form, i.opcode, &i.operand)
 }

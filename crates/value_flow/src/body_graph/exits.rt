@@ -25,7 +25,7 @@ fn exit_of(
     requires places { ArePlaces (offsets m.now.body.now.code) places.now }
     ensures { IfOk result (λ e. e ≡ exit_of m.now.world.now.recs (setting_in m.now) k i.now) }
 {
-    match counts_of(alloc, m, i) {
+    match counts_of(m, i) {
         Err(error) => Err(error),
         Ok(None) => Ok(Exit {
             pops: 0,

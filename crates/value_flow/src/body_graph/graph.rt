@@ -76,7 +76,7 @@ impl Graph {
         requires { IsWorld world.now }
         ensures { IsGraphOf world.now.recs m result }
     {
-        match method_of(alloc, world, m) {
+        match method_of(world, m) {
             Err(_) => Err(GraphError::NoMemory),
             Ok(None) => Err(GraphError::Bad),
             Ok(Some(method)) => Graph::of_method(alloc, &method),

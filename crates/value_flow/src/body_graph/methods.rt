@@ -11,7 +11,6 @@ use crate::flow_rules::Called;
 use il_base::world_model::{AsmRec, Known, StandAloneSigRow, World, index_in};
 use il_base::{Body, MethodId, NoMemory, table};
 use rules::link_rules::RowAt;
-use std::alloc::Global;
 use type_tables::member_search::linked::assembly_at;
 use type_tables::methods::method_home;
 
@@ -55,62 +54,55 @@ fn locals_in(rec: &AsmRec, token: u32) -> Option<usize>
 }
 
 fn with_body<'w>(
-    alloc: Global,
     world: &'w World,
     at: RowAt,
     rec: &'w AsmRec,
     body: &'w Option<Known<Body>>,
-) -> Result<Option<Method<'w>>, NoMemory>
+) -> Option<Method<'w>>
     requires world { IsWorld world.now }
     requires here { slice_get world.now.recs at.asm ≡ Some rec.now }
-    ensures is { IfOk result (λ found. option_map setting_in found ≡ with_body world.now.recs at rec.now body.now) }
-    ensures here { IfOk result (λ found. IfSome found IsHere) }
-    ensures same { IfOk result (λ found. IfSome found (λ m. m.world.now ≡ world.now)) }
+    ensures is { option_map setting_in result ≡ with_body world.now.recs at rec.now body.now }
+    ensures here { IfSome result IsHere }
+    ensures same { IfSome result (λ m. m.world.now ≡ world.now) }
 {
     let Some(Known::Good(body)) = body else {
-        return Ok(None);
+        return None;
     };
-    let own = match called_at(alloc, world, at) {
-        Err(error) => return Err(error),
-        Ok(None) => return Ok(None),
-        Ok(Some(own)) => own,
+    let Some(own) = called_at(world, at) else {
+        return None;
     };
     let Some(locals) = locals_in(rec, body.locals) else {
-        return Ok(None);
+        return None;
     };
-    Ok(Some(Method {
+    Some(Method {
         world,
         asm: at.asm,
         rec,
         own,
         locals,
         body,
-    }))
+    })
 }
 
-fn method_at<'w>(alloc: Global, world: &'w World, at: RowAt) -> Result<Option<Method<'w>>, NoMemory>
+fn method_at<'w>(world: &'w World, at: RowAt) -> Option<Method<'w>>
     requires { IsWorld world.now }
-    ensures is { IfOk result (λ found. option_map setting_in found ≡ setting_at world.now.recs at) }
-    ensures here { IfOk result (λ found. IfSome found IsHere) }
-    ensures same { IfOk result (λ found. IfSome found (λ m. m.world.now ≡ world.now)) }
+    ensures is { option_map setting_in result ≡ setting_at world.now.recs at }
+    ensures here { IfSome result IsHere }
+    ensures same { IfSome result (λ m. m.world.now ≡ world.now) }
 {
     let Some(rec) = assembly_at(world.recs.as_slice(), at.asm) else {
-        return Ok(None);
+        return None;
     };
     let Some(row) = rec.method_def.get(at.row as usize) else {
-        return Ok(None);
+        return None;
     };
-    with_body(alloc, world, at, rec, &row.body)
+    with_body(world, at, rec, &row.body)
 }
 
 /// A method of a world that a link gave. None where its body, its signature or its locals have no reading, or where there is no
 /// such method.
 #[tactic(auto, unfolding(crate::specs::flow_rules::Methods::setting_of))]
-pub fn method_of<'w>(
-    alloc: Global,
-    world: &'w World,
-    m: MethodId,
-) -> Result<Option<Method<'w>>, NoMemory>
+pub fn method_of<'w>(world: &'w World, m: MethodId) -> Result<Option<Method<'w>>, NoMemory>
     requires { IsWorld world.now }
     ensures is { IfOk result (λ found. option_map setting_in found ≡ setting_of world.now.recs m) }
     ensures here { IfOk result (λ found. IfSome found IsHere) }
@@ -119,6 +111,6 @@ pub fn method_of<'w>(
     match method_home(world.recs.as_slice(), m) {
         Err(error) => Err(error),
         Ok(None) => Ok(None),
-        Ok(Some(at)) => method_at(alloc, world, at),
+        Ok(Some(at)) => Ok(method_at(world, at)),
     }
 }

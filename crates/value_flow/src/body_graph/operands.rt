@@ -2,13 +2,13 @@
 
 ghost use Rattle.std.specs.Prelude.{◌≡◌, slice_get, IfOk};
 ghost use Rattle.std.specs.List.{list_any};
-ghost use Rattle.std.specs.Option.{option_and_then, option_copied};
+ghost use Rattle.std.specs.Option.{is_some, option_and_then, option_copied};
 ghost use Rattle.il_base.specs.declared.table.TheConstants.{MEMBER_REF};
 ghost use Rattle.il_base.specs.world_model.Tokens.{index_in};
 ghost use Rattle.rules.specs.link_rules.Signatures.{token_type};
 ghost use Rattle.rules.specs.mark_rules.Naming.{method_named, field_named};
 ghost use Rattle.rules.specs.mark_rules.Bodies.{is_field_row, is_field_token, is_method_token, is_text_of};
-ghost use Rattle.value_flow.specs.flow_rules.Counts.{good_one, is_good_handle, is_good_token, is_good_operand, called_operand};
+ghost use Rattle.value_flow.specs.flow_rules.Counts.{good_one, called_token, called_operand, is_good_handle, is_good_token, is_good_operand};
 ghost use Rattle.value_flow.specs.body_graph.Methods.{IsHere};
 
 use crate::body_graph::methods::Method;
@@ -19,7 +19,6 @@ use il_base::world_model::{
     AsmRec, FieldUse, Known, MemberRefRow, MemberSig, MethodUse, TypeExpr, index_in, table_of,
 };
 use il_base::{AsmId, Form, NoMemory, Operand, table};
-use std::alloc::Global;
 
 /// The method that a MethodDef, MemberRef or MethodSpec token names, if any.
 pub fn method_named<'w>(m: &Method<'w>, token: u32) -> Option<&'w MethodUse>
@@ -104,29 +103,52 @@ fn is_text(rec: &AsmRec, token: u32) -> bool
     rec.user.as_slice().iter().any(|t| t.token == token)
 }
 
-fn is_good_handle(m: &Method<'_>, token: u32) -> bool
+/// The signature of the method that a token names; None where it has no reading.
+fn called_token(m: &Method<'_>, token: u32) -> Result<Option<Called>, NoMemory>
     requires { IsHere m.now }
-    ensures { result ≡ is_good_handle m.now.world.now.recs m.now.asm m.now.rec.now token }
+    ensures { IfOk result (λ called. called ≡ called_token m.now.world.now.recs m.now.asm m.now.rec.now token) }
+{
+    match method_named(m, token) {
+        None => Ok(None),
+        Some(named) => called_in(m.world, named),
+    }
+}
+
+/// Whether a token names a method whose signature has a reading.
+fn is_good_method(m: &Method<'_>, token: u32) -> Result<bool, NoMemory>
+    requires { IsHere m.now }
+    ensures { IfOk result (λ good. good ≡ is_some (called_token m.now.world.now.recs m.now.asm m.now.rec.now token)) }
+{
+    match called_token(m, token) {
+        Err(error) => Err(error),
+        Ok(called) => Ok(called.is_some()),
+    }
+}
+
+/// Whether a token names what `ldtoken` takes.
+fn is_good_handle(m: &Method<'_>, token: u32) -> Result<bool, NoMemory>
+    requires { IsHere m.now }
+    ensures { IfOk result (λ good. good ≡ is_good_handle m.now.world.now.recs m.now.asm m.now.rec.now token) }
 {
     if is_field_token(m.rec, token) {
-        return field_named(m, token).is_some();
+        return Ok(field_named(m, token).is_some());
     }
     if is_method_token(token) {
-        return method_named(m, token).is_some();
+        return is_good_method(m, token);
     }
-    type_named(m, token).is_some()
+    Ok(type_named(m, token).is_some())
 }
 
 /// Whether the token of an instruction of a form names what the form takes.
-fn is_good_token(m: &Method<'_>, form: Form, token: u32) -> bool
+fn is_good_token(m: &Method<'_>, form: Form, token: u32) -> Result<bool, NoMemory>
     requires { IsHere m.now }
-    ensures { result ≡ is_good_token m.now.world.now.recs m.now.asm m.now.rec.now form token }
+    ensures { IfOk result (λ good. good ≡ is_good_token m.now.world.now.recs m.now.asm m.now.rec.now form token) }
 {
     match form {
-        Form::Call => method_named(m, token).is_some(),
-        Form::NewObj => method_named(m, token).is_some(),
-        Form::Field => field_named(m, token).is_some(),
-        Form::LdStr => is_text(m.rec, token),
+        Form::Call => Ok(method_named(m, token).is_some()),
+        Form::NewObj => Ok(method_named(m, token).is_some()),
+        Form::Field => Ok(field_named(m, token).is_some()),
+        Form::LdStr => Ok(is_text(m.rec, token)),
         Form::LdToken => is_good_handle(m, token),
         Form::Nop
         | Form::LdArg
@@ -156,31 +178,27 @@ fn is_good_token(m: &Method<'_>, form: Form, token: u32) -> bool
         | Form::NewArr
         | Form::Elem
         | Form::Indirect
-        | Form::Prefix => type_named(m, token).is_some(),
+        | Form::Prefix => Ok(type_named(m, token).is_some()),
     }
 }
 
 /// Whether the operand of an instruction of a form names what the form takes; one that is no token always does.
-pub fn is_good_operand(m: &Method<'_>, form: Form, operand: &Operand) -> bool
+pub fn is_good_operand(m: &Method<'_>, form: Form, operand: &Operand) -> Result<bool, NoMemory>
     requires { IsHere m.now }
-    ensures { result ≡ is_good_operand m.now.world.now.recs m.now.asm m.now.rec.now form operand.now }
+    ensures { IfOk result (λ good. good ≡ is_good_operand m.now.world.now.recs m.now.asm m.now.rec.now form operand.now) }
 {
     match operand {
-        Operand::None => true,
-        Operand::Number(_) => true,
-        Operand::Slot(_) => true,
+        Operand::None => Ok(true),
+        Operand::Number(_) => Ok(true),
+        Operand::Slot(_) => Ok(true),
         Operand::Token(token) => is_good_token(m, form, *token),
-        Operand::Target(_) => true,
-        Operand::Targets(_) => true,
+        Operand::Target(_) => Ok(true),
+        Operand::Targets(_) => Ok(true),
     }
 }
 
 /// The signature of the method that a call or `newobj` names; None where it has no reading.
-pub fn called_operand(
-    alloc: Global,
-    m: &Method<'_>,
-    operand: &Operand,
-) -> Result<Option<Called>, NoMemory>
+pub fn called_operand(m: &Method<'_>, operand: &Operand) -> Result<Option<Called>, NoMemory>
     requires { IsHere m.now }
     ensures { IfOk result (λ called. called ≡ called_operand m.now.world.now.recs m.now.asm m.now.rec.now operand.now) }
 {
@@ -188,10 +206,7 @@ pub fn called_operand(
         Operand::None => Ok(None),
         Operand::Number(_) => Ok(None),
         Operand::Slot(_) => Ok(None),
-        Operand::Token(token) => match method_named(m, *token) {
-            None => Ok(None),
-            Some(named) => called_in(alloc, m.world, named),
-        },
+        Operand::Token(token) => called_token(m, *token),
         Operand::Target(_) => Ok(None),
         Operand::Targets(_) => Ok(None),
     }
