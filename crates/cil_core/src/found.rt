@@ -13,7 +13,7 @@ use crate::members::simple;
 use crate::resuming::resume;
 use il_base::cil_values::{CoreCall, State, Value, Waits};
 use il_base::core_table::CoreName;
-use il_base::{NoMemory, Seq};
+use il_base::{Boxed, NoMemory, Seq};
 use machine_frames::cil_dispatch::this_for;
 use machine_frames::cil_frames::enter;
 use machine_words::cil_closing::Callee;
@@ -44,7 +44,7 @@ fn found_args<Q: Answers>(
     let Some(this) = this_for(alloc, q, st, c, Value::Object(at))? else {
         return Ok(None);
     };
-    let Some(kept) = all_fit(alloc, q, c.signature.params.as_slice(), rest)? else {
+    let Some(kept) = all_fit(alloc, q, c.signature.get().params.as_slice(), rest)? else {
         return Ok(None);
     };
     let all = with_first(this, kept)?;
@@ -113,6 +113,7 @@ pub(crate) fn run_found<Q: Answers>(
 {
     match q.core(c.called.method.0) {
         None => {
+            let args = Boxed::new(alloc, args)?;
             let out = enter(alloc, q, c, values, Waits::Core(member, args), st)?;
             Ok(CoreOut::Stepped(out))
         }

@@ -1,6 +1,5 @@
 -- Loads and stores through pointers, over the stack below their operands.
-use Rattle.std.specs.Prelude.{ℕ, List, ◌∷◌, Option, Some, None}
-use Rattle.il_base.specs.declared.world_model.expr.TypeExpr.{TypeExpr}
+use Rattle.std.specs.Prelude.{List, ◌∷◌, Option}
 use Rattle.il_base.specs.declared.cil_values.value.Value.{Value}
 use Rattle.il_base.specs.declared.cil_values.path.Path.{Path}
 use Rattle.il_base.specs.declared.cil_values.resolved.Instruction.{Instruction}
@@ -9,7 +8,7 @@ use Rattle.rules.specs.step_rules.Queries.{Queries}
 use Rattle.rules.specs.step_rules.Next.{Next}
 use Rattle.rules.specs.step_rules.Words.{Here, given, goes}
 use Rattle.rules.specs.step_rules.Stores.{Access, loaded}
-use Rattle.rules.specs.step_rules.Indirect.{pointed, through, puts}
+use Rattle.rules.specs.step_rules.Indirect.{through, puts}
 
 -- a value that is loaded
 abbrev pub gives : Here → Instruction → List Value → State → Option Value → Next

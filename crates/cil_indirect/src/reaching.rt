@@ -51,7 +51,7 @@ pub(crate) fn through<Q: Answers>(
     ensures { IfOk result (λ x. (vs : List Value) → (f : Path → Value → Next) → through (Q.queries q.now) (access_in a.now) r.now (with_stack vs st.now) f ≡ reached_by (Q.queries q.now) x (with_stack vs st.now) f) }
 {
     match r {
-        Value::Pointer(p) => pointed(alloc, q, a, p, st),
+        Value::Pointer(p) => pointed(alloc, q, a, p.get(), st),
         Value::Null => Ok(Reached::Null),
         Value::I4(_) => Ok(Reached::Refused),
         Value::I8(_) => Ok(Reached::Refused),

@@ -16,7 +16,7 @@ use il_base::cil_values::{
     Code, End, Frame, Heap, Init, Method, Prefix, Signature, Stack, Started, State, Value, Waits,
 };
 use il_base::world_model::{Known, MethodUse, TypeExpr};
-use il_base::{MethodId, NoMemory, Seq, TypeId};
+use il_base::{Boxed, MethodId, NoMemory, Seq, TypeId};
 use machine_calls::cil_returns::entry_begins;
 use machine_frames::cil_frames::{copy_use, initializer, zero_locals};
 use machine_words::cil_closing::{Callee, callee_of};
@@ -102,7 +102,9 @@ fn first_frame(
     ensures { IfOk result (λ f. f ≡ frame_of 0 used.now [] locals (Opens entry.now.owner entry.now)) }
 {
     let owner = entry.owner.copy(alloc)?;
+    let owner = Boxed::new(alloc, owner)?;
     let entry = copy_use(alloc, entry)?;
+    let entry = Boxed::new(alloc, entry)?;
     let method = copy_use(alloc, used)?;
     Ok(frame_of(alloc, 0, method, locals, Waits::Opens(owner, entry)))
 }

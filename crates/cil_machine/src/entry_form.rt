@@ -48,6 +48,6 @@ fn is_entry_signature(alloc: Global, sig: &Signature) -> Result<bool, NoMemory>
 pub(crate) fn is_entry(alloc: Global, c: &Callee) -> Result<bool, NoMemory>
     ensures { IfOk result (λ yes. yes ≡ is_entry (callee_by c.now)) }
 {
-    let form = is_entry_signature(alloc, &c.signature)?;
+    let form = is_entry_signature(alloc, c.signature.get())?;
     Ok(has_flag(c.method.flags, method_flags::STATIC) && form)
 }

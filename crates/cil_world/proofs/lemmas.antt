@@ -4,3 +4,4 @@ pub mod world_methods
 pub mod world_definitions
 pub mod world_types
 pub mod world_layouts
+pub mod Keeping

@@ -1,3 +1,4 @@
+pub mod Kept
 pub mod world_core
 pub mod world_methods
 pub mod world_definitions

@@ -2,6 +2,7 @@
 //! `rules/specs/view_rules/Answers`.
 #![tactic(auto)]
 
+mod kept;
 mod view;
 pub mod world_code;
 pub mod world_core;

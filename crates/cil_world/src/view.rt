@@ -4,6 +4,7 @@ ghost use Rattle.std.specs.Prelude.{◌≡◌, IfOk};
 ghost use Rattle.rules.specs.link_rules.Linked.{IsWorld};
 ghost use Rattle.rules.specs.view_rules.Answers.{queries_of};
 
+use crate::kept::{all_kept, cells_in};
 use crate::world_definitions::Definitions;
 use crate::world_layouts::Layouts;
 use crate::world_types::ClosedTypes;
@@ -21,12 +22,15 @@ use std::marker::Model;
 pub struct View<'w> {
     layouts: Layouts<'w>,
     types: ClosedTypes<'w>,
+    /// The cells of types without arguments, by their places in the world, where they are soon made.
+    kept: Vec<Option<Seq<Layout>>>,
 }
 
 impl<'w> Model for View<'w> {
     ghost use Rattle.std.specs.Prelude.{◌≡◌};
     ghost use Rattle.il_base.specs.declared.world_model.world.World.{World};
     ghost use Rattle.il_base.specs.contracts.world_model.world.World as whole;
+    ghost use Rattle.cil_world.specs.Kept.{AreKept};
 
     ghost Value = { World };
 
@@ -34,7 +38,7 @@ impl<'w> Model for View<'w> {
 
     ghost view = { λ v. v.types };
 
-    ghost invariant = { λ v. v.types ≡ v.layouts };
+    ghost invariant = { λ v. (v.types ≡ v.layouts) × AreKept v.types.recs v.kept.items };
 }
 
 impl<'w> View<'w> {
@@ -48,7 +52,12 @@ impl<'w> View<'w> {
         let layouts = Layouts::of(alloc, &marker, definitions)?;
         let Marker { tables, .. } = marker;
         let types = ClosedTypes::of(alloc, tables)?;
-        Ok(View { layouts, types })
+        let kept = all_kept(alloc, &layouts, &types)?;
+        Ok(View {
+            layouts,
+            types,
+            kept,
+        })
     }
 }
 
@@ -86,6 +95,10 @@ impl<'w> Answers for View<'w> {
 
     fn cells(&self, alloc: Global, ty: &TypeExpr) -> Result<Seq<Layout>, NoMemory> {
         self.layouts.cells(alloc, &self.types, ty)
+    }
+
+    fn kept_cells(&self, ty: &TypeExpr) -> Option<&[Layout]> {
+        cells_in(self.kept.as_slice(), ty)
     }
 
     fn starts(&self, ty: u32) -> Option<u32> {

@@ -3,6 +3,7 @@
 
 mod cells;
 mod closing;
+mod flat;
 mod kinds;
 mod layouts;
 mod making;

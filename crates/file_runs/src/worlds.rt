@@ -45,7 +45,10 @@ fn end_of(recs: &[AsmRec], end: Option<End>) -> Result<EndKind, NoMemory>
     match end {
         None => Ok(EndKind::Spent),
         Some(End::Ended { code }) => Ok(EndKind::Ended { code }),
-        Some(End::Threw { kind, message }) => Ok(EndKind::Threw { kind, message }),
+        Some(End::Threw { kind, message }) => Ok(EndKind::Threw {
+            kind: kind.into_inner(),
+            message: message.into_inner(),
+        }),
         Some(End::Stopped { method, offset }) => {
             let place = place_at(recs, method, offset)?;
             Ok(EndKind::Stopped { place })

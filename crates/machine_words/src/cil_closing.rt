@@ -7,10 +7,11 @@ mod closed_types;
 mod closed_uses;
 mod plain;
 mod running;
+mod settled;
 mod standing;
 
 pub use accessed::{Accessed, accessed_use};
-pub use callee::{Callee, callee_of};
+pub use callee::{Callee, ClosedSignature, callee_of};
 pub use closed_types::{closed_cell, closed_return, closed_slot};
 pub use closed_uses::closed_use;
 pub use plain::{args_of, is_void, without_modifiers};

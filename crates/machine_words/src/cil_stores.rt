@@ -11,4 +11,4 @@ pub use fitting::{all_fit, fits, fits_reference};
 pub use integers::{
     cut, held_number, narrowed, number, same_width, shown, width_of, worth, wrapped,
 };
-pub use zeros::{is_reference, is_value, zero_of, zeros_of};
+pub use zeros::{is_reference, is_value, zero_cells, zero_of, zeros_of};

@@ -77,7 +77,7 @@ fn pointed_this<Q: Answers>(
     ensures { IfOk result (λ this. (f : Value → Next) → this_next this (Q.queries q.now) st.now f ≡ pointed_this (Q.queries q.now) owner.now v.now st.now f) }
 {
     match v {
-        Value::Pointer(p) => number_this(alloc, q, st, owner, p),
+        Value::Pointer(p) => number_this(alloc, q, st, owner, p.get()),
         Value::Null => Ok(This::Null),
         Value::Object(_) => Ok(This::Stuck),
         Value::I4(_) => Ok(This::Stuck),
@@ -225,9 +225,16 @@ fn checked_from<Q: Answers>(
     st: &State,
     first: Seq<Value>,
 ) -> Result<Taken, NoMemory>
-    ensures { IfOk result (λ out. (f : List Value → Next) → args_next out (Q.queries q.now) st.now f ≡ given (core_args (Q.queries q.now) st.now c.now.signature.params args.now) st.now (λ rest. f (first ++ rest))) }
+    ensures { IfOk result (λ out. (f : List Value → Next) → args_next out (Q.queries q.now) st.now f ≡ given (core_args (Q.queries q.now) st.now (callee_by c.now).signature.params args.now) st.now (λ rest. f (first ++ rest))) }
 {
-    match core_args(alloc, q, st, c.signature.params.as_slice(), args, first)? {
+    match core_args(
+        alloc,
+        q,
+        st,
+        c.signature.get().params.as_slice(),
+        args,
+        first,
+    )? {
         None => Ok(Taken::Stuck),
         Some(kept) => Ok(Taken::Are(kept)),
     }
@@ -269,7 +276,7 @@ pub fn checked<Q: Answers>(
 ) -> Result<Taken, NoMemory>
     ensures { IfOk result (λ out. (f : List Value → Next) → args_next out (Q.queries q.now) st.now f ≡ checked (Q.queries q.now) (callee_by c.now) args.now st.now f) }
 {
-    if c.signature.this {
+    if c.signature.get().this {
         with_this(alloc, q, c, args, st)
     } else {
         checked_from(alloc, q, c, args, st, Seq::new(alloc))

@@ -15,7 +15,8 @@ fn zero_struct(alloc: Global, ty: &TypeExpr, cells: &[Layout]) -> Result<Option<
 {
     let of = ty.copy(alloc)?;
     let cells = zeros_of(alloc, cells)?;
-    Ok(Some(Value::Struct(of, cells)))
+    let zero = Value::structure(alloc, of, cells)?;
+    Ok(Some(zero))
 }
 
 /// What a place of a type and its shape holds at first: zero, null, or a struct of these. None where there is no value.

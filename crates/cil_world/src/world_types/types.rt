@@ -10,8 +10,10 @@ ghost use Rattle.rules.specs.view_rules.Members.{core_call};
 ghost use Rattle.rules.specs.view_rules.Answers.{core_type_id, core_method_id, answers_query, nearest_core};
 
 use crate::world_core::{core_call, core_type_row};
+use crate::world_types::answered::{
+    Answered, all_answers, copied, find_answer, kept_answer, kept_led,
+};
 use crate::world_types::core_rows::CoreRows;
-use crate::world_types::owners::with_owner;
 use crate::world_types::{bases, kin};
 use il_base::cil_values::CoreCall;
 use il_base::core_table::CoreName;
@@ -22,7 +24,6 @@ use std::marker::Model;
 use type_names::TypeNames;
 use type_tables::subtypes::relation;
 use type_tables::tables::Tables;
-use virtual_calls::dispatch::dispatch;
 use virtual_calls::slots::Slots;
 
 /// A world with what questions on its closed types are answered by, made once. Contracts see the world, which a link gave.
@@ -32,6 +33,7 @@ pub struct ClosedTypes<'w> {
     slots: Slots,
     names: TypeNames<'w>,
     core: CoreRows,
+    answered: Answered,
 }
 
 impl<'w> Model for ClosedTypes<'w> {
@@ -41,6 +43,7 @@ impl<'w> Model for ClosedTypes<'w> {
     ghost use Rattle.type_tables.specs.Tables.{IsTables};
     ghost use Rattle.virtual_calls.specs.Slots.{AreSlots};
     ghost use Rattle.cil_world.specs.world_types.CoreRows.{AreCoreRows};
+    ghost use Rattle.cil_world.specs.world_types.Answered.{AreAnswers, AreLed};
 
     ghost Value = { World };
 
@@ -48,7 +51,7 @@ impl<'w> Model for ClosedTypes<'w> {
 
     ghost view = { λ t. t.tables.world.now };
 
-    ghost invariant = { λ t. IsTables t.tables × AreSlots t.tables.world.now.recs t.slots × (t.names ≡ t.tables.world.now.recs) × AreCoreRows t.tables.world.now.recs t.core };
+    ghost invariant = { λ t. IsTables t.tables × AreSlots t.tables.world.now.recs t.slots × (t.names ≡ t.tables.world.now.recs) × AreCoreRows t.tables.world.now.recs t.core × AreAnswers t.tables.world.now.recs t.answered.answers.items × AreLed t.tables.world.now.recs t.answered.led.items };
 }
 
 impl<'w> ClosedTypes<'w> {
@@ -66,11 +69,15 @@ impl<'w> ClosedTypes<'w> {
         let Ok(core) = CoreRows::of(tables.world.recs.as_slice()) else {
             return Err(NoMemory);
         };
+        let Ok(answered) = all_answers(alloc, &tables, &slots) else {
+            return Err(NoMemory);
+        };
         Ok(ClosedTypes {
             tables,
             slots,
             names,
             core,
+            answered,
         })
     }
 
@@ -114,12 +121,14 @@ impl<'w> ClosedTypes<'w> {
     pub fn is_subtype(&self, alloc: Global, a: &TypeExpr, b: &TypeExpr) -> Result<bool, NoMemory>
         ensures { IfOk result (λ yes. yes ≡ is_subtype self.now.recs a.now b.now) }
     {
-        relation::is_subtype(alloc, &self.tables, a, b)
+        match kept_led(&self.answered, a) {
+            Some(led) => relation::is_subtype_by(self.recs(), a, b, led),
+            None => relation::is_subtype(alloc, &self.tables, a, b),
+        }
     }
 
     /// The method that a virtual call runs for an object of a type, by its id, with the closed type in which it was found
     /// (II.12.2). `owner` is the closed owner of the called method.
-    #[tactic(auto, unfolding(rules::specs::view_rules::Answers::answers_query))]
     pub fn answers(
         &self,
         alloc: Global,
@@ -129,17 +138,9 @@ impl<'w> ClosedTypes<'w> {
     ) -> Result<Option<MethodUse>, NoMemory>
         ensures { IfOk result (λ found. found ≡ answers_query self.now.recs ty.now owner.now method) }
     {
-        match dispatch(
-            alloc,
-            &self.tables,
-            &self.slots,
-            ty,
-            owner,
-            MethodId(method),
-        ) {
-            Ok(Some(found)) => with_owner(alloc, &self.tables, ty, found),
-            Ok(None) => Ok(None),
-            Err(error) => Err(error),
+        match kept_answer(&self.answered, ty, owner, method) {
+            Some(found) => copied(alloc, found),
+            None => find_answer(alloc, &self.tables, &self.slots, ty, owner, method),
         }
     }
 

@@ -1,11 +1,12 @@
 //! Copies of values: each is equal to what it was made from.
 
 ghost use Rattle.std.specs.Prelude.{◌≡◌, IfOk};
+ghost use Rattle.il_base.specs.declared.cil_values.value.Value.TheVariants as value;
 
 use crate::cil_values::path::{Path, Root};
 use crate::cil_values::value::Value;
 use crate::world_model::TypeExpr;
-use crate::{NoMemory, Seq};
+use crate::{Boxed, NoMemory, Seq};
 use std::alloc::Global;
 
 impl Root {
@@ -20,7 +21,8 @@ impl Root {
             Root::Element(array, at) => Ok(Root::Element(*array, *at)),
             Root::Field(object, field) => Ok(Root::Field(*object, *field)),
             Root::Static(field, owner) => {
-                let owner = owner.copy(alloc)?;
+                let owner = owner.get().copy(alloc)?;
+                let owner = Boxed::new(alloc, owner)?;
                 Ok(Root::Static(*field, owner))
             }
         }
@@ -40,6 +42,31 @@ impl Path {
 }
 
 impl Value {
+    /// A managed pointer.
+    pub fn pointer(alloc: Global, path: Path) -> Result<Value, NoMemory>
+        ensures { IfOk result (λ v. v ≡ value.Pointer path) }
+    {
+        let path = Boxed::new(alloc, path)?;
+        Ok(Value::Pointer(path))
+    }
+
+    /// An instance of a value type: the type, and its cells.
+    pub fn structure(alloc: Global, of: TypeExpr, cells: Seq<Value>) -> Result<Value, NoMemory>
+        ensures { IfOk result (λ v. v ≡ value.Struct of cells) }
+    {
+        let of = Boxed::new(alloc, of)?;
+        let cells = Boxed::new(alloc, cells)?;
+        Ok(Value::Struct(of, cells))
+    }
+
+    /// A type's handle.
+    pub fn handle(alloc: Global, of: TypeExpr) -> Result<Value, NoMemory>
+        ensures { IfOk result (λ v. v ≡ value.Handle of) }
+    {
+        let of = Boxed::new(alloc, of)?;
+        Ok(Value::Handle(of))
+    }
+
     /// A copy. Copies of references name the same objects, copies of structs have cells of their own.
     #[cycle(copying)]
     pub fn copy(&self, alloc: Global) -> Result<Value, NoMemory>
@@ -52,17 +79,17 @@ impl Value {
             Value::Native(n) => Ok(Value::Native(*n)),
             Value::Object(at) => Ok(Value::Object(*at)),
             Value::Pointer(path) => {
-                let path = path.copy(alloc)?;
-                Ok(Value::Pointer(path))
+                let path = path.get().copy(alloc)?;
+                Value::pointer(alloc, path)
             }
             Value::Struct(of, cells) => {
-                let of = of.copy(alloc)?;
-                let cells = Value::copy_all(alloc, cells.as_slice())?;
-                Ok(Value::Struct(of, cells))
+                let of = of.get().copy(alloc)?;
+                let cells = Value::copy_all(alloc, cells.get().as_slice())?;
+                Value::structure(alloc, of, cells)
             }
             Value::Handle(of) => {
-                let of = of.copy(alloc)?;
-                Ok(Value::Handle(of))
+                let of = of.get().copy(alloc)?;
+                Value::handle(alloc, of)
             }
             Value::FieldHandle(field) => Ok(Value::FieldHandle(*field)),
         }

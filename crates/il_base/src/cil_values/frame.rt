@@ -1,15 +1,15 @@
-use crate::Seq;
 use crate::cil_values::core_call::CoreCall;
 use crate::cil_values::stack::Stack;
 use crate::cil_values::value::Value;
 use crate::world_model::{MethodUse, TypeExpr};
+use crate::{Boxed, Seq};
 
 /// What a prefix says of the next instruction (III.2).
 #[derive(Drop)]
 pub enum Prefix {
     None,
     /// `constrained.`, with its closed type.
-    Constrained(TypeExpr),
+    Constrained(Boxed<TypeExpr>),
     Readonly,
 }
 
@@ -45,7 +45,7 @@ pub struct Running {
     pub reason: Reason,
 }
 
-/// What is to be done when a frame's method returns.
+/// What is to be done when a frame's method returns. What is long stands in boxes, so that a frame is short.
 #[derive(Drop)]
 pub enum Waits {
     Nothing,
@@ -54,11 +54,11 @@ pub enum Waits {
     /// `newobj` gives the value in this box.
     MakesValue(u32),
     /// The initializer of this type has ended, and the instruction comes again.
-    Starts(TypeExpr),
+    Starts(Boxed<TypeExpr>),
     /// The initializer of the entry's type has ended, and the entry is entered.
-    Opens(TypeExpr, MethodUse),
+    Opens(Boxed<TypeExpr>, Boxed<MethodUse>),
     /// A member of the core library, with its arguments, goes on with the result of the method that it called.
-    Core(CoreCall, Seq<Value>),
+    Core(CoreCall, Boxed<Seq<Value>>),
 }
 
 /// A method that runs, in a closed use of it.

@@ -1,5 +1,5 @@
 use crate::world_model::TypeExpr;
-use crate::{FieldId, Seq};
+use crate::{Boxed, FieldId, Seq};
 
 /// Where a managed pointer begins (I.12.3.2.1). Frames have their numbers, objects their places in the heap; all numbers
 /// count from 0.
@@ -16,7 +16,7 @@ pub enum Root {
     /// A field of an instance of a class, by its identity: two types of one hierarchy never share one.
     Field(u32, FieldId),
     /// A static field of a closed type.
-    Static(FieldId, TypeExpr),
+    Static(FieldId, Boxed<TypeExpr>),
 }
 
 /// A managed pointer (III.1.1.5): a place that holds a value.

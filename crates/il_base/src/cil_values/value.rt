@@ -1,8 +1,9 @@
 use crate::cil_values::path::Path;
 use crate::world_model::TypeExpr;
-use crate::{FieldId, Seq};
+use crate::{Boxed, FieldId, Seq};
 
-/// What a slot of the evaluation stack, an argument, a local or a cell holds (III.1.1).
+/// What a slot of the evaluation stack, an argument, a local or a cell holds (III.1.1). What is long stands in boxes, so that a
+/// value has three words.
 #[derive(Drop)]
 pub enum Value {
     /// The null reference.
@@ -16,11 +17,11 @@ pub enum Value {
     /// An object, by its place in the heap, from 0.
     Object(u32),
     /// A managed pointer.
-    Pointer(Path),
+    Pointer(Boxed<Path>),
     /// An instance of a value type: the type, and a cell for each instance field, in the order of the rows.
-    Struct(TypeExpr, Seq<Value>),
+    Struct(Boxed<TypeExpr>, Boxed<Seq<Value>>),
     /// A type's handle, as `ldtoken` gives it (III.4.17).
-    Handle(TypeExpr),
+    Handle(Boxed<TypeExpr>),
     /// A field's handle.
     FieldHandle(FieldId),
 }

@@ -38,7 +38,7 @@ fn by_prefix<Q: Answers>(
 {
     match prefix {
         Prefix::Constrained(ty) => {
-            let out = constrained_on(alloc, q, body, i, c, values, &ty, this, st, printed)?;
+            let out = constrained_on(alloc, q, body, i, c, values, ty.get(), this, st, printed)?;
             drop(ty);
             Ok(out)
         }
@@ -102,14 +102,14 @@ fn with_args<Q: Answers>(
     printed: &mut Vec<u8>,
 ) -> Result<StepOut, NoMemory>
     requires { printed.old.items ≡ [] }
-    ensures { IfOk result (λ out. next_of out st.new printed.new.items ≡ given (taken (slots_of c.now.signature) st.old.top.stack) st.old (with_args (Q.queries q.now) (here_by body.now st.old) i.now (callee_by c.now) st.old)) }
+    ensures { IfOk result (λ out. next_of out st.new printed.new.items ≡ given (taken (slots_of (callee_by c.now).signature) st.old.top.stack) st.old (with_args (Q.queries q.now) (here_by body.now st.old) i.now (callee_by c.now) st.old)) }
 {
-    let count = slots_of(&c.signature)?;
+    let count = slots_of(c.signature.get())?;
     let Some(values) = take_values(alloc, &mut st.top.stack, count)? else {
         return Ok(stuck(st));
     };
     let prefix = take_prefix(st);
-    if c.signature.this {
+    if c.signature.get().this {
         return received(alloc, q, body, i, c, values, prefix, st, printed);
     }
     drop(prefix);
@@ -123,7 +123,7 @@ fn may_call(i: &Instruction, c: &Callee) -> bool
     if i.opcode == opcode::CALL {
         return !is_abstract(c.method);
     }
-    c.signature.this
+    c.signature.get().this
 }
 
 fn calls<Q: Answers>(

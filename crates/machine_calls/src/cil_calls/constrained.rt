@@ -96,7 +96,8 @@ fn constrained_found<Q: Answers>(
     if !is_own(&found.called.owner, ty) {
         return boxed_on(alloc, q, body, i, values, ty, p, found, st, printed);
     }
-    let this = Value::Pointer(p.copy(alloc)?);
+    let this = p.copy(alloc)?;
+    let this = Value::pointer(alloc, this)?;
     let all = with_first(alloc, this, values)?;
     runs(alloc, q, body, i, found, all, st, printed)
 }
@@ -162,22 +163,20 @@ fn constrained_to<Q: Answers>(
     c: &Callee,
     values: Seq<Value>,
     ty: &TypeExpr,
-    p: Path,
+    p: &Path,
     st: &mut State,
     printed: &mut Vec<u8>,
 ) -> Result<StepOut, NoMemory>
     requires { printed.old.items ≡ [] }
-    ensures { IfOk result (λ out. next_of out st.new printed.new.items ≡ constrained_on (Q.queries q.now) (here_by body.now st.old) i.now (callee_by c.now) values st.old ty.now (Pointer p)) }
+    ensures { IfOk result (λ out. next_of out st.new printed.new.items ≡ constrained_on (Q.queries q.now) (here_by body.now st.old) i.now (callee_by c.now) values st.old ty.now (Pointer p.now)) }
 {
-    if has_ended(st, &p) {
+    if has_ended(st, p) {
         return Ok(stopped(st));
     }
     if !p.of.is_same(ty) {
         return Ok(stuck(st));
     }
-    let out = constrained_at(alloc, q, body, i, c, values, ty, &p, st, printed)?;
-    drop(p);
-    Ok(out)
+    constrained_at(alloc, q, body, i, c, values, ty, p, st, printed)
 }
 
 /// `callvirt` after `constrained.`.
@@ -198,7 +197,11 @@ pub(crate) fn constrained_on<Q: Answers>(
 {
     match this {
         Value::Null => raise(alloc, q, CoreName::NullReferenceException, st),
-        Value::Pointer(p) => constrained_to(alloc, q, body, i, c, values, ty, p, st, printed),
+        Value::Pointer(p) => {
+            let out = constrained_to(alloc, q, body, i, c, values, ty, p.get(), st, printed)?;
+            drop(p);
+            Ok(out)
+        }
         Value::Object(_) => Ok(stuck(st)),
         Value::I4(_) => Ok(stuck(st)),
         Value::I8(_) => Ok(stuck(st)),

@@ -9,7 +9,7 @@ ghost use Rattle.machine_words.specs.cil_words.Steps.{here_by, next_of};
 
 use il_base::cil_values::{Instruction, Prefix, State, Use};
 use il_base::world_model::{Known, TypeExpr};
-use il_base::{NoMemory, opcode};
+use il_base::{Boxed, NoMemory, opcode};
 use machine_words::cil_closing::{args_of, closed_slot};
 use machine_words::cil_queries::Answers;
 use machine_words::cil_words::{Body, StepOut, may_go, stopped, stuck};
@@ -43,6 +43,7 @@ fn constrains<Q: Answers>(
     let Some(closed) = closed_slot(alloc, q, targs, st.top.method.args.as_slice(), ty)? else {
         return Ok(stopped(st));
     };
+    let closed = Boxed::new(alloc, closed)?;
     Ok(goes_under(body, i, Prefix::Constrained(closed), st))
 }
 

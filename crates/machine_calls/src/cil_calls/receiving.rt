@@ -37,7 +37,8 @@ fn call_at<Q: Answers>(
     if !is_value(alloc, q, &c.called.owner)? {
         return Ok(stuck(st));
     }
-    let all = with_first(alloc, Value::Pointer(p), values)?;
+    let this = Value::pointer(alloc, p)?;
+    let all = with_first(alloc, this, values)?;
     runs(alloc, q, body, i, c, all, st, printed)
 }
 
@@ -80,7 +81,7 @@ pub(crate) fn call_on<Q: Answers>(
 {
     match this {
         Value::Null => raise(alloc, q, CoreName::NullReferenceException, st),
-        Value::Pointer(p) => call_at(alloc, q, body, i, c, values, p, st, printed),
+        Value::Pointer(p) => call_at(alloc, q, body, i, c, values, p.into_inner(), st, printed),
         Value::Object(a) => call_object(alloc, q, body, i, c, values, a, st, printed),
         Value::I4(_) => Ok(stuck(st)),
         Value::I8(_) => Ok(stuck(st)),
@@ -111,7 +112,7 @@ fn virtual_on<Q: Answers>(
     };
     let ty = type_of(alloc, q, o)?;
     let found = found_from(alloc, q, c, &ty)?;
-    runs_found(
+    let out = runs_found(
         alloc,
         q,
         body,
@@ -122,7 +123,10 @@ fn virtual_on<Q: Answers>(
         &found,
         st,
         printed,
-    )
+    )?;
+    drop(found);
+    drop(ty);
+    Ok(out)
 }
 
 /// `callvirt` without `constrained.`: on an object.

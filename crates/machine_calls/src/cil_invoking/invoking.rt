@@ -32,9 +32,9 @@ fn enters<Q: Answers>(
     waits: Waits,
     st: &mut State,
 ) -> Result<StepOut, NoMemory>
-    ensures { IfOk result (λ out. next_of out st.new [] ≡ given (slot_values (Q.queries q.now) c.now.signature values) st.old (λ ws. enter (Q.queries q.now) (callee_by c.now) ws waits st.old)) }
+    ensures { IfOk result (λ out. next_of out st.new [] ≡ given (slot_values (Q.queries q.now) (callee_by c.now).signature values) st.old (λ ws. enter (Q.queries q.now) (callee_by c.now) ws waits st.old)) }
 {
-    let Some(kept) = slot_values(alloc, q, &c.signature, values)? else {
+    let Some(kept) = slot_values(alloc, q, c.signature.get(), values)? else {
         return Ok(stuck(st));
     };
     enter(alloc, q, c, kept, waits, st)

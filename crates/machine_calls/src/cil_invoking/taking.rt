@@ -55,7 +55,7 @@ pub fn begun_for<Q: Answers>(
 ) -> Result<Option<StepOut>, NoMemory>
     ensures { IfOk result (λ over. MatchOption over ((st.new ≡ st.old) × ((f : State → Next) → begun_for (Q.queries q.now) (callee_by c.now) st.old f ≡ f st.old)) (λ out. (f : State → Next) → begun_for (Q.queries q.now) (callee_by c.now) st.old f ≡ next_of out st.new [])) }
 {
-    if c.signature.this && !c.method.constructor {
+    if c.signature.get().this && !c.method.constructor {
         return Ok(None);
     }
     started(alloc, q, false, &c.called.owner, st)

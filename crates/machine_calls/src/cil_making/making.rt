@@ -23,7 +23,7 @@ use machine_frames::cil_dispatch::path_into_box;
 use machine_frames::cil_frames::{head_has, head_of};
 use machine_words::cil_closing::Callee;
 use machine_words::cil_queries::Answers;
-use machine_words::cil_stores::{is_value, zero_of, zeros_of};
+use machine_words::cil_stores::{is_value, zero_cells, zero_of};
 use machine_words::cil_words::{Body, StepOut, stopped, stuck};
 use std::alloc::Global;
 
@@ -39,7 +39,7 @@ fn is_abstract_type<Q: Answers>(q: &Q, ty: &TypeExpr) -> bool
 fn may_make<Q: Answers>(q: &Q, c: &Callee) -> bool
     ensures { result ≡ may_make (Q.queries q.now) (callee_by c.now) }
 {
-    c.method.constructor && c.signature.this && !is_abstract_type(q, &c.called.owner)
+    c.method.constructor && c.signature.get().this && !is_abstract_type(q, &c.called.owner)
 }
 
 /// The object that was made is pushed, whatever its constructor gave, and the next instruction comes.
@@ -116,7 +116,7 @@ fn constructs_value<Q: Answers>(
     ensures { IfOk result (λ out. next_of out st.new printed.new.items ≡ constructs_value (Q.queries q.now) (here_by body.now st.old) i.now (callee_by c.now) values a st.old) }
 {
     let owner = c.called.owner.copy(alloc)?;
-    let this = Value::Pointer(path_into_box(alloc, a, owner));
+    let this = Value::pointer(alloc, path_into_box(alloc, a, owner))?;
     let all = with_first(alloc, this, values)?;
     match invoke(alloc, q, c, all, Waits::MakesValue(a), st, printed)? {
         CoreOut::Stepped(out) => Ok(out),
@@ -129,8 +129,7 @@ fn new_instance<Q: Answers>(alloc: Global, q: &Q, ty: &TypeExpr) -> Result<Obj, 
     ensures { IfOk result (λ o. o ≡ new_instance (Q.queries q.now) ty.now) }
 {
     let of = ty.copy(alloc)?;
-    let layouts = q.cells(alloc, ty)?;
-    let cells = zeros_of(alloc, layouts.as_slice())?;
+    let cells = zero_cells(alloc, q, ty)?;
     Ok(Obj::Instance { of, cells })
 }
 
@@ -173,9 +172,9 @@ fn takes_args<Q: Answers>(
     printed: &mut Vec<u8>,
 ) -> Result<StepOut, NoMemory>
     requires { printed.old.items ≡ [] }
-    ensures { IfOk result (λ out. next_of out st.new printed.new.items ≡ given (taken (length c.now.signature.params) st.old.top.stack) st.old (makes_with (Q.queries q.now) (here_by body.now st.old) i.now (callee_by c.now) st.old zero)) }
+    ensures { IfOk result (λ out. next_of out st.new printed.new.items ≡ given (taken (length (callee_by c.now).signature.params) st.old.top.stack) st.old (makes_with (Q.queries q.now) (here_by body.now st.old) i.now (callee_by c.now) st.old zero)) }
 {
-    let count = c.signature.params.len();
+    let count = c.signature.get().params.len();
     let Some(values) = take_values(alloc, &mut st.top.stack, count)? else {
         return Ok(stuck(st));
     };

@@ -177,13 +177,15 @@ fn back_by<Q: Answers>(
         }
         Waits::Starts(ty) => {
             drop(v);
-            has_started(alloc, f, ty, st)
+            has_started(alloc, f, ty.into_inner(), st)
         }
         Waits::Opens(_, _) => {
             drop(v);
             Ok(stuck(st))
         }
-        Waits::Core(member, args) => resumes(alloc, q, f, member, args, v, st, printed),
+        Waits::Core(member, args) => {
+            resumes(alloc, q, f, member, args.into_inner(), v, st, printed)
+        }
     }
 }
 
@@ -252,7 +254,7 @@ fn ends_by<Q: Answers>(
     match waits {
         Waits::Opens(ty, entry) => {
             drop(v);
-            opens(alloc, q, ty, entry, st)
+            opens(alloc, q, ty.into_inner(), entry.into_inner(), st)
         }
         Waits::Nothing => Ok(ended(v)),
         Waits::Makes(_) => Ok(ended(v)),

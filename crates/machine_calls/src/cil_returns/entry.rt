@@ -52,7 +52,7 @@ pub fn entry_begins(
     ensures { OnOk result (st.new ≡ entry_begins (callee_by c.now) locals st.old) }
 {
     let mut args = Seq::new(alloc);
-    if !c.signature.params.is_empty() {
+    if !c.signature.get().params.is_empty() {
         let a = st.heap.add(Obj::Array {
             of: TypeExpr::Prim(element::STRING),
             cells: Seq::new(alloc),

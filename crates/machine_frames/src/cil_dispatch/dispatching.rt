@@ -68,7 +68,7 @@ pub fn dispatched<'a, Q: Answers>(
     let Known::Good(sig) = &m.signature else {
         return Ok(Target::Stopped);
     };
-    if !is_called_alike(sig, &c.signature)? {
+    if !is_called_alike(sig, c.signature.get())? {
         return Ok(Target::Stuck);
     }
     match callee_of(alloc, q, used)? {

@@ -33,7 +33,8 @@ fn box_pointer(alloc: Global, a: u32, o: Option<&Obj>) -> Result<Option<Value>, 
         None => Ok(None),
         Some(Obj::Boxed { of, value: _ }) => {
             let of = of.copy(alloc)?;
-            Ok(Some(Value::Pointer(path_into_box(alloc, a, of))))
+            let pointer = Value::pointer(alloc, path_into_box(alloc, a, of))?;
+            Ok(Some(pointer))
         }
         Some(Obj::Instance { of: _, cells: _ }) => Ok(None),
         Some(Obj::Array { of: _, cells: _ }) => Ok(None),

@@ -36,7 +36,7 @@ fn zeros<Q: Answers>(
 ) -> Result<Option<Seq<Value>>, NoMemory>
     ensures { IfOk result (λ values. values ≡ all_of (zero_local (Q.queries q.now) called.now) types.now) }
 {
-    let mut values = Seq::new(alloc);
+    let mut values = Vec::with_capacity(alloc, types.len())?;
     for ty in types {
         match zero_local(alloc, q, called, ty) {
             Err(error) => return Err(error),
@@ -44,7 +44,7 @@ fn zeros<Q: Answers>(
             Ok(Some(value)) => values.push(value)?,
         }
     }
-    Ok(Some(values))
+    Ok(Some(Seq::from_vec(values)))
 }
 
 /// What the locals of a closed method hold at first. None where the type of one has no meaning or no zero value.

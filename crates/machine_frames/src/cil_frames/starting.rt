@@ -15,7 +15,7 @@ use crate::cil_frames::heads::{definition_of, head_has, head_of};
 use crate::cil_raising::throw;
 use il_base::cil_values::{Init, Started, State, Waits};
 use il_base::world_model::{MethodUse, TypeExpr};
-use il_base::{MethodId, NoMemory, Seq, type_flags};
+use il_base::{Boxed, MethodId, NoMemory, Seq, type_flags};
 use machine_words::cil_closing::callee_of;
 use machine_words::cil_queries::Answers;
 use machine_words::cil_words::{StepOut, stopped};
@@ -82,7 +82,8 @@ fn begin<Q: Answers>(
         return Ok(stopped(st));
     };
     let typ = ty.copy(alloc)?;
-    let waits = Waits::Starts(ty.copy(alloc)?);
+    let owner = ty.copy(alloc)?;
+    let waits = Waits::Starts(Boxed::new(alloc, owner)?);
     st.inits.push(Started {
         typ,
         init: Init::Begun,

@@ -92,7 +92,7 @@ fn failing(
         Waits::MakesValue(_) => Ok(inits),
         Waits::Starts(ty) => match later {
             [] => Ok(inits),
-            [a, ..] => set_init(alloc, ty, Init::Failed(*a), inits),
+            [a, ..] => set_init(alloc, ty.get(), Init::Failed(*a), inits),
         },
         Waits::Opens(_, _) => Ok(inits),
         Waits::Core(_, _) => Ok(inits),

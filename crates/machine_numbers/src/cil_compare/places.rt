@@ -27,7 +27,7 @@ fn same_root(a: &Root, b: &Root) -> bool
         (Root::Boxed(a), Root::Boxed(b)) => *a == *b,
         (Root::Element(a, k), Root::Element(b, l)) => *a == *b && *k == *l,
         (Root::Field(a, f), Root::Field(b, g)) => *a == *b && f.0 == g.0,
-        (Root::Static(f, e), Root::Static(g, d)) => f.0 == g.0 && e.is_same(d),
+        (Root::Static(f, e), Root::Static(g, d)) => f.0 == g.0 && e.get().is_same(d.get()),
         _ => false,
     }
 }
@@ -50,7 +50,9 @@ pub(crate) fn compared(a: &Value, b: &Value) -> Option<Relation>
         (Value::Null, Value::Object(_)) => Some(Relation::References(false, false)),
         (Value::Object(_), Value::Null) => Some(Relation::References(false, true)),
         (Value::Object(a), Value::Object(b)) => Some(Relation::References(*a == *b, true)),
-        (Value::Pointer(p), Value::Pointer(o)) => Some(Relation::Pointers(same_place(p, o))),
+        (Value::Pointer(p), Value::Pointer(o)) => {
+            Some(Relation::Pointers(same_place(p.get(), o.get())))
+        }
         (Value::Pointer(_), Value::Null) => Some(Relation::Pointers(false)),
         (Value::Null, Value::Pointer(_)) => Some(Relation::Pointers(false)),
         _ => None,

@@ -78,7 +78,8 @@ pub fn address_arg<Q: Answers>(
     };
     let root = Root::Arg(st.top.number, at);
     let steps = Seq::new(alloc);
-    st.top.stack.push(Value::Pointer(Path { root, steps, of }))?;
+    let pointer = Value::pointer(alloc, Path { root, steps, of })?;
+    st.top.stack.push(pointer)?;
     Ok(goes(body, i, st))
 }
 
@@ -104,7 +105,8 @@ pub fn address_local<Q: Answers>(
     };
     let root = Root::Local(st.top.number, at);
     let steps = Seq::new(alloc);
-    st.top.stack.push(Value::Pointer(Path { root, steps, of }))?;
+    let pointer = Value::pointer(alloc, Path { root, steps, of })?;
+    st.top.stack.push(pointer)?;
     Ok(goes(body, i, st))
 }
 

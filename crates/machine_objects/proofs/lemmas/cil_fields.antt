@@ -1,4 +1,5 @@
 pub mod Chosen
+pub mod FieldTypes
 pub mod Kept
 pub mod ReadyFields
 pub mod Texts

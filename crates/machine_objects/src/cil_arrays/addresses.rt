@@ -37,11 +37,12 @@ fn element_pointer(alloc: Global, v: &Elements, k: usize) -> Result<Value, NoMem
         return Err(NoMemory);
     };
     let of = element_type(alloc, v)?;
-    Ok(Value::Pointer(Path {
+    let path = Path {
         root: Root::Element(v.place, index),
         steps: Seq::new(alloc),
         of,
-    }))
+    };
+    Value::pointer(alloc, path)
 }
 
 /// The address of an element that is there. Elements are of exactly the type, but after `readonly.`.

@@ -155,7 +155,8 @@ fn address_field<Q: Answers>(
         Reached::At(p, v) => {
             discard(v);
             discard(r);
-            let out = gives(body, i, Value::Pointer(p), st)?;
+            let pointer = Value::pointer(alloc, p)?;
+            let out = gives(body, i, pointer, st)?;
             Ok(out)
         }
         Reached::Null => {

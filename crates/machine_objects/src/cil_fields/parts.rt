@@ -22,7 +22,10 @@ pub(crate) fn parts_of(v: &Value) -> Option<Parts<'_>>
     ensures { option_map parts_by result ≡ parts_of v.now }
 {
     match v {
-        Value::Struct(of, cells) => Some(Parts { of, cells }),
+        Value::Struct(of, cells) => Some(Parts {
+            of: of.get(),
+            cells: cells.get(),
+        }),
         Value::Null => None,
         Value::I4(_) => None,
         Value::I8(_) => None,

@@ -6,14 +6,17 @@ ghost use Rattle.il_base.specs.declared.cil_values.object.Obj.TheVariants as obj
 ghost use Rattle.il_base.specs.declared.cil_values.path.Path.{Path};
 ghost use Rattle.rules.specs.step_rules.Next.{Next};
 ghost use Rattle.rules.specs.step_rules.Places.{at_place};
-ghost use Rattle.rules.specs.step_rules.Fields.{field_of_object, field_of_pointer, field_place, into_struct, object_field};
+ghost use Rattle.std.specs.Option.{option_map};
+ghost use Rattle.il_base.specs.declared.cil_values.layout.Layout.{Layout as CellLayout};
+ghost use Rattle.il_base.specs.declared.cil_values.layout.Cell.TheVariants as cell;
+ghost use Rattle.rules.specs.step_rules.Fields.{layout_of as found_layout, field_of_object, field_of_pointer, field_place, into_struct, object_field};
 ghost use Rattle.machine_words.specs.cil_closing.Callees.{accessed_by};
 ghost use Rattle.machine_numbers.specs.cil_pointers.Reaching.{reached_by, with_stack};
 ghost use Rattle.machine_objects.specs.cil_fields.Placing.{cell_by, placed_by};
 
 use crate::cil_fields::cells::{StructCell, layout_of, struct_cell};
 use crate::cil_fields::placed::Placed;
-use il_base::cil_values::{Obj, Path, Root, State, Value};
+use il_base::cil_values::{Layout, Obj, Path, Root, State, Value};
 use il_base::world_model::TypeExpr;
 use il_base::{FieldId, NoMemory, Seq};
 use machine_numbers::cil_pointers::{Reached, ended_at, value_at};
@@ -21,6 +24,38 @@ use machine_words::cil_closing::Accessed;
 use machine_words::cil_objects::object_is_a;
 use machine_words::cil_queries::Answers;
 use std::alloc::Global;
+
+/// The closed type of a field among some cells, by the field's place in the world.
+fn type_among(alloc: Global, field: u32, cells: &[Layout]) -> Result<Option<TypeExpr>, NoMemory>
+    ensures { IfOk result (λ ty. ty ≡ option_map (λ (l : CellLayout). l.typ) (found_layout (cell.Field field) cells.now)) }
+{
+    match layout_of(field, cells) {
+        None => Ok(None),
+        Some(l) => {
+            let ty = l.typ.copy(alloc)?;
+            Ok(Some(ty))
+        }
+    }
+}
+
+/// The closed type of a field of an instance of a class, by the field's place in the world.
+fn field_type<Q: Answers>(
+    alloc: Global,
+    q: &Q,
+    of: &TypeExpr,
+    field: u32,
+) -> Result<Option<TypeExpr>, NoMemory>
+    ensures { IfOk result (λ ty. ty ≡ option_map (λ (l : CellLayout). l.typ) (found_layout (cell.Field field) ((Q.queries q.now).cells of.now))) }
+{
+    match q.kept_cells(of) {
+        Some(layouts) => type_among(alloc, field, layouts),
+        None => {
+            let layouts = q.cells(alloc, of)?;
+            let ty = type_among(alloc, field, layouts.as_slice())?;
+            Ok(ty)
+        }
+    }
+}
 
 /// A field of an instance of a class, whose closed type this is.
 fn instance_field<Q: Answers>(
@@ -32,11 +67,10 @@ fn instance_field<Q: Answers>(
 ) -> Result<Option<Path>, NoMemory>
     ensures { IfOk result (λ p. (cells : List Value) → p ≡ object_field (Q.queries q.now) (accessed_by a.now) at (objects.Instance of.now cells)) }
 {
-    let layouts = q.cells(alloc, of)?;
-    let Some(l) = layout_of(a.id, layouts.as_slice()) else {
+    let found = field_type(alloc, q, of, a.id)?;
+    let Some(of) = found else {
         return Ok(None);
     };
-    let of = l.typ.copy(alloc)?;
     Ok(Some(Path {
         root: Root::Field(at, FieldId(a.id)),
         steps: Seq::new(alloc),
@@ -160,7 +194,7 @@ fn field_place<Q: Answers>(
     match r {
         Value::Null => Ok(Placed::Null),
         Value::Object(at) => field_of_object(alloc, q, a, *at, st),
-        Value::Pointer(p) => field_of_pointer(alloc, q, a, p, st),
+        Value::Pointer(p) => field_of_pointer(alloc, q, a, p.get(), st),
         Value::I4(_) => Ok(Placed::Refused),
         Value::I8(_) => Ok(Placed::Refused),
         Value::Native(_) => Ok(Placed::Refused),

@@ -14,7 +14,7 @@ ghost use Rattle.machine_numbers.specs.cil_pointers.Reaching.{with_stack};
 use crate::cil_fields::statics::{Ready, with_static};
 use il_base::cil_values::{Instruction, Path, Root, State, Value};
 use il_base::world_model::TypeExpr;
-use il_base::{FieldId, NoMemory, Seq};
+use il_base::{Boxed, FieldId, NoMemory, Seq};
 use machine_numbers::cil_pointers::{discard, gives};
 use machine_words::cil_closing::Accessed;
 use machine_words::cil_places::{global_of, with_global};
@@ -68,6 +68,7 @@ fn static_path(alloc: Global, a: &Accessed, of: TypeExpr) -> Result<Path, NoMemo
     ensures { IfOk result (λ p. p ≡ static_path (accessed_by a.now) of) }
 {
     let owner = a.owner.copy(alloc)?;
+    let owner = Boxed::new(alloc, owner)?;
     Ok(Path {
         root: Root::Static(FieldId(a.id), owner),
         steps: Seq::new(alloc),
@@ -91,7 +92,8 @@ pub(crate) fn address_static<Q: Answers>(
         Ready::Over(out) => Ok(out),
         Ready::Is(ty) => {
             let p = static_path(alloc, a, ty)?;
-            let out = gives(body, i, Value::Pointer(p), st)?;
+            let pointer = Value::pointer(alloc, p)?;
+            let out = gives(body, i, pointer, st)?;
             Ok(out)
         }
     }

@@ -69,7 +69,10 @@ fn load_handle<Q: Answers>(
     ensures { IfOk result (λ out. next_of out st.new [] ≡ load_handle (Q.queries q.now) (here_by body.now st.old) i.now st.old ty.now) }
 {
     match closed_handle(alloc, q, body, ty, st)? {
-        Some(closed) => gives(body, i, 0, Value::Handle(closed), st),
+        Some(closed) => {
+            let handle = Value::handle(alloc, closed)?;
+            gives(body, i, 0, handle, st)
+        }
         None => Ok(stopped(st)),
     }
 }

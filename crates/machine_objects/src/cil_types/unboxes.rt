@@ -72,11 +72,13 @@ fn box_pointer(alloc: Global, a: u32, ty: &TypeExpr) -> Result<Result<Value, Ref
     ensures { IfOk result (λ out. out ≡ Ok (value.Pointer (path_into_box a ty.now))) }
 {
     let of = ty.copy(alloc)?;
-    Ok(Ok(Value::Pointer(Path {
+    let path = Path {
         root: Root::Boxed(a),
         steps: Seq::new(alloc),
         of,
-    })))
+    };
+    let pointer = Value::pointer(alloc, path)?;
+    Ok(Ok(pointer))
 }
 
 fn copied(alloc: Global, v: &Value) -> Result<Result<Value, Refusal>, NoMemory>

@@ -1,2 +1,4 @@
 pub mod PlainLayers
+pub mod Settled
+pub mod Settling
 pub mod StandingLayers

@@ -1,5 +1,5 @@
 -- Bodies of methods by their places in the world.
-use Rattle.std.specs.Prelude.{ℕ, Option, Some, None}
+use Rattle.std.specs.Prelude.{ℕ, Option}
 use Rattle.std.specs.Option.{option_and_then}
 use Rattle.il_base.specs.declared.cil_values.definition.Method.{Method}
 use Rattle.il_base.specs.declared.cil_values.resolved.Code.{Code}

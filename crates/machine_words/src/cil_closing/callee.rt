@@ -3,15 +3,35 @@
 ghost use Rattle.std.specs.Prelude.{◌≡◌, IfOk};
 ghost use Rattle.std.specs.Option.{option_map};
 ghost use Rattle.rules.specs.step_rules.Closing.{callee_of, closed_signature};
-ghost use Rattle.machine_words.specs.cil_closing.Callees.{callee_by};
+ghost use Rattle.machine_words.specs.cil_closing.Callees.{callee_by, signature_by};
 
 use crate::cil_closing::closed_types::{closed_return, closed_slots};
 use crate::cil_closing::plain::args_of;
+use crate::cil_closing::settled::is_settled;
 use crate::cil_queries::Answers;
 use il_base::NoMemory;
 use il_base::cil_values::{Method, Signature};
 use il_base::world_model::{Known, MethodUse};
 use std::alloc::Global;
+
+/// A signature with the arguments of the type and of the method put in.
+#[derive(Drop)]
+pub enum ClosedSignature<'a> {
+    /// The method's own, whose types are as they are in every use.
+    Own(&'a Signature),
+    Made(Signature),
+}
+
+impl ClosedSignature<'_> {
+    pub fn get(&self) -> &Signature
+        ensures { result.now ≡ signature_by self.now }
+    {
+        match self {
+            ClosedSignature::Own(sig) => *sig,
+            ClosedSignature::Made(sig) => sig,
+        }
+    }
+}
 
 /// A method that is called.
 #[derive(Drop)]
@@ -20,7 +40,7 @@ pub struct Callee<'a> {
     pub called: MethodUse,
     pub method: &'a Method,
     /// Its signature with the arguments of the type and of the method put in.
-    pub signature: Signature,
+    pub signature: ClosedSignature<'a>,
 }
 
 /// The method of a closed use. None where no type's run holds it, its signature has no meaning, or the use has another number
@@ -42,13 +62,20 @@ pub fn callee_of<'a, Q: Answers>(
     if called.args.len() != sig.own as usize {
         return Ok(None);
     }
+    if is_settled(q, sig) {
+        return Ok(Some(Callee {
+            called,
+            method,
+            signature: ClosedSignature::Own(sig),
+        }));
+    }
     let Some(signature) = closed_signature(alloc, q, &called, sig)? else {
         return Ok(None);
     };
     Ok(Some(Callee {
         called,
         method,
-        signature,
+        signature: ClosedSignature::Made(signature),
     }))
 }
 

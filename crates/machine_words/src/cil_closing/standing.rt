@@ -9,7 +9,7 @@ use il_base::world_model::TypeExpr;
 use il_base::{TypeId, element};
 
 /// Whether a type definition has this many generic parameters.
-fn takes<Q: Answers>(q: &Q, ty: TypeId, count: usize) -> bool
+pub(crate) fn takes<Q: Answers>(q: &Q, ty: TypeId, count: usize) -> bool
     ensures { result ≡ takes ((Q.queries q.now).head ty.0) count }
 {
     match q.head(ty.0) {

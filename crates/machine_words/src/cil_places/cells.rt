@@ -34,6 +34,24 @@ pub fn cell_place(c: Cell, cells: &[Layout]) -> Option<usize>
     cells.iter().position(|l| same_cell(c, l.cell))
 }
 
+/// The number of a cell among those of an instance of a class, from 0.
+fn place_of_cell<Q: Answers>(
+    alloc: Global,
+    q: &Q,
+    ty: &TypeExpr,
+    c: Cell,
+) -> Result<Option<usize>, NoMemory>
+    ensures { IfOk result (λ at. at ≡ cell_place c ((Q.queries q.now).cells ty.now)) }
+{
+    match q.kept_cells(ty) {
+        Some(layouts) => Ok(cell_place(c, layouts)),
+        None => {
+            let layouts = q.cells(alloc, ty)?;
+            Ok(cell_place(c, layouts.as_slice()))
+        }
+    }
+}
+
 /// The value in a cell of an instance of a class, whose closed type and cells these are.
 #[tactic(auto, unfolding(rules::specs::step_rules::Places::cell_of))]
 pub fn cell_of<'a, Q: Answers>(
@@ -45,8 +63,7 @@ pub fn cell_of<'a, Q: Answers>(
 ) -> Result<Option<&'a Value>, NoMemory>
     ensures { IfOk result (λ v. option_copied v ≡ cell_of (Q.queries q.now) ty.now cells.now c) }
 {
-    let layouts = q.cells(alloc, ty)?;
-    match cell_place(c, layouts.as_slice()) {
+    match place_of_cell(alloc, q, ty, c)? {
         None => Ok(None),
         Some(at) => Ok(cells.get(at)),
     }
@@ -65,8 +82,7 @@ pub fn with_cell<Q: Answers>(
 ) -> Result<bool, NoMemory>
     ensures { IfOk result (λ done. MatchBool done (with_cell (Q.queries q.now) ty.now cells.old c v.now ≡ Some cells.new) ((with_cell (Q.queries q.now) ty.now cells.old c v.now ≡ None) × (cells.new ≡ cells.old))) }
 {
-    let layouts = q.cells(alloc, ty)?;
-    match cell_place(c, layouts.as_slice()) {
+    match place_of_cell(alloc, q, ty, c)? {
         None => Ok(false),
         Some(at) => set_if(alloc, cells, at, v),
     }

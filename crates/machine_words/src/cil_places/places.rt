@@ -70,7 +70,7 @@ fn root_value<'a, Q: Answers>(
             None => Ok(None),
         },
         Root::Field(at, field) => field_of(alloc, q, st, *at, *field),
-        Root::Static(field, owner) => Ok(global_of(st, field.0, owner)),
+        Root::Static(field, owner) => Ok(global_of(st, field.0, owner.get())),
     }
 }
 
@@ -131,7 +131,7 @@ fn put_root<Q: Answers>(
             v,
         ),
         Root::Static(field, owner) => {
-            with_global(alloc, st, field.0, owner, v)?;
+            with_global(alloc, st, field.0, owner.get(), v)?;
             Ok(true)
         }
     }

@@ -15,7 +15,7 @@ pub fn part_of<'a>(v: &'a Value, k: usize) -> Option<&'a Value>
     ensures { option_copied result ≡ option_and_then (λ (p : Parts). slice_get p.cells k) (parts_of v.now) }
 {
     match v {
-        Value::Struct(_, cells) => cells.get(k),
+        Value::Struct(_, cells) => cells.get().get(k),
         Value::Null => None,
         Value::I4(_) => None,
         Value::I8(_) => None,
@@ -62,11 +62,12 @@ fn with_struct(alloc: Global, old: &Value, k: usize, v: &Value) -> Result<Option
 {
     match old {
         Value::Struct(of, cells) => {
-            let of = of.copy(alloc)?;
-            let mut cells = Value::copy_all(alloc, cells.as_slice())?;
+            let of = of.get().copy(alloc)?;
+            let mut cells = Value::copy_all(alloc, cells.get().as_slice())?;
             let v = v.copy(alloc)?;
             put(&mut cells, k, v);
-            Ok(Some(Value::Struct(of, cells)))
+            let made = Value::structure(alloc, of, cells)?;
+            Ok(Some(made))
         }
         Value::Null => Ok(None),
         Value::I4(_) => Ok(None),

@@ -1,4 +1,4 @@
-ghost use Rattle.std.specs.Prelude.{◌≡◌, IfOk};
+ghost use Rattle.std.specs.Prelude.{◌≡◌, IfOk, IfSome};
 ghost use Rattle.std.specs.Option.{option_copied};
 ghost use Rattle.rules.specs.step_rules.Queries.{Queries};
 ghost use Rattle.machine_words.specs.cil_queries.Bodies.{instruction_of};
@@ -46,6 +46,10 @@ pub trait Answers {
     /// The cells of an instance of a class: those of the bases first, before these an exception's own.
     fn cells(&self, alloc: Global, ty: &TypeExpr) -> Result<Seq<Layout>, NoMemory>
         ensures { IfOk result (λ cells. cells ≡ (queries self.now).cells ty.now) };
+
+    /// The same cells, where they are kept. None says nothing of them.
+    fn kept_cells(&self, ty: &TypeExpr) -> Option<&[Layout]>
+        ensures { IfSome result (λ cells. cells.now ≡ (queries self.now).cells ty.now) };
 
     /// The initializer of a type (II.10.5.3).
     fn starts(&self, ty: u32) -> Option<u32>

@@ -51,7 +51,7 @@ fn is_struct_of(ty: &TypeExpr, v: &Value) -> bool
     ensures { result ≡ is_struct_of ty.now (parts_of v.now) }
 {
     match v {
-        Value::Struct(of, _) => of.is_same(ty),
+        Value::Struct(of, _) => of.get().is_same(ty),
         Value::Null => false,
         Value::I4(_) => false,
         Value::I8(_) => false,

@@ -15,12 +15,26 @@ use std::alloc::Global;
 pub fn zeros_of(alloc: Global, cells: &[Layout]) -> Result<Seq<Value>, NoMemory>
     ensures { IfOk result (λ zeros. zeros ≡ zeros_of cells.now) }
 {
-    let mut zeros = Seq::new(alloc);
+    let mut zeros = Vec::with_capacity(alloc, cells.len())?;
     for cell in cells {
         let zero = cell.zero.copy(alloc)?;
         zeros.push(zero)?;
     }
-    Ok(zeros)
+    Ok(Seq::from_vec(zeros))
+}
+
+/// What the cells of a class hold at first.
+pub fn zero_cells<Q: Answers>(alloc: Global, q: &Q, ty: &TypeExpr) -> Result<Seq<Value>, NoMemory>
+    ensures { IfOk result (λ cells. cells ≡ zeros_of ((Q.queries q.now).cells ty.now)) }
+{
+    match q.kept_cells(ty) {
+        Some(layouts) => zeros_of(alloc, layouts),
+        None => {
+            let layouts = q.cells(alloc, ty)?;
+            let zeros = zeros_of(alloc, layouts.as_slice())?;
+            Ok(zeros)
+        }
+    }
 }
 
 fn zero_struct(alloc: Global, ty: &TypeExpr, cells: &[Layout]) -> Result<Option<Value>, NoMemory>
@@ -28,7 +42,8 @@ fn zero_struct(alloc: Global, ty: &TypeExpr, cells: &[Layout]) -> Result<Option<
 {
     let of = ty.copy(alloc)?;
     let cells = zeros_of(alloc, cells)?;
-    Ok(Some(Value::Struct(of, cells)))
+    let zero = Value::structure(alloc, of, cells)?;
+    Ok(Some(zero))
 }
 
 fn zero_shape(alloc: Global, ty: &TypeExpr, shape: &Shape) -> Result<Option<Value>, NoMemory>

@@ -1,9 +1,9 @@
 //! Whether one type can stand for another (I.8.7), without variance.
 
-ghost use Rattle.std.specs.Prelude.{◌≡◌, IfOk};
+ghost use Rattle.std.specs.Prelude.{◌≡◌, IfOk, None};
 ghost use Rattle.std.specs.Bool.{Decides};
 ghost use Rattle.std.specs.Option.{option_copied};
-ghost use Rattle.rules.specs.type_rules.Subtypes.{is_defined, is_under_object, leads_up, element_of, is_subtype, IsSubtype};
+ghost use Rattle.rules.specs.type_rules.Subtypes.{above, is_defined, is_under_object, leads_up, element_of, is_subtype, IsSubtype};
 ghost use Rattle.type_tables.specs.Tables.{IsTables};
 
 use crate::member_search::bases::definition;
@@ -105,6 +105,43 @@ fn is_below(
     }
 }
 
+/// The search, which two types that are one don't need.
+fn is_same_or_below(
+    alloc: Global,
+    tables: &Tables<'_>,
+    a: &TypeExpr,
+    b: &TypeExpr,
+) -> Result<bool, NoMemory>
+    requires { IsTables tables.now }
+    ensures { IfOk result (λ yes. yes ≡ is_subtype tables.now.world.now.recs a.now b.now) }
+{
+    subtype_decides();
+    if a.is_same(b) {
+        return Ok(true);
+    }
+    let yes = is_below(alloc, tables, a, b)?;
+    Ok(yes)
+}
+
+/// The same for a type that is no array, by all that steps up from it lead to.
+#[tactic(auto, using(crate::proofs::lemmas::subtypes::Elements::plain_is))]
+pub fn is_subtype_by(
+    all: &[AsmRec],
+    a: &TypeExpr,
+    b: &TypeExpr,
+    led: &[TypeExpr],
+) -> Result<bool, NoMemory>
+    requires led { led.now ≡ above all.now a.now }
+    requires plain { element_of a.now ≡ None }
+    ensures { IfOk result (λ yes. yes ≡ is_subtype all.now a.now b.now) }
+{
+    if is_among(led, b) {
+        return Ok(true);
+    }
+    let under = is_under_object(all, a, b)?;
+    Ok(under)
+}
+
 /// Whether a value of the first type can stand where one of the second is wanted: they are one, the second is a base or an
 /// interface of the first or of one of these, or both are arrays and the first one's element is a reference type that can
 /// stand for the second one's (I.8.7). An array can stand for System.Array, every type of a definition for System.Object.
@@ -119,6 +156,6 @@ pub fn is_subtype(
     ensures related { IfOk result (λ yes. Decides yes (IsSubtype tables.now.world.now.recs a.now b.now)) }
 {
     subtype_decides();
-    let yes = is_below(alloc, tables, a, b)?;
+    let yes = is_same_or_below(alloc, tables, a, b)?;
     Ok(yes)
 }

@@ -1,5 +1,4 @@
 use Rattle.std.proofs.Common.{List, ◌∷◌, ap, ◌∙◌}
-use Rattle.std.specs.Prelude.{Option}
 use Rattle.il_base.specs.declared.cil_values.value.Value.{Value}
 use Rattle.il_base.specs.declared.cil_values.path.Path.{Path}
 use Rattle.rules.specs.step_rules.Next.{Next}

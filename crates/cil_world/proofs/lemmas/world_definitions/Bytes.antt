@@ -1,11 +1,10 @@
 -- The first row of a field is the first of those that have it.
-use Rattle.std.proofs.Common.{◌≡◌, ℕ, List, [], ◌∷◌, ◌++◌, Bool, true, false, cond, eqb, Option, Some, None, refl, sym, ap, ◌∙◌}
+use Rattle.std.proofs.Common.{◌≡◌, ℕ, List, [], ◌∷◌, ◌++◌, Bool, true, false, cond, Option, Some, refl, sym, ap, ◌∙◌}
 use Rattle.std.specs.Prelude.{find, ◌==◌, if◌then◌else◌}
 use Rattle.std.specs.List.{flat_map}
 use Rattle.std.proofs.lemmas.List.Concat.{flat_map-cons}
 use Rattle.il_base.specs.declared.world_model.known.Known.{Known}
 use Rattle.il_base.specs.declared.world_model.extras.FieldRvaRow.{FieldRvaRow}
-use Rattle.il_base.specs.declared.cil_values.definition.First.{First}
 use Rattle.rules.specs.view_rules.Methods.{bytes_by, first_bytes}
 use Rattle.cil_world.specs.world_definitions.Fields.{first_by}
 

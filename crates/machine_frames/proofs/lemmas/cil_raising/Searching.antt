@@ -1,5 +1,5 @@
 -- The search for a handler, frame by frame.
-use Rattle.std.proofs.Common.{◌≡◌, ℕ, suc, ◌+◌, ◌-◌, ◌<◌, ◌≤◌, Bool, true, false, List, [], ◌∷◌, ◌++◌, length, drop, reverse, Option, Some, None, get_or, refl, sym, ap, ◌∙◌, arith, inl, inr, add-one}
+use Rattle.std.proofs.Common.{◌≡◌, ℕ, suc, ◌+◌, ◌-◌, ◌<◌, ◌≤◌, true, false, List, [], ◌∷◌, ◌++◌, length, drop, reverse, Some, get_or, refl, sym, ap, ◌∙◌, arith, inl, inr, add-one}
 use Rattle.std.specs.Prelude.{slice_get}
 use Rattle.std.proofs.Math.Seq.{drop-cons}
 use Rattle.std.proofs.lemmas.List.{get_or-reverse, length-reverse, drop_all}
@@ -7,11 +7,10 @@ use Rattle.std.proofs.lemmas.Option.{slice_get_cases, slice_get_read, slice_get_
 use Rattle.il_base.specs.declared.core_table.names.CoreName.TheVariants.{TypeInitializationException}
 use Rattle.il_base.specs.declared.cil_values.state.State.{State}
 use Rattle.il_base.specs.declared.cil_values.frame.Frame.{Frame}
-use Rattle.rules.specs.step_rules.Next.{Next}
 use Rattle.rules.specs.step_rules.Queries.{Queries}
 use Rattle.rules.specs.step_rules.Words.{object_at, stopped}
 use Rattle.rules.specs.step_rules.Objects.{threw, wrapping}
-use Rattle.rules.specs.step_rules.Raising.{Found, nothing_found, bad_clause, by_clause, search, throw, unwind, unwinding_to, caught_or, found_in, passed_on, is_initializer}
+use Rattle.rules.specs.step_rules.Raising.{nothing_found, bad_clause, by_clause, search, throw, unwind, unwinding_to, caught_or, found_in, passed_on, is_initializer}
 use Rattle.machine_frames.specs.cil_raising.Searches.{search_on}
 
 -- a list of which the last element is looked up first

@@ -1,5 +1,5 @@
 -- The way of an exception to its handler, frame by frame.
-use Rattle.std.proofs.Common.{◌≡◌, ℕ, Bool, true, false, nat_eq, List, [], ◌∷◌, Option, Some, None, refl}
+use Rattle.std.proofs.Common.{◌≡◌, ℕ, true, false, nat_eq, List, [], ◌∷◌, Some, None, refl}
 use Rattle.il_base.specs.declared.cil_values.value.Value.TheVariants as value
 use Rattle.il_base.specs.declared.cil_values.definition.Method.{Method}
 use Rattle.il_base.specs.declared.cil_values.resolved.Code.{Code}
@@ -8,7 +8,7 @@ use Rattle.il_base.specs.declared.cil_values.frame.Frame.{Frame}
 use Rattle.il_base.specs.declared.cil_values.frame.Unwinding.{Unwinding}
 use Rattle.il_base.specs.declared.cil_values.frame.Reason.TheVariants.{Caught as caught, Unwinding as unwinding}
 use Rattle.il_base.specs.declared.cil_values.end.End.{End}
-use Rattle.rules.specs.step_rules.Next.{Next, over}
+use Rattle.rules.specs.step_rules.Next.{over}
 use Rattle.rules.specs.step_rules.Queries.{Queries}
 use Rattle.rules.specs.step_rules.Words.{here_of, here_in, stuck}
 use Rattle.rules.specs.step_rules.Raising.{handler_begins, outer, outside, unwind_to}

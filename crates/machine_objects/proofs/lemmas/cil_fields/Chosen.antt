@@ -1,6 +1,6 @@
 -- Accesses by what they are of.
 use Rattle.std.proofs.Common.{◌≡◌, ◌∙◌, sym, ap, List, Bool, true, false, cond}
-use Rattle.std.specs.Prelude.{Option, Some, None}
+use Rattle.std.specs.Prelude.{Some, None}
 use Rattle.il_base.specs.declared.cil_values.value.Value.{Value}
 use Rattle.il_base.specs.declared.cil_values.resolved.Instruction.{Instruction}
 use Rattle.il_base.specs.declared.cil_values.state.State.{State}

@@ -1,12 +1,11 @@
 -- The object of a text, whatever is on the evaluation stack.
-use Rattle.std.proofs.Common.{◌≡◌, ◌∙◌, refl, sym, ap, ℕ, List, [], ◌∷◌, ◌++◌, length, Bool, true, false}
+use Rattle.std.proofs.Common.{◌≡◌, ◌∙◌, refl, sym, ap, ℕ, List, [], length, Bool, true, false}
 use Rattle.std.specs.Prelude.{Option, Some, None, nat_le}
 use Rattle.il_base.specs.declared.cil_values.value.Value.{Value}
 use Rattle.il_base.specs.declared.cil_values.frame.Frame.{Frame}
 use Rattle.il_base.specs.declared.cil_values.state.State.{State}
-use Rattle.il_base.specs.declared.cil_values.object.Obj.TheVariants as object
 use Rattle.rules.specs.step_rules.Next.{Next, went, over}
-use Rattle.rules.specs.step_rules.Words.{within, made, stopped}
+use Rattle.rules.specs.step_rules.Words.{within, stopped}
 use Rattle.rules.specs.step_rules.Closing.{Accessed}
 use Rattle.rules.specs.step_rules.Fields.{with_value}
 use Rattle.il_base.specs.declared.cil_values.value.Value.TheVariants as value

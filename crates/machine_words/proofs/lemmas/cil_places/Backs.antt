@@ -1,5 +1,5 @@
 -- Frames by their numbers, from the top.
-use Rattle.std.proofs.Common.{◌≡◌, ◌∙◌, refl, sym, ap, ℕ, ◌+◌, ◌-◌, ◌<◌, ◌≤◌, List, [], ◌∷◌, ◌++◌, length, get_or, drop, map, reverse, Bool, true, false, cond, arith}
+use Rattle.std.proofs.Common.{◌≡◌, ◌∙◌, refl, sym, ap, ℕ, ◌+◌, ◌-◌, ◌<◌, ◌≤◌, List, [], ◌∷◌, ◌++◌, length, get_or, drop, map, reverse, Bool, true, false}
 use Rattle.std.specs.Prelude.{Option, Some, None}
 use Rattle.il_base.specs.declared.cil_values.state.State.{State}
 use Rattle.il_base.specs.declared.cil_values.frame.Frame.{Frame}

@@ -1,6 +1,6 @@
 -- An object that is taken out of the heap, changed and put back.
 use Rattle.std.proofs.Common.{◌≡◌, ◌∙◌, refl, sym, ap, ℕ, zero, suc, List, [], ◌∷◌, slice_set, Bool, true, false}
-use Rattle.std.specs.Prelude.{Option, Some, None, slice_get, Result, Ok, Err, IfOk, MatchBool}
+use Rattle.std.specs.Prelude.{Some, None, slice_get, Result, Ok, Err, IfOk, MatchBool}
 use Rattle.il_base.specs.declared.cil_values.value.Value.{Value}
 use Rattle.il_base.specs.declared.cil_values.object.Obj.{Obj}
 use Rattle.rules.specs.step_rules.Queries.{Queries}

@@ -1,5 +1,5 @@
 -- A list whose first elements were changed already.
-use Rattle.std.proofs.Common.{◌≡◌, ◌∙◌, refl, sym, ap, ℕ, zero, suc, ◌+◌, ◌<◌, ◌≤◌, List, [], ◌∷◌, length, map, get_or, slice_set, arith, add-one}
+use Rattle.std.proofs.Common.{◌≡◌, ◌∙◌, refl, ap, ℕ, zero, suc, ◌+◌, ◌<◌, ◌≤◌, List, [], ◌∷◌, length, map, get_or, slice_set, arith}
 
 abbrev pub mixed : {A : Type 0} → (A → A) → ℕ → List A → List A
 mixed g zero xs = xs

@@ -1,5 +1,5 @@
 -- The search for a subtype, one level of arrays at a time.
-use Rattle.std.proofs.Common.{◌≡◌, ℕ, zero, suc, true, false, List, Some, None, refl, ap, ◌∙◌}
+use Rattle.std.proofs.Common.{◌≡◌, ℕ, zero, suc, Bool, true, false, List, Some, None, refl, ap, ◌∙◌}
 use Rattle.il_base.specs.declared.world_model.expr.TypeExpr.{TypeExpr}
 use Rattle.il_base.specs.declared.world_model.record.AsmRec.{AsmRec}
 use Rattle.il_base.specs.world_model.Exprs.{levels}
@@ -36,3 +36,11 @@ module _ (recs : List AsmRec) (a b : TypeExpr) where
 
     pub one_down : (x y : TypeExpr) → element_of a ≡ Some x → element_of b ≡ Some y → is_reference recs x ≡ true → is_subtype recs a b ≡ is_subtype recs x y
     one_down x y e f r = ap (λ (n : ℕ). is_below recs n a b) (deeper a x e) ∙ by_elements (levels x) x y e f r
+
+-- a type that is no array leads to a subtype by steps up alone
+pub plain_is : (recs : List AsmRec) (a b : TypeExpr) → element_of a ≡ None → is_subtype recs a b ≡ leads_up recs a b
+plain_is recs a b e = by_led (leads_up recs a b) refl
+  where
+    by_led : (y : Bool) → leads_up recs a b ≡ y → is_subtype recs a b ≡ y
+    by_led true l = led_up recs a b l
+    by_led false l = no_element recs a b l e

@@ -1,4 +1,4 @@
-use Rattle.std.proofs.Common.{◌≡◌, sym, ◌∙◌}
+use Rattle.std.proofs.Common.{sym, ◌∙◌}
 use Rattle.cil_world.proofs.lemmas.world_core.TableRows.{no_kind, by_kind}
 use Rattle.cil_world.proofs.world_core.members.core_call.Goals as goal
 

@@ -1,4 +1,4 @@
-use Rattle.std.proofs.Common.{◌≡◌, ◌<◌, ◌≤◌, length, sym, ◌∙◌, ap, arith, ◌∷◌, ◌-◌}
+use Rattle.std.proofs.Common.{sym, ◌∙◌, ap, arith, ◌∷◌, ◌-◌}
 use Rattle.rules.specs.step_rules.Raising.{is_unwound}
 use Rattle.machine_frames.proofs.lemmas.cil_raising.Placing.{places_past, places_in, places_out}
 use Rattle.machine_frames.proofs.cil_raising.clauses.unwound.Goals as goal

@@ -1,7 +1,7 @@
-use Rattle.std.proofs.Common.{◌≡◌, ℕ, ◌+◌, ◌<◌, ◌≤◌, ◌&&◌, true, false, List, length, drop, get_or, sym, ap, subst, ◌∙◌, arith}
+use Rattle.std.proofs.Common.{◌≡◌, ◌+◌, ◌<◌, ◌≤◌, List, length, drop, get_or, sym, ap, ◌∙◌, arith}
 use Rattle.il_base.specs.declared.cil_values.resolved.Clause.{Clause}
-use Rattle.rules.specs.step_rules.Words.{here_in, in_try}
-use Rattle.rules.specs.step_rules.Raising.{clause_for, is_catch}
+use Rattle.rules.specs.step_rules.Words.{here_in}
+use Rattle.rules.specs.step_rules.Raising.{clause_for}
 use Rattle.machine_frames.specs.cil_raising.Searches.{look_by}
 use Rattle.machine_frames.proofs.lemmas.cil_raising.Catching.{past_all, around, not_around}
 use Rattle.machine_frames.proofs.cil_raising.search.clause_for.Goals as goal

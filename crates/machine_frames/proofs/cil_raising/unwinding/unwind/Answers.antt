@@ -1,7 +1,6 @@
-use Rattle.std.proofs.Common.{◌≡◌, [], ◌∷◌, refl, sym, ap, subst, ◌∙◌, eq-eqb, ne_eqb}
+use Rattle.std.proofs.Common.{◌≡◌, [], sym, ap, subst, ◌∙◌, eq-eqb, ne_eqb}
 use Rattle.std.specs.Prelude.{IfOk}
 use Rattle.il_base.specs.declared.cil_values.frame.Unwinding.{Unwinding}
-use Rattle.il_base.specs.declared.cil_values.state.State.{State}
 use Rattle.rules.specs.step_rules.Next.{Next}
 use Rattle.rules.specs.step_rules.Raising.{unwind_to, outer, outside}
 use Rattle.machine_words.specs.cil_words.Steps.{next_of}

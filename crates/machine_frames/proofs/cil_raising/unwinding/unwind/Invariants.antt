@@ -1,4 +1,4 @@
-use Rattle.std.proofs.Common.{◌≡◌, ℕ, length}
+use Rattle.std.proofs.Common.{◌≡◌, length}
 use Rattle.rules.specs.step_rules.Raising.{unwind_to, unwind}
 use Rattle.machine_frames.proofs.cil_raising.unwinding.unwind.Given as goal
 

@@ -1,4 +1,4 @@
-use Rattle.std.proofs.Common.{◌≡◌, ◌<◌, ◌≤◌, length, sym, ◌∙◌, ap, arith, ◌∷◌, ◌-◌}
+use Rattle.std.proofs.Common.{sym, ◌∙◌, ap, arith, ◌∷◌, ◌-◌}
 use Rattle.rules.specs.step_rules.Throws.{is_crossed}
 use Rattle.machine_frames.proofs.lemmas.cil_raising.Placing.{places_past, places_in, places_out}
 use Rattle.machine_frames.proofs.cil_throws.leaving.crossed_in.Goals as goal

@@ -1,4 +1,4 @@
-use Rattle.std.proofs.Common.{◌≡◌, ◌≤◌, Some, length, reverse, sym, ap, ◌∙◌, arith}
+use Rattle.std.proofs.Common.{◌≤◌, length, reverse, sym, ◌∙◌, arith}
 use Rattle.std.proofs.lemmas.List.{length-reverse, reverse-reverse}
 use Rattle.machine_frames.proofs.lemmas.cil_throws.Handling.{reason_begins, reason_here, reason_further, reason_nowhere}
 use Rattle.machine_frames.proofs.cil_throws.reasons.reason_in.Goals as goal

@@ -1,12 +1,10 @@
 use Rattle.std.proofs.Common.{List, ◌∷◌, ap, ◌∙◌}
-use Rattle.std.specs.Prelude.{Option}
 use Rattle.il_base.specs.declared.cil_values.value.Value.{Value}
 use Rattle.il_base.specs.declared.cil_values.path.Path.{Path}
 use Rattle.rules.specs.step_rules.Next.{Next}
 use Rattle.machine_words.specs.cil_words.Steps.{here_by}
 use Rattle.machine_numbers.specs.cil_pointers.Reaching.{with_stack}
-use Rattle.machine_words.specs.cil_closing.Callees.{accessed_by}
-use Rattle.rules.specs.step_rules.Words.{given, goes}
+use Rattle.rules.specs.step_rules.Words.{goes}
 use Rattle.il_base.specs.declared.cil_values.value.Value.TheVariants as value
 use Rattle.machine_numbers.proofs.lemmas.cil_pointers.Reaching.{at_place, raised, gone, refused}
 use Rattle.machine_objects.proofs.cil_fields.fields.address_field.Goals as goal
@@ -20,7 +18,8 @@ returns-in_ok-out-in-At g c =
     let vs : List Value = c.args.r ∷ stack in
     let f : Path → Value → Next = λ p v. goes here c.args.i.now (value.Pointer p ∷ stack) (with_stack vs s) in
     let on = c.in_ok-found.ensures vs f in
-    at_place q c.in_ok-found.found s vs f _ on c.in-At.p c.in-At.v _ c.in-At.is (c.in_ok-out-in-At.ensures vs)
+    at_place q c.in_ok-found.found s vs f _ on c.in-At.p c.in-At.v _ c.in-At.is
+    (c.in_ok-out-in-At.ensures vs ∙ ap (λ (w : Value). goes here c.args.i.now (w ∷ stack) (with_stack vs s)) c.in_ok-pointer-in-At.ensures)
 
 pub returns-in_ok-raised-in-Null : goal.returns-in_ok-raised-in-Null
 returns-in_ok-raised-in-Null g c =

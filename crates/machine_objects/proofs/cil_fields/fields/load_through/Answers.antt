@@ -1,12 +1,10 @@
-use Rattle.std.proofs.Common.{List, ◌∷◌, ap, ◌∙◌}
-use Rattle.std.specs.Prelude.{Option}
+use Rattle.std.proofs.Common.{List, ◌∷◌}
 use Rattle.il_base.specs.declared.cil_values.value.Value.{Value}
 use Rattle.il_base.specs.declared.cil_values.path.Path.{Path}
 use Rattle.rules.specs.step_rules.Next.{Next}
 use Rattle.machine_words.specs.cil_words.Steps.{here_by}
 use Rattle.machine_numbers.specs.cil_pointers.Reaching.{with_stack}
-use Rattle.machine_words.specs.cil_closing.Callees.{accessed_by}
-use Rattle.rules.specs.step_rules.Words.{given, goes}
+use Rattle.rules.specs.step_rules.Words.{goes}
 use Rattle.machine_numbers.proofs.lemmas.cil_pointers.Reaching.{at_place, raised, gone, refused}
 use Rattle.machine_objects.proofs.cil_fields.fields.load_through.Goals as goal
 

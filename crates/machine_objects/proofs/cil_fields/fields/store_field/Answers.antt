@@ -1,11 +1,9 @@
 use Rattle.std.proofs.Common.{List, ◌∷◌, ap, ◌∙◌}
-use Rattle.std.specs.Prelude.{Option}
 use Rattle.il_base.specs.declared.cil_values.value.Value.{Value}
 use Rattle.il_base.specs.declared.cil_values.path.Path.{Path}
 use Rattle.rules.specs.step_rules.Next.{Next}
 use Rattle.machine_words.specs.cil_words.Steps.{here_by}
 use Rattle.machine_numbers.specs.cil_pointers.Reaching.{with_stack}
-use Rattle.machine_words.specs.cil_closing.Callees.{accessed_by}
 use Rattle.rules.specs.step_rules.Words.{given, goes}
 use Rattle.rules.specs.step_rules.Stores.{fits}
 use Rattle.rules.specs.step_rules.Places.{put_at}

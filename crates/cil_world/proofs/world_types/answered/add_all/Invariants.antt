@@ -1,0 +1,5 @@
+use Rattle.cil_world.specs.world_types.Answered.{AreAnswers, AreLed}
+use Rattle.cil_world.proofs.world_types.answered.add_all.Given as goal
+
+abbrev pub invariant-loop-rec : goal.invariant-loop-rec
+invariant-loop-rec l = AreAnswers l.tables.world.now.recs l.answered.answers.items × AreLed l.tables.world.now.recs l.answered.led.items
