@@ -1,5 +1,5 @@
 -- The types that a type leads to, and those on a cycle (II.10.3, II.22.32, II.22.37).
-use Rattle.std.specs.Prelude.{ℕ, zero, suc, ◌/◌, ◌%◌, List, [], ◌∷◌, ◌++◌, length, Option, Some, None, slice_get, nat_eq, ◌==◌, ◌&&◌, ◌||◌, Bool, not, if◌then◌else◌}
+use Rattle.std.specs.Prelude.{ℕ, zero, suc, List, [], ◌∷◌, ◌++◌, length, Option, Some, None, slice_get, nat_eq, ◌==◌, ◌&&◌, ◌||◌, Bool, not, if◌then◌else◌}
 use Rattle.il_base.specs.declared.table.TheConstants.{TYPE_DEF}
 use Rattle.il_base.specs.declared.field_flags.TheConstants.{STATIC}
 use Rattle.il_base.specs.Flags.{has_flag}

@@ -1,6 +1,6 @@
 -- The attributes of trimming, recognized by their full name wherever they are defined: `DynamicallyAccessedMembers` (annotations),
 -- `RequiresUnreferencedCode` and `DynamicDependency`.
-use Rattle.std.specs.Prelude.{ℕ, suc, List, [], ◌∷◌, ◌++◌, map, codes, take, Option, Some, None, slice_get, ◌/◌, ◌%◌, ◌+◌, ◌==◌, ◌&&◌, Bool, true, false, not, if◌then◌else◌}
+use Rattle.std.specs.Prelude.{ℕ, suc, List, [], ◌∷◌, ◌++◌, map, codes, take, Option, Some, None, slice_get, ◌/◌, ◌%◌, ◌+◌, ◌==◌, ◌&&◌, Bool, false, not, if◌then◌else◌}
 use Rattle.std.specs.List.{list_any, flat_map, filter, position_from}
 use Rattle.std.specs.Option.{option_and_then}
 use Rattle.il_base.specs.declared.ids.Item.{Item}
@@ -29,12 +29,10 @@ use Rattle.attr_blobs.specs.declared.value.Arg.{Arg, out-Arg}
 use Rattle.attr_blobs.specs.declared.value.Arg.TheOpen.{Arg-F}
 use Rattle.attr_blobs.specs.declared.value.AttrValue.{AttrValue}
 use Rattle.rules.specs.declared.link_rules.row_at.RowAt.{RowAt}
-use Rattle.rules.specs.declared.link_rules.member_type.MethodType.{MethodType}
 use Rattle.rules.specs.link_rules.Types.{encloser}
 use Rattle.rules.specs.link_rules.Signatures.{names_at}
 use Rattle.rules.specs.link_rules.Members.{owns_method, type_home}
 use Rattle.rules.specs.link_rules.Cycles.{listed}
-use Rattle.rules.specs.type_rules.Slots.{type_of_row}
 use Rattle.rules.specs.type_rules.Rows.{each_row, rec_at, run_places}
 use Rattle.rules.specs.declared.mark_rules.member_kinds.TheConstants as kind
 use Rattle.rules.specs.mark_rules.Places.{row_of}
@@ -135,17 +133,6 @@ abbrev pub slot_kinds : List AsmRec → RowAt → ℕ → ℕ
 slot_kinds recs at sequence =
     or_zero (flat_map (λ (rec : AsmRec). map (kinds_of_param recs at rec sequence) (listed (slice_get rec.method_def at.row))) (listed (rec_at recs at)))
 
-abbrev pub good_type_of_row : Option (Known MethodType) → List MethodType
-good_type_of_row None = []
-good_type_of_row (Some (Good m)) = m ∷ []
-good_type_of_row (Some (Bad why)) = []
-
-abbrev pub parameter_holds : List AsmRec → RowAt → ℕ → Bool
-parameter_holds recs at n = list_any (λ (m : MethodType). list_any (may_name_type recs) (listed (slice_get m.params n))) (good_type_of_row (type_of_row recs at))
-
-abbrev pub return_holds : List AsmRec → RowAt → Bool
-return_holds recs at = list_any (λ (m : MethodType). may_name_type recs m.ret) (good_type_of_row (type_of_row recs at))
-
 abbrev pub good_expr : Known TypeExpr → List TypeExpr
 good_expr (Good e) = e ∷ []
 good_expr (Bad why) = []
@@ -169,14 +156,6 @@ generic_kinds_by recs a rec owner n k row =
 abbrev pub generic_kinds : List AsmRec → RowAt → ℕ → ℕ → ℕ
 generic_kinds recs at table n =
     or_zero (flat_map (λ (rec : AsmRec). each_row (generic_kinds_by recs at.asm rec (token_of table (suc at.row)) n) rec.generic_param) (listed (rec_at recs at)))
-
--- the kinds of members that reflection may ask for on values of the holder; 0 without an annotation
-unfoldable pub flags_of : List AsmRec → Holder → ℕ
-flags_of recs (parameter at n) = if parameter_holds recs at n then slot_kinds recs at (suc n) else 0
-flags_of recs (return_value at) = if return_holds recs at then slot_kinds recs at 0 else 0
-flags_of recs (field at) = if field_holds recs at then field_kinds recs at else 0
-flags_of recs (type_parameter at n) = generic_kinds recs at TYPE_DEF n
-flags_of recs (method_parameter at n) = generic_kinds recs at METHOD_DEF n
 
 -- ---- need of unreferenced code
 

@@ -1,6 +1,6 @@
 -- What a marked method needs: its signature, its body, the types that it makes, what it overrides, the initializer of its type;
 -- and what a virtual call of it may run (II.10.3, II.12.2, II.15).
-use Rattle.std.specs.Prelude.{ℕ, suc, List, [], ◌++◌, map, Option, slice_get, ◌==◌, ◌&&◌, Bool, not, if◌then◌else◌}
+use Rattle.std.specs.Prelude.{ℕ, suc, List, [], ◌++◌, map, Option, slice_get, ◌&&◌, Bool, not, if◌then◌else◌}
 use Rattle.std.specs.List.{list_any, flat_map}
 use Rattle.std.specs.Option.{option_and_then, option_map}
 use Rattle.il_base.specs.declared.body.Form.{Form}

@@ -1,5 +1,5 @@
 -- The limits on a file that is written, in the order in which they are checked.
-use Rattle.std.specs.Prelude.{ℕ, Bool, true, false, nat_lt, List, length, find, Option, Some, None, if◌then◌else◌}
+use Rattle.std.specs.Prelude.{ℕ, Bool, true, false, nat_lt, length, find, Option, Some, None, if◌then◌else◌}
 use Rattle.il_base.specs.declared.limit.TheConstants.{ROWS, OUTPUT_LENGTH}
 use Rattle.il_base.specs.cli_format.Metadata.{most_rows}
 use Rattle.il_base.specs.declared.world_model.record.AsmRec.{AsmRec}

@@ -16,11 +16,9 @@ use Rattle.il_base.specs.declared.cil_values.definition.Signature.{Signature}
 use Rattle.il_base.specs.declared.cil_values.resolved.Use.TheVariants.{Typ as typ, Method as method}
 use Rattle.rules.specs.step_rules.Queries.{Queries}
 use Rattle.il_base.specs.declared.cil_values.state.State.{State}
-use Rattle.il_base.specs.declared.cil_values.frame.Frame.{Frame}
 use Rattle.il_base.specs.declared.cil_values.frame.Prefix.{Prefix}
 use Rattle.il_base.specs.declared.cil_values.frame.Waits.{Waits}
-use Rattle.il_base.specs.declared.cil_values.state.Init.{Init}
-use Rattle.rules.specs.step_rules.Next.{Next, went, over}
+use Rattle.rules.specs.step_rules.Next.{Next, went}
 use Rattle.il_base.specs.declared.cil_values.frame.Prefix.TheVariants as prefixed
 use Rattle.il_base.specs.declared.cil_values.frame.Waits.TheVariants as waits
 use Rattle.il_base.specs.declared.cil_values.core_call.CoreCall.{CoreCall}

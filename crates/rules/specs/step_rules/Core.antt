@@ -7,11 +7,9 @@ use Rattle.il_base.specs.declared.cil_values.value.Value.{Value}
 use Rattle.il_base.specs.declared.cil_values.value.Value.TheVariants as value
 use Rattle.rules.specs.step_rules.Queries.{Queries}
 use Rattle.il_base.specs.declared.cil_values.state.State.{State}
-use Rattle.il_base.specs.declared.cil_values.frame.Waits.{Waits}
 use Rattle.rules.specs.step_rules.Next.{Next}
 use Rattle.il_base.specs.declared.cil_values.frame.Waits.TheVariants as waits
 use Rattle.il_base.specs.declared.cil_values.core_call.CoreCall.{CoreCall}
-use Rattle.il_base.specs.declared.cil_values.core_call.Printed.{Printed}
 use Rattle.il_base.specs.declared.cil_values.core_call.Printed.TheVariants.{OfObject as of_object}
 use Rattle.il_base.specs.declared.cil_values.core_call.CoreCall.TheVariants as core
 use Rattle.rules.specs.step_rules.Words.{stuck, given, had, object_at}

@@ -16,7 +16,6 @@ use Rattle.il_base.specs.declared.cil_values.object.Obj.TheVariants as object
 use Rattle.il_base.specs.declared.cil_values.path.Path.{Path}
 use Rattle.il_base.specs.declared.cil_values.path.Root.TheVariants as root
 use Rattle.il_base.specs.declared.cil_values.resolved.Instruction.{Instruction}
-use Rattle.il_base.specs.declared.cil_values.resolved.Use.{Use}
 use Rattle.il_base.specs.declared.cil_values.definition.First.{First}
 use Rattle.il_base.specs.declared.cil_values.layout.Cell.{Cell}
 use Rattle.il_base.specs.declared.cil_values.layout.Layout.{Layout}

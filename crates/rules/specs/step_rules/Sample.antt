@@ -20,16 +20,10 @@ use Rattle.il_base.specs.declared.cil_values.end.End.{End}
 use Rattle.il_base.specs.declared.cil_values.resolved.Use.TheVariants as used
 use Rattle.il_base.specs.declared.cil_values.resolved.Instruction.{Instruction}
 use Rattle.il_base.specs.declared.cil_values.resolved.Use.{Use}
-use Rattle.il_base.specs.declared.cil_values.resolved.Clause.{Clause}
-use Rattle.il_base.specs.declared.cil_values.resolved.ClauseKind.{ClauseKind as Kind}
 use Rattle.il_base.specs.declared.cil_values.resolved.Code.{Code}
 use Rattle.il_base.specs.declared.cil_values.definition.Method.{Method}
-use Rattle.il_base.specs.declared.cil_values.definition.Signature.{Signature}
-use Rattle.il_base.specs.declared.cil_values.definition.FieldDef.{FieldDef}
-use Rattle.il_base.specs.declared.cil_values.definition.Head.{Head}
 use Rattle.il_base.specs.declared.cil_values.layout.Layout.{Layout}
 use Rattle.il_base.specs.declared.cil_values.layout.Shape.{Shape}
-use Rattle.il_base.specs.declared.cil_values.resolved.ClauseKind.TheVariants.{Catch as catches, Finally as finally}
 use Rattle.il_base.specs.declared.cil_values.layout.Shape.TheVariants.{Reference as reference, Integer as integer, Structure as structure, NoValue as no_value}
 use Rattle.il_base.specs.declared.cil_values.layout.Cell.TheVariants.{Field as of_field, Message as message, Inner as inner}
 use Rattle.il_base.specs.declared.cil_values.definition.First.TheVariants.{Blank as blank}

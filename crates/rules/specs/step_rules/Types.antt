@@ -10,7 +10,6 @@ use Rattle.il_base.specs.declared.cil_values.value.Value.TheVariants as value
 use Rattle.il_base.specs.declared.cil_values.object.Obj.{Obj}
 use Rattle.il_base.specs.declared.cil_values.object.Obj.TheVariants as object
 use Rattle.il_base.specs.declared.cil_values.resolved.Instruction.{Instruction}
-use Rattle.il_base.specs.declared.cil_values.resolved.Use.{Use}
 use Rattle.il_base.specs.declared.cil_values.resolved.Use.TheVariants.{Typ as typ, Method as method}
 use Rattle.rules.specs.step_rules.Queries.{Queries}
 use Rattle.il_base.specs.declared.cil_values.resolved.Use.TheVariants as used

@@ -1,5 +1,5 @@
 -- Examples: fields with bytes, and the shapes of enums and structs.
-use Rattle.std.specs.Prelude.{◌≡◌, ℕ, pos, List, [], ◌∷◌, Some}
+use Rattle.std.specs.Prelude.{◌≡◌, ℕ, pos, [], ◌∷◌, Some}
 use Rattle.std.specs.Option.{option_map}
 use Rattle.il_base.specs.declared.element.TheConstants as element
 use Rattle.il_base.specs.declared.world_model.known.Known.TheVariants.{Good}

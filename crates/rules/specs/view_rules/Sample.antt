@@ -1,6 +1,6 @@
 -- A small input for examples, beside a core library of Object, ValueType and Enum: `Data` is a struct, `Holder` a class with a static
 -- field of it that has bytes, `E1` an enum over int32, `E2` one over `E1`.
-use Rattle.std.specs.Prelude.{ℕ, List, [], ◌∷◌, codes, None, false, true}
+use Rattle.std.specs.Prelude.{ℕ, List, [], ◌∷◌, codes, None, true}
 use Rattle.il_base.specs.declared.element.TheConstants as element
 use Rattle.il_base.specs.declared.field_flags.TheConstants.{STATIC}
 use Rattle.il_base.specs.declared.sig.Sig.{Sig}
