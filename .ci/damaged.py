@@ -30,8 +30,9 @@ ANSWERS = {
     21: r"spent 1000",
     22: r"stopped " + PLACE,
     23: r"stuck " + PLACE,
+    30: r"not yet a\.exe",
 }
-REFUSALS = (3, 4, 5, 8, 12)
+REFUSALS = (3, 4, 5, 8, 12, 30)
 
 
 class Fault(Exception):

@@ -121,6 +121,14 @@ static class Core
     static void H() { object c = Color.Green; c.GetHashCode(); }
     static void I() { new Exception("m").ToString(); }
     static void J() { object u = 7UL; u.GetHashCode(); }
+    static void K() { object b = true; b.GetHashCode(); }
+    static void L() { object c = 'x'; c.GetHashCode(); }
+    static void M() { object s = (sbyte)1; s.GetHashCode(); }
+    static void N() { object u = (byte)1; u.GetHashCode(); }
+    static void O() { object s = (short)1; s.GetHashCode(); }
+    static void P() { object u = (ushort)1; u.GetHashCode(); }
+    static void Q() { object u = 1u; u.GetHashCode(); }
+    static void R() { object s = 1L; s.GetHashCode(); }
 
     static void Main()
     {
@@ -136,6 +144,14 @@ static class Core
             case 'h': H(); break;
             case 'i': I(); break;
             case 'j': J(); break;
+            case 'k': K(); break;
+            case 'l': L(); break;
+            case 'm': M(); break;
+            case 'n': N(); break;
+            case 'o': O(); break;
+            case 'p': P(); break;
+            case 'q': Q(); break;
+            case 'r': R(); break;
             default:
                 Messages();
                 Bases();

@@ -2,3 +2,4 @@ pub mod Rows
 pub mod Programs
 pub mod mark_flaws
 pub mod attribute_flaws
+pub mod Searches

@@ -9,7 +9,9 @@ mod impls;
 mod items;
 mod least;
 pub mod mark_flaws;
+mod not_yet;
 mod program;
 
 pub use first::first_bad;
+pub use not_yet::first_not_yet;
 pub use program::Program;

@@ -10,3 +10,4 @@ pub use number_texts::number_text;
 pub use numbers::{int_compare, int_equals, number_is};
 pub use objects::{halt, idle, is_same, same};
 pub use type_texts::type_name;
+pub(crate) use type_texts::units_of_bytes;

@@ -8,6 +8,7 @@ pub mod cil_exceptions;
 pub mod cil_members;
 pub mod cil_object_members;
 pub mod cil_text_members;
+pub mod cil_type_members;
 mod found;
 mod members;
 mod resuming;

@@ -18,6 +18,11 @@ use crate::cil_text_members::{
     string_is_empty, string_itself, string_length, string_other, string_part, string_same,
     string_unit,
 };
+use crate::cil_type_members::{
+    object_type, type_encloser, type_fits, type_from_handle, type_full_name, type_has,
+    type_is_array, type_is_interface, type_is_value, type_namespace, type_other, type_own_name,
+    type_text,
+};
 use il_base::NoMemory;
 use il_base::cil_values::{CoreCall, State, Value};
 use machine_words::cil_queries::Answers;
@@ -71,6 +76,21 @@ pub(crate) fn simple<Q: Answers>(
         CoreCall::GetMessage => get_message(alloc, q, args, st),
         CoreCall::GetInner => get_inner(alloc, q, args, st),
         CoreCall::FillArray => fill_array(alloc, q, args, st),
+        CoreCall::TypeFromHandle => type_from_handle(alloc, args, st),
+        CoreCall::TypeOf => object_type(alloc, q, args, st),
+        CoreCall::TypeText => type_text(alloc, q, args, st),
+        CoreCall::TypeFullName => type_full_name(alloc, q, args, st),
+        CoreCall::TypeNamespace => type_namespace(alloc, q, args, st),
+        CoreCall::MemberName => type_own_name(alloc, q, args, st),
+        CoreCall::MemberOwner => type_encloser(alloc, q, args, st),
+        CoreCall::TypeSame => Ok(same(args, st)),
+        CoreCall::TypeOther => Ok(type_other(args, st)),
+        CoreCall::TypeIs => Ok(same(args, st)),
+        CoreCall::TypeFits => type_fits(alloc, q, args, st),
+        CoreCall::TypeHas => type_has(alloc, q, args, st),
+        CoreCall::TypeIsValue => type_is_value(alloc, q, args, st),
+        CoreCall::TypeIsInterface => Ok(type_is_interface(q, args, st)),
+        CoreCall::TypeIsArray => Ok(type_is_array(args, st)),
         CoreCall::AreEqual => Ok(stuck_member(st)),
     }
 }

@@ -1,2 +1,4 @@
 pub mod ByForm
 pub mod Steps
+pub mod Simple
+pub mod Runs

@@ -4,7 +4,9 @@
 
 mod beginning;
 mod entry_form;
+mod quiet;
 mod stepping;
 
 pub use beginning::{Beginning, begin};
+pub use quiet::quiet_steps;
 pub use stepping::step;

@@ -123,6 +123,18 @@ impl<'w> Answers for View<'w> {
         self.types.text(alloc, ty)
     }
 
+    fn label(&self, alloc: Global, ty: &TypeExpr) -> Result<Text, NoMemory> {
+        self.types.label(alloc, ty)
+    }
+
+    fn space(&self, alloc: Global, ty: &TypeExpr) -> Result<Text, NoMemory> {
+        self.types.space(alloc, ty)
+    }
+
+    fn encloser(&self, ty: u32) -> Option<u32> {
+        self.layouts.definitions().encloser(ty)
+    }
+
     fn kin(&self, alloc: Global, ty: &TypeExpr) -> Result<Option<CoreName>, NoMemory> {
         self.types.kin(alloc, ty)
     }

@@ -5,4 +5,4 @@ pub mod defined;
 pub mod methods;
 pub mod outside;
 pub mod rows;
-mod signatures;
+pub mod signatures;

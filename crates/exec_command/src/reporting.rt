@@ -62,6 +62,7 @@ fn assembly_in(alloc: Global, files: &Seq<Text>, status: &Status) -> Result<Text
         | Status::BadFile { .. }
         | Status::Outside { .. }
         | Status::Unresolved { .. }
+        | Status::NotYet { .. }
         | Status::Collision { .. }
         | Status::BadDescriptor { .. }
         | Status::Limit { .. }
@@ -88,6 +89,7 @@ fn file_in<'a>(names: &'a [String], status: &Status) -> &'a [u8]
         | Status::BadWords { .. }
         | Status::Outside { .. }
         | Status::Unresolved { .. }
+        | Status::NotYet { .. }
         | Status::Collision { .. }
         | Status::BadDescriptor { .. }
         | Status::Limit { .. }

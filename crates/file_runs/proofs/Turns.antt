@@ -54,14 +54,16 @@ grew_by_nothing (Some xs) = sym (append-nil xs)
 regroup : (done bytes : List ℕ) (o : Outcome) → printed_before (done ++ bytes) o ≡ printed_before done (printed_before bytes o)
 regroup done bytes o = ap (λ (t : List ℕ). record { output = t; end = o.end }) (append_assoc done bytes o.output)
 
--- the rest of a run by its next step
-pub run_next : (q : Queries) (n i : ℕ) (s : State) → i < n → run q (n - i) s ≡ after (step q s) (run q (n - (i + 1)))
+-- the rest of a run after some steps that print nothing, by its next step
+pub run_next : (q : Queries) (n made : ℕ) (s t : State) → 0 < n → made ≤ n - 1 → ((m : ℕ) → run q (made + m) s ≡ run q m t) → run q n s ≡ after (step q t) (run q (n - made - 1))
 unfolding run
-run_next q n i s lt = let k : n - i ≡ suc (n - (i + 1)) = omega arith in rw k refl
+run_next q n made s t some within quiet =
+    let whole : n ≡ made + suc (n - made - 1) = omega arith in
+    ap (λ (k : ℕ). run q k s) whole ∙ quiet (suc (n - made - 1))
 
-pub run_none : (q : Queries) (n i : ℕ) (s : State) → n ≤ i → run q (n - i) s ≡ record { output = []; end = None }
+pub run_none : (q : Queries) (n : ℕ) (s : State) → n ≤ 0 → run q n s ≡ record { output = []; end = None }
 unfolding run
-run_none q n i s le = let k : n - i ≡ 0 = omega arith in rw k refl
+run_none q n s le = let k : n ≡ 0 = omega arith in rw k refl
 
 -- a turn that goes on
 went_on : (total : Outcome) (old now new : SinkState) (s t : State) (bytes : List ℕ) (f : State → Outcome) → Left total old now (printed_before bytes (f s))
@@ -118,3 +120,7 @@ all_went total old now rest none left =
 -- all that a run prints is a prefix of it
 pub whole_is_prefix : (o : Outcome) (old new : SinkState) → Appends old.held new.held o.output → AppendsPrefix old.held new.held o.output
 whole_is_prefix o old new grown = (length o.output, subst (λ (t : List ℕ). Appends old.held new.held t) (sym (take-length o.output)) grown)
+
+-- memory ran out before a step
+pub runs_out : (total : Outcome) (old now : SinkState) (rest : Outcome) → Left total old now rest → RunsTo total old now (Err NoMemory)
+runs_out total old now rest left = (stands total old now now rest left (grew_by_nothing now.held), left.faults)

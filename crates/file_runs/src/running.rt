@@ -7,7 +7,7 @@ ghost use Rattle.cil_machine.specs.Begun.{beginning_by};
 ghost use Rattle.file_runs.specs.Steps.{RunsTo, TurnsTo};
 
 use crate::fault::RunFault;
-use cil_machine::{Beginning, begin, step};
+use cil_machine::{Beginning, begin, quiet_steps, step};
 use il_base::cil_values::{End, State};
 use il_outside::{Sink, SinkError, write_all};
 use machine_words::cil_queries::Answers;
@@ -35,8 +35,34 @@ fn turn<Q: Answers, O: Sink>(
     }
 }
 
-/// At most `n` steps.
+/// At most `n` steps. Those of simple instructions are made many at once.
 fn steps<Q: Answers, O: Sink>(
+    alloc: Global,
+    q: &Q,
+    st: &mut State,
+    n: u64,
+    out: &mut O,
+) -> Result<Option<End>, RunFault>
+    ensures { RunsTo (run (Q.queries q.now) n st.old) (O.state out.old) (O.state out.new) result }
+{
+    let mut left = n;
+    while left > 0 {
+        match quiet_steps(alloc, q, st, left - 1) {
+            Err(_) => return Err(RunFault::NoMemory),
+            Ok(made) => left -= made,
+        }
+        match turn(alloc, q, st, out) {
+            Err(fault) => return Err(fault),
+            Ok(StepOut::Over(end)) => return Ok(Some(end)),
+            Ok(StepOut::Went) => {}
+        }
+        left -= 1;
+    }
+    Ok(None)
+}
+
+/// At most `n` steps from a state.
+fn steps_from<Q: Answers, O: Sink>(
     alloc: Global,
     q: &Q,
     first: State,
@@ -46,14 +72,9 @@ fn steps<Q: Answers, O: Sink>(
     ensures { RunsTo (run (Q.queries q.now) n first) (O.state out.old) (O.state out.new) result }
 {
     let mut st = first;
-    for _ in 0..n {
-        match turn(alloc, q, &mut st, out) {
-            Err(fault) => return Err(fault),
-            Ok(StepOut::Over(end)) => return Ok(Some(end)),
-            Ok(StepOut::Went) => {}
-        }
-    }
-    Ok(None)
+    let ended = steps(alloc, q, &mut st, n, out);
+    drop(st);
+    ended
 }
 
 /// The run that begins so, with at least one step.
@@ -69,7 +90,7 @@ fn run_begun<Q: Answers, O: Sink>(
 {
     match beginning {
         Beginning::Ends(end) => Ok(Some(end)),
-        Beginning::Begins(first) => steps(alloc, q, first, n, out),
+        Beginning::Begins(first) => steps_from(alloc, q, first, n, out),
     }
 }
 

@@ -1,6 +1,9 @@
 //! The bodies, with the offsets of their instructions as a file has them.
 
-use crate::build::{CLASS_C, EXCEPTION, MISSING, OBJECT, ONE_LOCAL, TEXT_A, UNREAD, push_method};
+use crate::build::{
+    CLASS_C, EXCEPTION, FROM_HANDLE, GET_METHOD, MISSING, OBJECT, ONE_LOCAL, TEXT_A, UNREAD,
+    push_method,
+};
 use il_base::world_model::AsmRec;
 use il_base::{Body, Form, Handler, Instr, NoMemory, Operand, Seq, opcode};
 use std::alloc::Global;
@@ -87,21 +90,27 @@ fn throw(code: &mut Seq<Instr>, at: u32) -> Result<(), NoMemory> {
     plain(code, at, Form::Throw, opcode::THROW)
 }
 
-/// `t = null; try { t = the handle of C; throw new Exception(); } catch { t and "A" are used }`
+/// `t = null; try { t = typeof(C); throw new Exception(); } catch { t.GetMethod("A"); }`
 fn caught(code: &mut Seq<Instr>) -> Result<(), NoMemory> {
     ldnull(code, 0)?;
     stloc(code, 1)?;
     ldtoken(code, 2)?;
-    stloc(code, 7)?;
-    token(code, 8, Form::NewObj, opcode::NEWOBJ, EXCEPTION)?;
-    throw(code, 13)?;
-    pop(code, 14)?;
-    ldloc(code, 15)?;
-    ldstr(code, 16)?;
-    pop(code, 21)?;
-    pop(code, 22)?;
-    leave(code, 23, 25)?;
-    ret(code, 25)
+    token(code, 7, Form::Call, opcode::CALL, FROM_HANDLE)?;
+    stloc(code, 12)?;
+    token(code, 13, Form::NewObj, opcode::NEWOBJ, EXCEPTION)?;
+    throw(code, 18)?;
+    pop(code, 19)?;
+    used(code)
+}
+
+/// The end of its handler.
+fn used(code: &mut Seq<Instr>) -> Result<(), NoMemory> {
+    ldloc(code, 20)?;
+    ldstr(code, 21)?;
+    token(code, 26, Form::Call, opcode::CALLVIRT, GET_METHOD)?;
+    pop(code, 31)?;
+    leave(code, 32, 34)?;
+    ret(code, 34)
 }
 
 /// `if (p == null) p = null; throw p;`, and a `nop` after it
@@ -190,13 +199,13 @@ fn body_of(code: Seq<Instr>, handlers: Seq<Handler>) -> Body {
     }
 }
 
-/// The catch handler from 14 to 25 of the block from 2 to 14.
+/// The catch handler from 19 to 34 of the block from 2 to 19.
 const CATCH: Handler = Handler {
     kind: clause_kind::CATCH,
     try_at: 2,
-    try_len: 12,
-    at: 14,
-    len: 11,
+    try_len: 17,
+    at: 19,
+    len: 15,
     token: OBJECT,
 };
 

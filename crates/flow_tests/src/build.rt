@@ -14,10 +14,20 @@ use std::alloc::Global;
 
 /// The TypeRef row of System.Object.
 pub const OBJECT: u32 = 0x0100_0001;
+/// The TypeRef row of System.Type, and those of the types in the signatures of its members.
+const TYPE: u32 = 0x0100_0004;
+
+const TYPE_HANDLE: u32 = 0x0100_0005;
+
+const METHOD_INFO: u32 = 0x0100_0006;
 /// The TypeDef row of the class C, after `<Module>` and P.
 pub const CLASS_C: u32 = 0x0200_0003;
 /// The MemberRef row of the constructor of System.Exception.
 pub const EXCEPTION: u32 = 0x0a00_0001;
+/// The MemberRef row of Type.GetTypeFromHandle.
+pub const FROM_HANDLE: u32 = 0x0a00_0002;
+/// The MemberRef row of Type.GetMethod(string).
+pub const GET_METHOD: u32 = 0x0a00_0003;
 /// The signature of one local.
 pub const ONE_LOCAL: u32 = 0x1100_0001;
 /// The method after those of `bodies`, whose parameter is of a type that isn't there.
@@ -108,12 +118,21 @@ fn push_reference(rec: &mut AsmRec, alloc: Global) -> Result<(), NoMemory> {
     })
 }
 
-fn mention(rec: &mut AsmRec, alloc: Global, name: &[u8]) -> Result<(), NoMemory> {
+fn mention(rec: &mut AsmRec, alloc: Global, namespace: &[u8], name: &[u8]) -> Result<(), NoMemory> {
     rec.type_ref.push(TypeRefRow {
         resolution_scope: 0x2300_0001,
         name: text(alloc, name)?,
-        namespace: text(alloc, b"System")?,
+        namespace: text(alloc, namespace)?,
     })
+}
+
+fn mention_types(rec: &mut AsmRec, alloc: Global) -> Result<(), NoMemory> {
+    mention(rec, alloc, b"System", b"Object")?;
+    mention(rec, alloc, b"System", b"Exception")?;
+    mention(rec, alloc, b"System", b"Nothing")?;
+    mention(rec, alloc, b"System", b"Type")?;
+    mention(rec, alloc, b"System", b"RuntimeTypeHandle")?;
+    mention(rec, alloc, b"System.Reflection", b"MethodInfo")
 }
 
 /// A class with the methods from a row up to another.
@@ -153,6 +172,43 @@ fn push_constructor(rec: &mut AsmRec, alloc: Global) -> Result<(), NoMemory> {
         name: text(alloc, b".ctor")?,
         signature: Known::Good(MemberSig::Method(signature(true, Seq::new(alloc)))),
     })
+}
+
+/// A method of System.Type with one parameter, which returns a class.
+fn push_type_member(
+    rec: &mut AsmRec,
+    alloc: Global,
+    name: &[u8],
+    this: bool,
+    class: u32,
+    param: Sig,
+) -> Result<(), NoMemory> {
+    let mut params = Seq::new(alloc);
+    params.push(param)?;
+    let ret = Sig::Named {
+        value: false,
+        token: class,
+    };
+    rec.member_ref.push(MemberRefRow {
+        class: TYPE,
+        name: text(alloc, name)?,
+        signature: Known::Good(MemberSig::Method(MethodSig {
+            this,
+            generic: 0,
+            ret,
+            params,
+        })),
+    })
+}
+
+fn push_type_members(rec: &mut AsmRec, alloc: Global) -> Result<(), NoMemory> {
+    let handle = Sig::Named {
+        value: true,
+        token: TYPE_HANDLE,
+    };
+    push_type_member(rec, alloc, b"GetTypeFromHandle", false, TYPE, handle)?;
+    let name = Sig::Prim(element::STRING);
+    push_type_member(rec, alloc, b"GetMethod", true, METHOD_INFO, name)
 }
 
 fn push_local(rec: &mut AsmRec, alloc: Global) -> Result<(), NoMemory> {
@@ -230,13 +286,12 @@ fn push_bodiless(rec: &mut AsmRec, alloc: Global) -> Result<(), NoMemory> {
 fn fill(rec: &mut AsmRec, alloc: Global) -> Result<(), NoMemory> {
     push_assembly(rec, alloc)?;
     push_reference(rec, alloc)?;
-    mention(rec, alloc, b"Object")?;
-    mention(rec, alloc, b"Exception")?;
-    mention(rec, alloc, b"Nothing")?;
+    mention_types(rec, alloc)?;
     class(rec, alloc, b"<Module>", 0, 1, 1)?;
     class(rec, alloc, b"P", OBJECT, 1, 9)?;
     class(rec, alloc, b"C", OBJECT, 9, 9)?;
     push_constructor(rec, alloc)?;
+    push_type_members(rec, alloc)?;
     push_local(rec, alloc)?;
     push_text(rec, alloc)?;
     push_bodies(rec, alloc)?;

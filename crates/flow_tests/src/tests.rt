@@ -20,6 +20,8 @@ enum Known {
     Argument,
     /// The handle of the class C.
     Handle,
+    /// The class C.
+    Class,
     /// The text `A`.
     Text,
     Other,
@@ -35,6 +37,7 @@ fn kind_of(s: &Source) -> Known {
         } else {
             Known::Other
         },
+        Source::KnownType(t) => if t.0 == 2 { Known::Class } else { Known::Other },
         Source::KnownText(text) => {
             if text.as_slice() == [0x41].as_slice() {
                 Known::Text
@@ -96,6 +99,7 @@ fn wrong_in(
 }
 
 /// The handler sees the local as it is before each instruction of the block and after it, and after a store only what was stored.
+/// `Type.GetTypeFromHandle` makes the type of its handle.
 #[test]
 fn from_a_try_block_into_its_handler(rt: HostRuntime) -> Result<(), Fail> {
     let alloc = rt.alloc();
@@ -103,15 +107,17 @@ fn from_a_try_block_into_its_handler(rt: HostRuntime) -> Result<(), Fail> {
     let rows: &[Row<'_>] = &[
         (2, 1, &[Known::Null]),
         (7, 2, &[Known::Handle]),
-        (8, 1, &[Known::Handle]),
-        (13, 2, &[Known::Opaque]),
-        (14, 1, &[Known::Null, Known::Handle]),
-        (14, 2, &[Known::Opaque]),
-        (16, 2, &[Known::Null, Known::Handle]),
-        (21, 3, &[Known::Text]),
-        (25, 0, &[Known::Argument]),
-        (25, 1, &[Known::Null, Known::Handle]),
-        (25, 2, &[]),
+        (12, 2, &[Known::Class]),
+        (13, 1, &[Known::Class]),
+        (18, 2, &[Known::Opaque]),
+        (19, 1, &[Known::Null, Known::Class]),
+        (19, 2, &[Known::Opaque]),
+        (21, 2, &[Known::Null, Known::Class]),
+        (26, 2, &[Known::Null, Known::Class]),
+        (26, 3, &[Known::Text]),
+        (34, 0, &[Known::Argument]),
+        (34, 1, &[Known::Null, Known::Class]),
+        (34, 2, &[]),
     ];
     let wrong = wrong_in(alloc, &world, 0, rows)?;
     assert_eq!(rt; wrong, None);

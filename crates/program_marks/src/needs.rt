@@ -1,4 +1,4 @@
-//! The marked set of a world, with its first bad item.
+//! The marked set of a world, with its first bad item and its first operand that marking doesn't follow yet.
 
 ghost use Rattle.std.specs.Prelude.{◌≡◌, IfOk};
 ghost use Rattle.std.specs.Option.{option_map};
@@ -7,6 +7,7 @@ ghost use Rattle.mark_parts.specs.mark_tables.Assemblies.{all_of, IsMarker};
 ghost use Rattle.attribute_values.specs.Tables.{AreAttributeTables};
 ghost use Rattle.rules.specs.mark_rules.Marking.{Marks};
 ghost use Rattle.rules.specs.mark_rules.BadItems.{IsFirstFlaw};
+ghost use Rattle.rules.specs.mark_rules.NotYet.{IsFirstNotYet};
 ghost use Rattle.bad_items.specs.mark_flaws.Told.{flaw_told};
 ghost use Rattle.bad_items.specs.mark_flaws.Tables.{AreFlawTables};
 ghost use Rattle.descriptor_texts.specs.slashed_names.Names.{AreNames};
@@ -23,7 +24,7 @@ use crate::named_world::NamedWorld;
 use attribute_values::tables::AttributeTables;
 use bad_items::mark_flaws::flaw::Flaw;
 use bad_items::mark_flaws::tables::FlawTables;
-use bad_items::{Program, first_bad};
+use bad_items::{Program, first_bad, first_not_yet};
 use descriptor_file::Root;
 use descriptor_texts::descriptor_types::types::DescriptorTypes;
 use descriptor_texts::nested_types::nested::NestedTypes;
@@ -44,6 +45,9 @@ pub struct Needs {
     pub marked: Marked,
     /// The first bad item among them, by assembly, token, offset in bytes and kind.
     pub flaw: Option<Flaw>,
+    /// The assembly of the first operand of a needed method that names a member of reflection which does more than look at
+    /// types, by assembly, token and offset.
+    pub not_yet: Option<u32>,
 }
 
 /// What is marked, by all that is asked of a world.
@@ -150,10 +154,16 @@ fn needs_by<'a>(
     requires tables { AreFlawTables (all_of marker.now) tables.now }
     ensures marked { IfOk result (λ n. IsMarked (all_of marker.now) entry roots.now n.marked) }
     ensures flaw { IfOk result (λ n. RowsThere (all_of marker.now) → IsFirstFlaw (all_of marker.now) entry (Marks (all_of marker.now) entry roots.now) (option_map flaw_told n.flaw)) }
+    ensures not_yet { IfOk result (λ n. IsFirstNotYet (all_of marker.now) (Marks (all_of marker.now) entry roots.now) n.not_yet) }
 {
     let marked = marked_of(alloc, marker, attributes, entry, roots)?;
     let flaw = flaw_of(alloc, marker, attributes, &marked, tables, entry)?;
-    Ok(Needs { marked, flaw })
+    let not_yet = first_not_yet(alloc, marker, &marked)?;
+    Ok(Needs {
+        marked,
+        flaw,
+        not_yet,
+    })
 }
 
 /// What a program needs, by what is asked of its world.
@@ -166,6 +176,7 @@ fn needs_with(
     requires { IsMarker marker.now }
     ensures marked { IfOk result (λ n. IsMarked (all_of marker.now) entry roots.now n.marked) }
     ensures flaw { IfOk result (λ n. RowsThere (all_of marker.now) → IsFirstFlaw (all_of marker.now) entry (Marks (all_of marker.now) entry roots.now) (option_map flaw_told n.flaw)) }
+    ensures not_yet { IfOk result (λ n. IsFirstNotYet (all_of marker.now) (Marks (all_of marker.now) entry roots.now) n.not_yet) }
 {
     let attributes = AttributeTables::of(alloc, marker)?;
     let tables = FlawTables::of(alloc, marker)?;
@@ -183,6 +194,7 @@ pub fn needs_of(
     requires { IsWorld world.now }
     ensures marked { IfOk result (λ n. IsMarked world.now.recs entry roots.now n.marked) }
     ensures flaw { IfOk result (λ n. RowsThere world.now.recs → IsFirstFlaw world.now.recs entry (Marks world.now.recs entry roots.now) (option_map flaw_told n.flaw)) }
+    ensures not_yet { IfOk result (λ n. IsFirstNotYet world.now.recs (Marks world.now.recs entry roots.now) n.not_yet) }
 {
     let marker = Marker::of(alloc, world)?;
     let needs = needs_with(alloc, &marker, entry, roots)?;

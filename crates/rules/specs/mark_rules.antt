@@ -13,4 +13,5 @@ pub mod Roots
 pub mod Shown
 pub mod Marking
 pub mod BadItems
+pub mod NotYet
 pub mod KeepList

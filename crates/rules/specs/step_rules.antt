@@ -21,6 +21,7 @@ pub mod CoreTexts
 pub mod Input
 pub mod CoreConsole
 pub mod CoreArrays
+pub mod CoreTypes
 pub mod Core
 pub mod Calls
 pub mod Returns

@@ -4,7 +4,7 @@ use Rattle.std.specs.Fmt.{decimal, signed_decimal}
 use Rattle.il_base.specs.declared.ids.BadAt.{BadAt}
 use Rattle.il_base.specs.declared.ids.Place.{Place}
 use Rattle.status_lines.specs.declared.status.Status.{Status}
-use Rattle.status_lines.specs.declared.status.Status.TheVariants.{Done, Ended, BadWords, BadFile, Outside, Unresolved, Collision, BadDescriptor, Limit, NoEntry, ReadFault, WriteFault, NoMemory, Threw, Spent, Stopped, Stuck}
+use Rattle.status_lines.specs.declared.status.Status.TheVariants.{Done, Ended, BadWords, BadFile, Outside, Unresolved, NotYet, Collision, BadDescriptor, Limit, NoEntry, ReadFault, WriteFault, NoMemory, Threw, Spent, Stopped, Stuck}
 
 -- a lower-case hexadecimal digit
 abbrev pub hex_digit : ℕ → ℕ
@@ -90,6 +90,7 @@ line_of asm word Done = codes "done\n"
 line_of asm word (BadFile file at) = ended (codes "bad file " ++ bad_text word at)
 line_of asm word (Outside place what) = ended (codes "outside " ++ outside_text asm place what)
 line_of asm word (Unresolved place) = ended (codes "unresolved " ++ place_text asm place)
+line_of asm word (NotYet file) = ended (codes "not yet " ++ word)
 line_of asm word (Collision first second) = ended (codes "collision " ++ word)
 line_of asm word (BadDescriptor source offset) = ended (codes "bad descriptor " ++ descriptor_text word offset)
 line_of asm word (Limit which found) = ended (codes "limit " ++ limit_text which found)
@@ -122,3 +123,4 @@ code_of (Threw kind message) = 20
 code_of (Spent steps) = 21
 code_of (Stopped place) = 22
 code_of (Stuck place) = 23
+code_of (NotYet file) = 30

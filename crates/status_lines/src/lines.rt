@@ -232,6 +232,7 @@ pub(crate) fn line_of(
         Status::BadFile { file: _, at } => with_fault(alloc, word, *at),
         Status::Outside { place, what } => with_form(alloc, asm, *place, *what),
         Status::Unresolved { place } => with_place(alloc, b"unresolved ", asm, *place),
+        Status::NotYet { .. } => with_text(alloc, b"not yet ", word),
         Status::Collision { .. } => with_text(alloc, b"collision ", word),
         Status::BadDescriptor { source: _, offset } => with_descriptor(alloc, word, *offset),
         Status::Limit { which, found } => with_limit(alloc, *which, *found),

@@ -22,6 +22,7 @@ fn starved_status(status: Status) -> Status
         | Status::BadFile { .. }
         | Status::Outside { .. }
         | Status::Unresolved { .. }
+        | Status::NotYet { .. }
         | Status::Collision { .. }
         | Status::BadDescriptor { .. }
         | Status::Limit { .. }

@@ -19,6 +19,8 @@ pub enum Status {
     Outside { place: Place, what: u8 },
     /// Something that `trim` keeps has a part that names nothing.
     Unresolved { place: Place },
+    /// A method of a file, counted from 0, that `trim` keeps calls or names a member of reflection that marking doesn't follow yet.
+    NotYet { file: u32 },
     /// Two types that `trim` keeps would have one name in one assembly. Types are counted from 0 over all files.
     Collision { first: TypeId, second: TypeId },
     /// A descriptor can't be read from this offset in bytes on. Sources are counted from 0: all files, for the descriptors in
@@ -69,6 +71,7 @@ impl Status {
             Status::Spent { .. } => 21,
             Status::Stopped { .. } => 22,
             Status::Stuck { .. } => 23,
+            Status::NotYet { .. } => 30,
         }
     }
 }

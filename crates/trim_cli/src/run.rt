@@ -189,8 +189,8 @@ fn answer<F: Folder, I: Source, O: Sink, E: Sink>(
 /// outcomes of the defined run at the given number of steps. Its files are the bytes that the folder told under the words, its
 /// input is what the source had left, and `out` is extended by exactly its output. `Done` says that OUT holds the file that a trim
 /// of the files IN gives with the descriptors and options of the words (`Trims` in `trim_core`). The keep list, where one is asked
-/// for, then holds its text. `BadFile`, `Limit`, `NoEntry`, `BadDescriptor`, `Outside`, `Unresolved` and `Collision` come exactly
-/// where those bytes require it, `BadWords` exactly where the words spell no command. `ReadFault` comes only where one read failed:
+/// for, then holds its text. `BadFile`, `Limit`, `NoEntry`, `BadDescriptor`, `Outside`, `Unresolved`, `NotYet` and `Collision` come
+/// exactly where those bytes require it, `BadWords` exactly where the words spell no command. `ReadFault` comes only where one read failed:
 /// of a file or a descriptor in the folder, or of the source. `WriteFault` comes only where one write failed: of OUT, of the keep
 /// list, after which OUT stands whole, or to a sink. `NoMemory` alone is free. A call that fails is never hidden: where another
 /// answer comes, no read and no write of the folder, no read of the source and no write to `out` failed. `err` is extended by

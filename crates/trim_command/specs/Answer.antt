@@ -7,7 +7,7 @@ use Rattle.il_outside.specs.Folder.{FolderState, KeepsFiles, NoFault}
 use Rattle.il_outside.specs.Streams.{SinkState}
 use Rattle.run_rules.specs.Answers.{name_at}
 use Rattle.status_lines.specs.declared.status.Status.{Status}
-use Rattle.status_lines.specs.declared.status.Status.TheVariants.{Done, BadFile, Outside, Unresolved, Collision, BadDescriptor, Limit, NoEntry, ReadFault, WriteFault, NoMemory}
+use Rattle.status_lines.specs.declared.status.Status.TheVariants.{Done, BadFile, Outside, Unresolved, NotYet, Collision, BadDescriptor, Limit, NoEntry, ReadFault, WriteFault, NoMemory}
 use Rattle.status_lines.specs.Lines.{line_of}
 use Rattle.status_lines.specs.Reports.{Prints, Reports}
 use Rattle.named_files.specs.Files.{TellsAll, FailsAt}
@@ -26,6 +26,7 @@ abbrev pub refused : Refusal → Status
 refused (refusal.BadFile file at) = BadFile file at
 refused (refusal.Outside place what) = Outside place what
 refused (refusal.Unresolved place) = Unresolved place
+refused (refusal.NotYet file) = NotYet file
 refused (refusal.Collision first second) = Collision first second
 refused (refusal.BadDescriptor source offset) = BadDescriptor source offset
 refused (refusal.Limit which found) = Limit which found
@@ -55,6 +56,7 @@ source_in inputs descriptors source =
 -- what the line of a status names besides: the word of a file or of a descriptor, or the two types of a collision
 abbrev pub named_in : List (List ℕ) → List (List ℕ) → List (List ℕ) → Status → List ℕ
 named_in inputs descriptors files (BadFile file at) = name_in inputs file
+named_in inputs descriptors files (NotYet file) = name_in inputs file
 named_in inputs descriptors files (BadDescriptor source offset) = source_in inputs descriptors source
 named_in inputs descriptors files (Collision first second) = collision_text files first second
 named_in inputs descriptors files _ = []

@@ -20,6 +20,7 @@ pub(crate) fn refused(why: Refusal) -> Status
         Refusal::BadFile { file, at } => Status::BadFile { file, at },
         Refusal::Outside { place, what } => Status::Outside { place, what },
         Refusal::Unresolved { place } => Status::Unresolved { place },
+        Refusal::NotYet { file } => Status::NotYet { file },
         Refusal::Collision { first, second } => Status::Collision { first, second },
         Refusal::BadDescriptor { source, offset } => Status::BadDescriptor { source, offset },
         Refusal::Limit { which, found } => Status::Limit { which, found },
@@ -60,6 +61,7 @@ fn assembly_in(alloc: Global, files: &Seq<Text>, status: &Status) -> Result<Text
         | Status::Ended { .. }
         | Status::BadWords { .. }
         | Status::BadFile { .. }
+        | Status::NotYet { .. }
         | Status::Collision { .. }
         | Status::BadDescriptor { .. }
         | Status::Limit { .. }
@@ -107,6 +109,7 @@ fn named_in(
 {
     match status {
         Status::BadFile { file, .. } => Seq::from_slice(alloc, name_in(inputs, *file as usize)),
+        Status::NotYet { file } => Seq::from_slice(alloc, name_in(inputs, *file as usize)),
         Status::BadDescriptor { source, .. } => {
             Seq::from_slice(alloc, source_in(inputs, descriptors, *source as usize))
         }

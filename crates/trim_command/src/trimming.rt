@@ -91,8 +91,8 @@ fn trim_given<F: Folder, E: Sink>(
 /// and writes the line of its status to `err`.
 ///
 /// `Done` says that `output` holds what a trim gives for the bytes that the folder told under the names, and `list` the keep list.
-/// `BadFile`, `NoEntry`, `BadDescriptor`, `Outside`, `Unresolved`, `Collision` and `Limit` come exactly where those bytes say so, and the
-/// folder is then as it was. `ReadFault` comes only where one read of the folder failed, that of one of the names, and nothing is
+/// `BadFile`, `NoEntry`, `BadDescriptor`, `Outside`, `Unresolved`, `NotYet`, `Collision` and `Limit` come exactly where those bytes say
+/// so, and the folder is then as it was. `ReadFault` comes only where one read of the folder failed, that of one of the names, and nothing is
 /// read or written after it; `WriteFault` only where one write failed, that of `output`, after which the keep list isn't written, or
 /// that of the keep list, and `output` stands whole, or a write to `err`; `NoMemory` alone is free.
 pub fn trim_files<F: Folder, O: Sink, E: Sink>(

@@ -129,6 +129,7 @@ itself : (r : Refusal) → RefusedBy r r
 itself (refusal.BadFile file at) = refl
 itself (refusal.Outside place what) = refl
 itself (refusal.Unresolved place) = refl
+itself (refusal.NotYet file) = refl
 itself (refusal.Collision first second) = refl
 itself (refusal.BadDescriptor source offset) = refl
 itself (refusal.Limit which found) = refl

@@ -10,7 +10,7 @@ use Rattle.trim_core.specs.declared.program_trim.answers.TrimFault.TheVariants a
 use Rattle.trim_core.specs.program_trim.Trim.{TrimmedWorld, TrimsWorld}
 use Rattle.trim_core.specs.declared.answers.Opts.{Opts}
 use Rattle.trim_core.specs.declared.answers.Refusal.{Refusal}
-use Rattle.trim_core.specs.declared.answers.Refusal.TheVariants.{Limit, Outside, Unresolved, Collision, NoMemory}
+use Rattle.trim_core.specs.declared.answers.Refusal.TheVariants.{Limit, Outside, Unresolved, NotYet, Collision, NoMemory}
 use Rattle.trim_core.specs.declared.answers.Trimmed.{Trimmed}
 use Rattle.trim_core.specs.Behaves.{Behaves}
 use Rattle.trim_core.specs.Told.{trim_fault, entry_row, RefusedBy}
@@ -32,6 +32,7 @@ abbrev pub TrimsProgram : List AsmRec → Option RowAt → List Root → Opts �
 TrimsProgram recs entry roots opts (Ok t) = TrimmedProgram recs entry roots opts t
 TrimsProgram recs entry roots opts (Err (Outside place what)) = TrimsWorld recs entry roots opts.internalize (Err (fault.Outside place what))
 TrimsProgram recs entry roots opts (Err (Unresolved place)) = TrimsWorld recs entry roots opts.internalize (Err (fault.Unresolved place))
+TrimsProgram recs entry roots opts (Err (NotYet file)) = TrimsWorld recs entry roots opts.internalize (Err (fault.NotYet file))
 TrimsProgram recs entry roots opts (Err (Collision first second)) = TrimsWorld recs entry roots opts.internalize (Err (fault.Collision first second))
 TrimsProgram recs entry roots opts (Err (Limit which found)) = TrimsWorld recs entry roots opts.internalize (Err (fault.Limit which found))
 TrimsProgram recs entry roots opts (Err NoMemory) = Unit {0}

@@ -22,6 +22,9 @@ pub enum Refusal {
     Outside { place: Place, what: u8 },
     /// A needed item has a part that names nothing.
     Unresolved { place: Place },
+    /// A method of the file that is needed names a member of reflection that marking doesn't follow yet: one that does more than look
+    /// at types.
+    NotYet { file: u32 },
     /// Two types that are needed, of different assemblies, have one full name, and the second can't be renamed. Types are counted
     /// from 0 over the TypeDef rows of all files in order.
     Collision { first: TypeId, second: TypeId },

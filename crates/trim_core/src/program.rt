@@ -77,6 +77,7 @@ fn trim_from(
     match trim_world(alloc, world, entry, roots, opts.internalize) {
         Err(TrimFault::Outside { place, what }) => Err(Refusal::Outside { place, what }),
         Err(TrimFault::Unresolved { place }) => Err(Refusal::Unresolved { place }),
+        Err(TrimFault::NotYet { file }) => Err(Refusal::NotYet { file }),
         Err(TrimFault::Collision { first, second }) => Err(Refusal::Collision { first, second }),
         Err(TrimFault::Limit { which, found }) => Err(Refusal::Limit { which, found }),
         Err(TrimFault::NoMemory) => Err(Refusal::NoMemory),

@@ -104,8 +104,8 @@ fn trim_short(
 ///
 /// It refuses with the first of these: a limit on files (1 to 3), one on a named descriptor (4), a demand on a file in its turn
 /// (`BadFile`, `Limit` 5), a demand of linking (`BadFile`), `NoEntry`, a descriptor (`BadDescriptor`). After them come the first
-/// flaw of a needed item (`Outside`, `Unresolved`), `Collision`, and the limits on the file that is written (5, 7). `NoMemory`
-/// alone is free.
+/// flaw of a needed item (`Outside`, `Unresolved`), `NotYet`, `Collision`, and the limits on the file that is written (5, 7).
+/// `NoMemory` alone is free.
 #[tactic(auto, unfolding(crate::specs::Told::trim_fault), using(crate::proofs::FileLemmas::limit_due, crate::proofs::FileLemmas::taken_on))]
 pub fn trim(
     alloc: Global,

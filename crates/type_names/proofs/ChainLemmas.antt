@@ -1,11 +1,12 @@
--- The names of nested types, one more at a time.
-use Rattle.std.proofs.Common.{◌≡◌, ℕ, suc, List, [], ◌∷◌, ◌++◌, Option, Some, None, slice_get, ◌+◌, ◌-◌, ◌<◌, refl, sym, ap, ◌∙◌, append_assoc, arith}
+-- The names of nested types, one more at a time, and the namespace of the outermost.
+use Rattle.std.proofs.Common.{◌≡◌, ℕ, suc, List, [], ◌∷◌, ◌++◌, Option, Some, None, slice_get, ◌+◌, ◌-◌, ◌<◌, ◌≤◌, refl, sym, ap, ◌∙◌, append_assoc, arith}
 use Rattle.std.proofs.lemmas.List.{append-nil}
 use Rattle.il_base.specs.declared.world_model.types.TypeDefRow.{TypeDefRow}
 use Rattle.il_base.specs.declared.world_model.record.AsmRec.{AsmRec}
 use Rattle.rules.specs.link_rules.Types.{encloser}
 use Rattle.rules.specs.type_rules.Texts.{part_or_none, row_name}
-use Rattle.type_names.specs.Chains.{bare_or_none, bare_name, own_name, inner_name, inner_names}
+use Rattle.rules.specs.type_rules.Labels.{own_name as bare_or_none, own_space, row_space}
+use Rattle.type_names.specs.Chains.{bare_name, own_name, inner_name, inner_names}
 
 pub inner_push : (rec : AsmRec) (ks : List ℕ) (k : ℕ) → inner_names rec (ks ++ k ∷ []) ≡ inner_name rec k ++ inner_names rec ks
 unfolding inner_names
@@ -42,3 +43,17 @@ nested rec n i at around inner more full h e m g =
 
 pub none_left : (rec : AsmRec) (out left full : List ℕ) → left ≡ [] → out ++ inner_names rec left ≡ full → out ≡ full
 none_left rec out left full l h = sym (none_inner rec out left l) ∙ h
+
+-- ---- the namespace
+
+pub outermost : (rec one : AsmRec) (n i at : ℕ) (found full : List ℕ) → i < n → one ≡ rec → None ≡ encloser rec at → found ≡ own_space (slice_get one.type_def at) → row_space rec (n - i) at ≡ full → found ≡ full
+unfolding row_space
+outermost rec one n i at found full h s e f g = f ∙ ap (λ (r : AsmRec). own_space (slice_get r.type_def at)) s ∙ (rw (one_less n i h, ← e) at g)
+
+pub outwards : (rec : AsmRec) (n i at around : ℕ) (full : List ℕ) → i < n → Some around ≡ encloser rec at → row_space rec (n - i) at ≡ full → row_space rec (n - (i + 1)) around ≡ full
+unfolding row_space
+outwards rec n i at around full h e g = rw (one_less n i h, ← e) at g
+
+pub in_circle : (rec : AsmRec) (n i at : ℕ) (found full : List ℕ) → n ≤ i → found ≡ [] → row_space rec (n - i) at ≡ full → found ≡ full
+unfolding row_space
+in_circle rec n i at found full h f g = let z : n - i ≡ 0 = omega arith in f ∙ (rw z at g)

@@ -1,6 +1,7 @@
 pub mod ChainLemmas
 pub mod Comparing
 pub mod HomeLemmas
+pub mod LabelLayers
 pub mod Joining
 pub mod Keeping
 pub mod TextLayers

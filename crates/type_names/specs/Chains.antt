@@ -1,15 +1,11 @@
 -- A type and its enclosers, from inside outwards.
 use Rattle.std.specs.Prelude.{ℕ, List, [], ◌∷◌, ◌++◌, codes, Option, Some, None, slice_get}
-use Rattle.il_base.specs.declared.world_model.types.TypeDefRow.{TypeDefRow}
 use Rattle.il_base.specs.declared.world_model.record.AsmRec.{AsmRec}
 use Rattle.rules.specs.type_rules.Texts.{part_or_none}
+use Rattle.rules.specs.type_rules.Labels.{own_name as bare_or_none}
 use Rattle.type_names.specs.declared.chain.Chain.{Chain}
 
-abbrev pub bare_or_none : Option TypeDefRow → List ℕ
-bare_or_none None = []
-bare_or_none (Some t) = t.name
-
--- the name of a nested type's row, without a namespace and without its enclosers
+-- the name of a type's row, without a namespace and without its enclosers
 abbrev pub bare_name : AsmRec → ℕ → List ℕ
 bare_name rec k = bare_or_none (slice_get rec.type_def k)
 

@@ -75,13 +75,21 @@ fn put_inner(rec: &AsmRec, inner: Seq<u32>, out: &mut Text) -> Result<(), NoMemo
     }
 }
 
+/// The name of a type's row, from 0, without a namespace and without its enclosers.
+pub(crate) fn bare_name(rec: &AsmRec, row: u32) -> &[u8]
+    ensures { result.now ≡ bare_name rec.now row }
+{
+    match rec.type_def.get(row as usize) {
+        None => &[],
+        Some(ty) => ty.name.as_slice(),
+    }
+}
+
 /// Puts the name of a nested type's row, from 0, at the end, without a namespace.
 fn put_bare(rec: &AsmRec, row: u32, out: &mut Text) -> Result<(), NoMemory>
     ensures { OnOk result (out.new ≡ out.old ++ bare_name rec.now row) }
 {
-    if let Some(ty) = rec.type_def.get(row as usize) {
-        out.extend_from_slice(ty.name.as_slice())?;
-    }
+    out.extend_from_slice(bare_name(rec, row))?;
     Ok(())
 }
 

@@ -3,6 +3,7 @@
 ghost use Rattle.std.specs.Prelude.{◌≡◌, ◌<◌, length, position, IfOk};
 ghost use Rattle.rules.specs.link_rules.Types.{at_row, is_added, is_called, assembly_named};
 ghost use Rattle.rules.specs.type_rules.Texts.{text};
+ghost use Rattle.rules.specs.type_rules.Labels.{label, space};
 ghost use Rattle.rules.specs.type_rules.Searches.{type_along_at, find_type};
 
 use crate::assemblies::Assemblies;
@@ -61,6 +62,22 @@ impl<'a> TypeNames<'a> {
         ensures { IfOk result (λ t. t ≡ text self.now ty.now) }
     {
         self.world.text(alloc, ty)
+    }
+
+    /// A type's own name: that of its definition without enclosers and arguments, `[]` after an array's element, `&` after what is
+    /// referred to, the number of a generic parameter after its sign.
+    pub fn label(&self, alloc: Global, ty: &TypeExpr) -> Result<Text, NoMemory>
+        ensures { IfOk result (λ t. t ≡ label self.now ty.now) }
+    {
+        self.world.label(alloc, ty)
+    }
+
+    /// A type's namespace: a nested type has that of the outermost type around it, an array that of its element, a generic parameter
+    /// none.
+    pub fn space(&self, alloc: Global, ty: &TypeExpr) -> Result<Text, NoMemory>
+        ensures { IfOk result (λ t. t ≡ space self.now ty.now) }
+    {
+        self.world.space(alloc, ty)
     }
 
     /// The type that a name is of: without an assembly's name it is looked for in the assembly that asks and then in the

@@ -2,4 +2,5 @@ pub mod Lists
 pub mod Rows
 pub mod Slots
 pub mod Interfaces
+pub mod Abstract
 pub mod Together

@@ -1,5 +1,6 @@
 -- What a fact gives together with marked items that are known. Of a type only those slots are tried that a method or a MethodImpl
--- row of the type or of one of its bases has, only the interface rows of these, and of each row only the methods of what it implies.
+-- row of the type or of one of its bases has, and these methods, only the interface rows of these types, and of each row only the
+-- methods of what it implies.
 use Rattle.std.specs.Prelude.{ℕ, suc, List, [], ◌∷◌, ◌++◌, ◌==◌, ◌&&◌, Bool, if◌then◌else◌}
 use Rattle.std.specs.List.{list_any, flat_map}
 use Rattle.il_base.specs.declared.ids.Item.{Item}
@@ -55,9 +56,17 @@ slot_of_impl recs c rec row = if row.class == token_of TYPE_DEF (suc c.row) then
 unfoldable pub declared_slots : List AsmRec → RowAt → List RowAt
 declared_slots recs c = flat_map (λ (rec : AsmRec). flat_map (slot_of_impl recs c rec) rec.method_impl) (listed (rec_at recs c))
 
--- the slots of a type's methods, and those that its MethodImpl rows declare
+-- a method after the one whose slot it takes, where that is another
+abbrev pub with_slot : RowAt → RowAt → List RowAt
+with_slot at slot = if same_row at slot then slot ∷ [] else slot ∷ at ∷ []
+
+-- the slot of a virtual method, and the method itself
+abbrev pub slot_and_own : List AsmRec → RowAt → List RowAt
+slot_and_own recs at = flat_map (with_slot at) (slot_list recs at)
+
+-- a type's virtual methods, their slots, and the slots that its MethodImpl rows declare
 abbrev pub own_slots : List AsmRec → RowAt → List RowAt
-own_slots recs c = flat_map (slot_list recs) (methods_of_type recs c) ++ declared_slots recs c
+own_slots recs c = flat_map (slot_and_own recs) (methods_of_type recs c) ++ declared_slots recs c
 
 abbrev pub slot_gives : List AsmRec → (Item → Bool) → (RowAt → List Fact) → RowAt → List Fact
 slot_gives recs known gives b = if is_known_at recs known (method_item recs b) b then gives b else []

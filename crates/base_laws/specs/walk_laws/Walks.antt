@@ -1,5 +1,5 @@
 -- That walks with a bound are whole in a linked world: a greater bound finds the same.
-use Rattle.std.specs.Prelude.{◌≡◌, ◌<◌, ◌≤◌, ◌⊎◌, ℕ, suc, List, [], ◌∷◌, length, Some, None, slice_get, true, Contains}
+use Rattle.std.specs.Prelude.{◌≡◌, ◌<◌, ◌≤◌, ◌⊎◌, ℕ, suc, List, [], ◌∷◌, length, Option, Some, None, slice_get, true, Contains}
 use Rattle.std.specs.List.{flat_map, IsDistinct}
 use Rattle.il_base.specs.declared.world_model.expr.TypeExpr.{TypeExpr}
 use Rattle.il_base.specs.declared.table.TheConstants.{TYPE_DEF}
@@ -10,12 +10,14 @@ use Rattle.il_base.specs.declared.world_model.members.MethodDefRow.{MethodDefRow
 use Rattle.il_base.specs.declared.world_model.record.AsmRec.{AsmRec}
 use Rattle.il_base.specs.world_model.Exprs.{same_expr}
 use Rattle.rules.specs.declared.link_rules.row_at.RowAt.{RowAt}
+use Rattle.rules.specs.link_rules.Types.{encloser}
 use Rattle.rules.specs.link_rules.Members.{bases_from, with_bases, type_count}
 use Rattle.rules.specs.link_rules.Cycles.{listed, led_to, same_row, home_of}
 use Rattle.rules.specs.link_rules.Linked.{assemblies, link_fault_of}
 use Rattle.rules.specs.type_rules.Subtypes.{interfaces_of}
 use Rattle.rules.specs.type_rules.Slots.{is_virtual, method_row_at, type_of_method, slot_within, slot_of}
 use Rattle.rules.specs.type_rules.Texts.{row_name}
+use Rattle.rules.specs.type_rules.Labels.{row_space}
 use Rattle.rules.specs.type_rules.Dispatch.{implied, declares_slot, impl_in, slot_in, class_dispatch}
 
 -- a property holds of the world of all inputs that link
@@ -88,8 +90,22 @@ abbrev pub NestsTypes : AsmRec → Type 0
 NestsTypes rec =
     (k : ℕ) (row : NestedClassRow) → slice_get rec.nested_class k ≡ Some row → NamesType rec row.nested_class × NamesType rec row.enclosing_class
 
--- the name of a type with those of its enclosers
-abbrev pub NamesWhole : List AsmRec → Type 0
-NamesWhole recs =
+-- what is said of a type by its row, and by what is said of its encloser: over at most n enclosers
+pub record ByEncloser (said : AsmRec → ℕ → ℕ → List ℕ) (step : (ℕ → List ℕ) → Option ℕ → Option TypeDefRow → List ℕ) : Type 0 where
+  pub none : (rec : AsmRec) (k : ℕ) → said rec 0 k ≡ []
+  pub next : (rec : AsmRec) (n k : ℕ) → said rec (suc n) k ≡ step (said rec n) (encloser rec k) (slice_get rec.type_def k)
+  pub same : (f g : ℕ → List ℕ) (o : Option ℕ) (t : Option TypeDefRow) → ((j : ℕ) → o ≡ Some j → f j ≡ g j) → step f o t ≡ step g o t
+  pub empty : (f : ℕ → List ℕ) → step f None None ≡ []
+
+-- it needs no more enclosers than its assembly has types
+abbrev pub SaidWhole : (AsmRec → ℕ → ℕ → List ℕ) → List AsmRec → Type 0
+SaidWhole said recs =
     (a n k : ℕ) (rec : AsmRec) → slice_get recs a ≡ Some rec → NestsTypes rec → k < length rec.type_def → length rec.type_def ≤ n
-    → row_name rec n k ≡ row_name rec (length rec.type_def) k
+    → said rec n k ≡ said rec (length rec.type_def) k
+
+-- the name of a type with those of its enclosers, and its namespace
+abbrev pub NamesWhole : List AsmRec → Type 0
+NamesWhole = SaidWhole row_name
+
+abbrev pub SpacesWhole : List AsmRec → Type 0
+SpacesWhole = SaidWhole row_space

@@ -1,4 +1,4 @@
-ghost use Rattle.base_laws.specs.walk_laws.Walks.{InLinked, InRuns, BasesWhole, BasesOnce, ImpliedWhole, SlotsWhole, SlotsFound, SlotsOfSlots, DispatchAnswers, OwnsAnswers, NamesWhole};
+ghost use Rattle.base_laws.specs.walk_laws.Walks.{InLinked, InRuns, BasesWhole, BasesOnce, ImpliedWhole, SlotsWhole, SlotsFound, SlotsOfSlots, DispatchAnswers, OwnsAnswers, NamesWhole, SpacesWhole};
 
 /// In a linked world a type has its bases within as many steps as there are types, and the definitions of these are
 /// distinct.
@@ -29,7 +29,8 @@ pub fn class_dispatch_answers()
 {}
 
 /// In a linked world the name of a type with those of its enclosers is found within as many steps as its assembly has types,
-/// where the rows of NestedClass name types that are there.
+/// where the rows of NestedClass name types that are there, and so is its namespace.
 pub fn names_are_whole()
-    ensures { InLinked NamesWhole }
+    ensures names { InLinked NamesWhole }
+    ensures spaces { InLinked SpacesWhole }
 {}

@@ -44,7 +44,7 @@ fn units_of_text(alloc: Global, text: &str) -> Result<Units, NoMemory>
 }
 
 /// The UTF-16 units of a text in UTF-8. Bytes that are no UTF-8 are answered as want of memory: no type's text has them.
-fn units_of_bytes(alloc: Global, bytes: &[u8]) -> Result<Units, NoMemory>
+pub(crate) fn units_of_bytes(alloc: Global, bytes: &[u8]) -> Result<Units, NoMemory>
     ensures { IfOk result (λ units. units ≡ units_of_bytes bytes.now) }
 {
     match from_utf8(bytes) {

@@ -3,6 +3,8 @@ use Rattle.std.specs.Prelude.{◌≡◌, ℕ, List, Option, Some, slice_get}
 use Rattle.std.specs.Option.{option_map}
 use Rattle.il_base.specs.declared.world_model.record.AsmRec.{AsmRec}
 use Rattle.rules.specs.declared.link_rules.row_at.RowAt.{RowAt}
+use Rattle.il_base.specs.world_model.Worlds.{type_id}
+use Rattle.rules.specs.type_rules.Labels.{encloser_at}
 use Rattle.rules.specs.type_rules.Initializers.{initializer}
 use Rattle.rules.specs.type_rules.Dispatch.{method_id}
 use Rattle.type_tables.specs.declared.member_search.params.ParamCounts.{ParamCounts}
@@ -15,3 +17,7 @@ AreParamsAt recs a params = (rec : AsmRec) → slice_get recs a ≡ Some rec →
 -- the initializer of a type in a row, by its place in the world
 abbrev pub starts_at : List AsmRec → RowAt → Option ℕ
 starts_at recs at = option_map (λ (m : RowAt). (method_id recs m).0) (initializer recs at)
+
+-- the type that the type in a row is nested in, by its place in the world
+abbrev pub around_at : List AsmRec → RowAt → Option ℕ
+around_at recs at = option_map (λ (t : RowAt). (type_id recs t.asm t.row).0) (encloser_at recs at)

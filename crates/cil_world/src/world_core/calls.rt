@@ -1,7 +1,7 @@
 //! What the members of the core library do, by their types, names and parameters.
 
 ghost use Rattle.std.specs.Prelude.{◌≡◌};
-ghost use Rattle.rules.specs.view_rules.Members.{equals_by, printed_by, prints_by, object_call, primitive_call, string_call, console_call, text_call, exception_call, call_by};
+ghost use Rattle.rules.specs.view_rules.Members.{equals_by, printed_by, prints_by, object_call, primitive_call, string_call, console_call, text_call, exception_call, type_call, member_info_call, call_by};
 
 use il_base::cil_values::{CoreCall, Printed};
 use il_base::core_table::{CoreName, CoreParams, CoreSig};
@@ -13,7 +13,11 @@ fn equals_by(sig: CoreSig, any: CoreCall, own: CoreCall) -> CoreCall
 {
     match sig {
         CoreSig::Prim(code) => { if code == element::OBJECT { any } else { own } }
-        CoreSig::Class(_) | CoreSig::Value(_) => any,
+        CoreSig::Class(_)
+        | CoreSig::Value(_)
+        | CoreSig::Prims(_)
+        | CoreSig::Classes(_)
+        | CoreSig::MVar(_) => any,
     }
 }
 
@@ -39,7 +43,11 @@ fn printed_by(sig: CoreSig) -> Option<Printed>
                 None
             }
         }
-        CoreSig::Class(_) | CoreSig::Value(_) => None,
+        CoreSig::Class(_)
+        | CoreSig::Value(_)
+        | CoreSig::Prims(_)
+        | CoreSig::Classes(_)
+        | CoreSig::MVar(_) => None,
     }
 }
 
@@ -79,6 +87,7 @@ fn object_call(name: CoreName, params: CoreParams) -> Option<CoreCall>
         },
         CoreName::GetHashCode => Some(CoreCall::Halts),
         CoreName::Finalize => Some(CoreCall::Idle),
+        CoreName::GetType => Some(CoreCall::TypeOf),
         CoreName::ReferenceEquals => Some(CoreCall::SameReference),
         CoreName::Module
         | CoreName::Object
@@ -160,6 +169,30 @@ fn object_call(name: CoreName, params: CoreParams) -> Option<CoreCall>
         | CoreName::Read
         | CoreName::GetMessage
         | CoreName::GetInnerException
+        | CoreName::GetTypeFromHandle
+        | CoreName::GetNamespace
+        | CoreName::GetFullName
+        | CoreName::IsAssignableFrom
+        | CoreName::IsInstanceOfType
+        | CoreName::GetIsValueType
+        | CoreName::GetIsInterface
+        | CoreName::GetIsArray
+        | CoreName::GetMethod
+        | CoreName::GetMethods
+        | CoreName::GetField
+        | CoreName::GetFields
+        | CoreName::GetProperty
+        | CoreName::GetProperties
+        | CoreName::GetName
+        | CoreName::GetDeclaringType
+        | CoreName::Invoke
+        | CoreName::GetIsStatic
+        | CoreName::GetReturnType
+        | CoreName::GetValue
+        | CoreName::SetValue
+        | CoreName::GetFieldType
+        | CoreName::GetPropertyType
+        | CoreName::CreateInstance
         | CoreName::InitializeArray
         | CoreName::Dispose
         | CoreName::Empty => None,
@@ -251,6 +284,7 @@ fn primitive_call(code: u8, name: CoreName, params: CoreParams) -> Option<CoreCa
         | CoreName::SystemRuntimeCompilerServices
         | CoreName::Constructor
         | CoreName::Finalize
+        | CoreName::GetType
         | CoreName::ReferenceEquals
         | CoreName::GetLength
         | CoreName::GetChars
@@ -267,6 +301,30 @@ fn primitive_call(code: u8, name: CoreName, params: CoreParams) -> Option<CoreCa
         | CoreName::Read
         | CoreName::GetMessage
         | CoreName::GetInnerException
+        | CoreName::GetTypeFromHandle
+        | CoreName::GetNamespace
+        | CoreName::GetFullName
+        | CoreName::IsAssignableFrom
+        | CoreName::IsInstanceOfType
+        | CoreName::GetIsValueType
+        | CoreName::GetIsInterface
+        | CoreName::GetIsArray
+        | CoreName::GetMethod
+        | CoreName::GetMethods
+        | CoreName::GetField
+        | CoreName::GetFields
+        | CoreName::GetProperty
+        | CoreName::GetProperties
+        | CoreName::GetName
+        | CoreName::GetDeclaringType
+        | CoreName::Invoke
+        | CoreName::GetIsStatic
+        | CoreName::GetReturnType
+        | CoreName::GetValue
+        | CoreName::SetValue
+        | CoreName::GetFieldType
+        | CoreName::GetPropertyType
+        | CoreName::CreateInstance
         | CoreName::InitializeArray
         | CoreName::Dispose
         | CoreName::Empty => None,
@@ -367,6 +425,7 @@ fn string_call(name: CoreName, params: CoreParams) -> Option<CoreCall>
         | CoreName::SystemRuntimeCompilerServices
         | CoreName::Constructor
         | CoreName::Finalize
+        | CoreName::GetType
         | CoreName::ReferenceEquals
         | CoreName::CompareTo
         | CoreName::Parse
@@ -376,6 +435,30 @@ fn string_call(name: CoreName, params: CoreParams) -> Option<CoreCall>
         | CoreName::Read
         | CoreName::GetMessage
         | CoreName::GetInnerException
+        | CoreName::GetTypeFromHandle
+        | CoreName::GetNamespace
+        | CoreName::GetFullName
+        | CoreName::IsAssignableFrom
+        | CoreName::IsInstanceOfType
+        | CoreName::GetIsValueType
+        | CoreName::GetIsInterface
+        | CoreName::GetIsArray
+        | CoreName::GetMethod
+        | CoreName::GetMethods
+        | CoreName::GetField
+        | CoreName::GetFields
+        | CoreName::GetProperty
+        | CoreName::GetProperties
+        | CoreName::GetName
+        | CoreName::GetDeclaringType
+        | CoreName::Invoke
+        | CoreName::GetIsStatic
+        | CoreName::GetReturnType
+        | CoreName::GetValue
+        | CoreName::SetValue
+        | CoreName::GetFieldType
+        | CoreName::GetPropertyType
+        | CoreName::CreateInstance
         | CoreName::InitializeArray
         | CoreName::Dispose
         | CoreName::Empty => None,
@@ -459,6 +542,7 @@ fn console_call(name: CoreName, params: CoreParams) -> Option<CoreCall>
         | CoreName::Equals
         | CoreName::GetHashCode
         | CoreName::Finalize
+        | CoreName::GetType
         | CoreName::ReferenceEquals
         | CoreName::CompareTo
         | CoreName::Parse
@@ -473,6 +557,30 @@ fn console_call(name: CoreName, params: CoreParams) -> Option<CoreCall>
         | CoreName::CompareOrdinal
         | CoreName::GetMessage
         | CoreName::GetInnerException
+        | CoreName::GetTypeFromHandle
+        | CoreName::GetNamespace
+        | CoreName::GetFullName
+        | CoreName::IsAssignableFrom
+        | CoreName::IsInstanceOfType
+        | CoreName::GetIsValueType
+        | CoreName::GetIsInterface
+        | CoreName::GetIsArray
+        | CoreName::GetMethod
+        | CoreName::GetMethods
+        | CoreName::GetField
+        | CoreName::GetFields
+        | CoreName::GetProperty
+        | CoreName::GetProperties
+        | CoreName::GetName
+        | CoreName::GetDeclaringType
+        | CoreName::Invoke
+        | CoreName::GetIsStatic
+        | CoreName::GetReturnType
+        | CoreName::GetValue
+        | CoreName::SetValue
+        | CoreName::GetFieldType
+        | CoreName::GetPropertyType
+        | CoreName::CreateInstance
         | CoreName::InitializeArray
         | CoreName::Dispose
         | CoreName::Empty => None,
@@ -556,6 +664,7 @@ fn text_call(owner: CoreName) -> CoreCall
         | CoreName::Equals
         | CoreName::GetHashCode
         | CoreName::Finalize
+        | CoreName::GetType
         | CoreName::ReferenceEquals
         | CoreName::CompareTo
         | CoreName::Parse
@@ -574,6 +683,30 @@ fn text_call(owner: CoreName) -> CoreCall
         | CoreName::Read
         | CoreName::GetMessage
         | CoreName::GetInnerException
+        | CoreName::GetTypeFromHandle
+        | CoreName::GetNamespace
+        | CoreName::GetFullName
+        | CoreName::IsAssignableFrom
+        | CoreName::IsInstanceOfType
+        | CoreName::GetIsValueType
+        | CoreName::GetIsInterface
+        | CoreName::GetIsArray
+        | CoreName::GetMethod
+        | CoreName::GetMethods
+        | CoreName::GetField
+        | CoreName::GetFields
+        | CoreName::GetProperty
+        | CoreName::GetProperties
+        | CoreName::GetName
+        | CoreName::GetDeclaringType
+        | CoreName::Invoke
+        | CoreName::GetIsStatic
+        | CoreName::GetReturnType
+        | CoreName::GetValue
+        | CoreName::SetValue
+        | CoreName::GetFieldType
+        | CoreName::GetPropertyType
+        | CoreName::CreateInstance
         | CoreName::InitializeArray
         | CoreName::Dispose
         | CoreName::Empty => CoreCall::ExceptionText,
@@ -660,6 +793,7 @@ fn exception_call(owner: CoreName, name: CoreName, params: CoreParams) -> Option
         | CoreName::Equals
         | CoreName::GetHashCode
         | CoreName::Finalize
+        | CoreName::GetType
         | CoreName::ReferenceEquals
         | CoreName::CompareTo
         | CoreName::Parse
@@ -676,43 +810,76 @@ fn exception_call(owner: CoreName, name: CoreName, params: CoreParams) -> Option
         | CoreName::Write
         | CoreName::ReadLine
         | CoreName::Read
+        | CoreName::GetTypeFromHandle
+        | CoreName::GetNamespace
+        | CoreName::GetFullName
+        | CoreName::IsAssignableFrom
+        | CoreName::IsInstanceOfType
+        | CoreName::GetIsValueType
+        | CoreName::GetIsInterface
+        | CoreName::GetIsArray
+        | CoreName::GetMethod
+        | CoreName::GetMethods
+        | CoreName::GetField
+        | CoreName::GetFields
+        | CoreName::GetProperty
+        | CoreName::GetProperties
+        | CoreName::GetName
+        | CoreName::GetDeclaringType
+        | CoreName::Invoke
+        | CoreName::GetIsStatic
+        | CoreName::GetReturnType
+        | CoreName::GetValue
+        | CoreName::SetValue
+        | CoreName::GetFieldType
+        | CoreName::GetPropertyType
+        | CoreName::CreateInstance
         | CoreName::InitializeArray
         | CoreName::Dispose
         | CoreName::Empty => None,
     }
 }
 
-/// What a member of a type does.
-pub(crate) fn call_by(owner: CoreName, name: CoreName, params: CoreParams) -> Option<CoreCall>
-    ensures { result ≡ call_by owner name params }
+/// Members of Type. A search for a type by its name, or for members, ends the run.
+fn type_call(name: CoreName) -> Option<CoreCall>
+    ensures { result ≡ type_call name }
 {
-    match owner {
-        CoreName::Object => object_call(name, params),
-        CoreName::ValueType => Some(CoreCall::Halts),
-        CoreName::Enum => Some(CoreCall::Halts),
-        CoreName::Boolean => primitive_call(element::BOOLEAN, name, params),
-        CoreName::Char => primitive_call(element::CHAR, name, params),
-        CoreName::SByte => primitive_call(element::I1, name, params),
-        CoreName::Byte => primitive_call(element::U1, name, params),
-        CoreName::Int16 => primitive_call(element::I2, name, params),
-        CoreName::UInt16 => primitive_call(element::U2, name, params),
-        CoreName::Int32 => primitive_call(element::I4, name, params),
-        CoreName::UInt32 => primitive_call(element::U4, name, params),
-        CoreName::Int64 => primitive_call(element::I8, name, params),
-        CoreName::UInt64 => primitive_call(element::U8, name, params),
-        CoreName::String => string_call(name, params),
-        CoreName::Array => Some(CoreCall::ArrayLength),
-        CoreName::Console => console_call(name, params),
-        CoreName::RuntimeHelpers => Some(CoreCall::FillArray),
-        CoreName::Attribute => Some(CoreCall::Idle),
-        CoreName::IDisposable => None,
+    match name {
+        CoreName::GetTypeFromHandle => Some(CoreCall::TypeFromHandle),
+        CoreName::GetNamespace => Some(CoreCall::TypeNamespace),
+        CoreName::GetFullName => Some(CoreCall::TypeFullName),
+        CoreName::ToString => Some(CoreCall::TypeText),
+        CoreName::OpEquality => Some(CoreCall::TypeSame),
+        CoreName::OpInequality => Some(CoreCall::TypeOther),
+        CoreName::Equals => Some(CoreCall::TypeIs),
+        CoreName::IsAssignableFrom => Some(CoreCall::TypeFits),
+        CoreName::IsInstanceOfType => Some(CoreCall::TypeHas),
+        CoreName::GetIsValueType => Some(CoreCall::TypeIsValue),
+        CoreName::GetIsInterface => Some(CoreCall::TypeIsInterface),
+        CoreName::GetIsArray => Some(CoreCall::TypeIsArray),
         CoreName::Module
+        | CoreName::Object
+        | CoreName::ValueType
+        | CoreName::Enum
+        | CoreName::Boolean
+        | CoreName::Char
+        | CoreName::SByte
+        | CoreName::Byte
+        | CoreName::Int16
+        | CoreName::UInt16
+        | CoreName::Int32
+        | CoreName::UInt32
+        | CoreName::Int64
+        | CoreName::UInt64
         | CoreName::IntPtr
         | CoreName::UIntPtr
         | CoreName::Void
         | CoreName::RuntimeTypeHandle
         | CoreName::RuntimeFieldHandle
         | CoreName::RuntimeMethodHandle
+        | CoreName::String
+        | CoreName::Array
+        | CoreName::Console
         | CoreName::Exception
         | CoreName::Type
         | CoreName::MemberInfo
@@ -721,6 +888,121 @@ pub(crate) fn call_by(owner: CoreName, name: CoreName, params: CoreParams) -> Op
         | CoreName::FieldInfo
         | CoreName::PropertyInfo
         | CoreName::Activator
+        | CoreName::RuntimeHelpers
+        | CoreName::IDisposable
+        | CoreName::Attribute
+        | CoreName::SystemException
+        | CoreName::ApplicationException
+        | CoreName::MemberAccessException
+        | CoreName::MissingMemberException
+        | CoreName::ArgumentException
+        | CoreName::ArgumentNullException
+        | CoreName::ArgumentOutOfRangeException
+        | CoreName::InvalidOperationException
+        | CoreName::NotSupportedException
+        | CoreName::NotImplementedException
+        | CoreName::NullReferenceException
+        | CoreName::InvalidCastException
+        | CoreName::IndexOutOfRangeException
+        | CoreName::ArrayTypeMismatchException
+        | CoreName::ArithmeticException
+        | CoreName::DivideByZeroException
+        | CoreName::OverflowException
+        | CoreName::FormatException
+        | CoreName::TypeInitializationException
+        | CoreName::TypeLoadException
+        | CoreName::MissingMethodException
+        | CoreName::AmbiguousMatchException
+        | CoreName::TargetInvocationException
+        | CoreName::TargetParameterCountException
+        | CoreName::TargetException
+        | CoreName::Nameless
+        | CoreName::System
+        | CoreName::SystemReflection
+        | CoreName::SystemRuntimeCompilerServices
+        | CoreName::Constructor
+        | CoreName::GetHashCode
+        | CoreName::Finalize
+        | CoreName::GetType
+        | CoreName::ReferenceEquals
+        | CoreName::CompareTo
+        | CoreName::Parse
+        | CoreName::GetLength
+        | CoreName::GetChars
+        | CoreName::Concat
+        | CoreName::Substring
+        | CoreName::IndexOf
+        | CoreName::IsNullOrEmpty
+        | CoreName::CompareOrdinal
+        | CoreName::WriteLine
+        | CoreName::Write
+        | CoreName::ReadLine
+        | CoreName::Read
+        | CoreName::GetMessage
+        | CoreName::GetInnerException
+        | CoreName::GetMethod
+        | CoreName::GetMethods
+        | CoreName::GetField
+        | CoreName::GetFields
+        | CoreName::GetProperty
+        | CoreName::GetProperties
+        | CoreName::GetName
+        | CoreName::GetDeclaringType
+        | CoreName::Invoke
+        | CoreName::GetIsStatic
+        | CoreName::GetReturnType
+        | CoreName::GetValue
+        | CoreName::SetValue
+        | CoreName::GetFieldType
+        | CoreName::GetPropertyType
+        | CoreName::CreateInstance
+        | CoreName::InitializeArray
+        | CoreName::Dispose
+        | CoreName::Empty => Some(CoreCall::Halts),
+    }
+}
+
+/// Members of MemberInfo.
+fn member_info_call(name: CoreName) -> Option<CoreCall>
+    ensures { result ≡ member_info_call name }
+{
+    match name {
+        CoreName::GetName => Some(CoreCall::MemberName),
+        CoreName::GetDeclaringType => Some(CoreCall::MemberOwner),
+        CoreName::Module
+        | CoreName::Object
+        | CoreName::ValueType
+        | CoreName::Enum
+        | CoreName::Boolean
+        | CoreName::Char
+        | CoreName::SByte
+        | CoreName::Byte
+        | CoreName::Int16
+        | CoreName::UInt16
+        | CoreName::Int32
+        | CoreName::UInt32
+        | CoreName::Int64
+        | CoreName::UInt64
+        | CoreName::IntPtr
+        | CoreName::UIntPtr
+        | CoreName::Void
+        | CoreName::RuntimeTypeHandle
+        | CoreName::RuntimeFieldHandle
+        | CoreName::RuntimeMethodHandle
+        | CoreName::String
+        | CoreName::Array
+        | CoreName::Console
+        | CoreName::Exception
+        | CoreName::Type
+        | CoreName::MemberInfo
+        | CoreName::MethodBase
+        | CoreName::MethodInfo
+        | CoreName::FieldInfo
+        | CoreName::PropertyInfo
+        | CoreName::Activator
+        | CoreName::RuntimeHelpers
+        | CoreName::IDisposable
+        | CoreName::Attribute
         | CoreName::SystemException
         | CoreName::ApplicationException
         | CoreName::MemberAccessException
@@ -755,6 +1037,7 @@ pub(crate) fn call_by(owner: CoreName, name: CoreName, params: CoreParams) -> Op
         | CoreName::Equals
         | CoreName::GetHashCode
         | CoreName::Finalize
+        | CoreName::GetType
         | CoreName::ReferenceEquals
         | CoreName::CompareTo
         | CoreName::Parse
@@ -773,6 +1056,150 @@ pub(crate) fn call_by(owner: CoreName, name: CoreName, params: CoreParams) -> Op
         | CoreName::Read
         | CoreName::GetMessage
         | CoreName::GetInnerException
+        | CoreName::GetTypeFromHandle
+        | CoreName::GetNamespace
+        | CoreName::GetFullName
+        | CoreName::IsAssignableFrom
+        | CoreName::IsInstanceOfType
+        | CoreName::GetIsValueType
+        | CoreName::GetIsInterface
+        | CoreName::GetIsArray
+        | CoreName::GetMethod
+        | CoreName::GetMethods
+        | CoreName::GetField
+        | CoreName::GetFields
+        | CoreName::GetProperty
+        | CoreName::GetProperties
+        | CoreName::Invoke
+        | CoreName::GetIsStatic
+        | CoreName::GetReturnType
+        | CoreName::GetValue
+        | CoreName::SetValue
+        | CoreName::GetFieldType
+        | CoreName::GetPropertyType
+        | CoreName::CreateInstance
+        | CoreName::InitializeArray
+        | CoreName::Dispose
+        | CoreName::Empty => None,
+    }
+}
+
+/// What a member of a type does.
+pub(crate) fn call_by(owner: CoreName, name: CoreName, params: CoreParams) -> Option<CoreCall>
+    ensures { result ≡ call_by owner name params }
+{
+    match owner {
+        CoreName::Object => object_call(name, params),
+        CoreName::ValueType => Some(CoreCall::Halts),
+        CoreName::Enum => Some(CoreCall::Halts),
+        CoreName::Boolean => primitive_call(element::BOOLEAN, name, params),
+        CoreName::Char => primitive_call(element::CHAR, name, params),
+        CoreName::SByte => primitive_call(element::I1, name, params),
+        CoreName::Byte => primitive_call(element::U1, name, params),
+        CoreName::Int16 => primitive_call(element::I2, name, params),
+        CoreName::UInt16 => primitive_call(element::U2, name, params),
+        CoreName::Int32 => primitive_call(element::I4, name, params),
+        CoreName::UInt32 => primitive_call(element::U4, name, params),
+        CoreName::Int64 => primitive_call(element::I8, name, params),
+        CoreName::UInt64 => primitive_call(element::U8, name, params),
+        CoreName::String => string_call(name, params),
+        CoreName::Array => Some(CoreCall::ArrayLength),
+        CoreName::Console => console_call(name, params),
+        CoreName::Type => type_call(name),
+        CoreName::MemberInfo => member_info_call(name),
+        CoreName::MethodBase => Some(CoreCall::Halts),
+        CoreName::MethodInfo => Some(CoreCall::Halts),
+        CoreName::FieldInfo => Some(CoreCall::Halts),
+        CoreName::PropertyInfo => Some(CoreCall::Halts),
+        CoreName::Activator => Some(CoreCall::Halts),
+        CoreName::RuntimeHelpers => Some(CoreCall::FillArray),
+        CoreName::Attribute => Some(CoreCall::Idle),
+        CoreName::IDisposable => None,
+        CoreName::Module
+        | CoreName::IntPtr
+        | CoreName::UIntPtr
+        | CoreName::Void
+        | CoreName::RuntimeTypeHandle
+        | CoreName::RuntimeFieldHandle
+        | CoreName::RuntimeMethodHandle
+        | CoreName::Exception
+        | CoreName::SystemException
+        | CoreName::ApplicationException
+        | CoreName::MemberAccessException
+        | CoreName::MissingMemberException
+        | CoreName::ArgumentException
+        | CoreName::ArgumentNullException
+        | CoreName::ArgumentOutOfRangeException
+        | CoreName::InvalidOperationException
+        | CoreName::NotSupportedException
+        | CoreName::NotImplementedException
+        | CoreName::NullReferenceException
+        | CoreName::InvalidCastException
+        | CoreName::IndexOutOfRangeException
+        | CoreName::ArrayTypeMismatchException
+        | CoreName::ArithmeticException
+        | CoreName::DivideByZeroException
+        | CoreName::OverflowException
+        | CoreName::FormatException
+        | CoreName::TypeInitializationException
+        | CoreName::TypeLoadException
+        | CoreName::MissingMethodException
+        | CoreName::AmbiguousMatchException
+        | CoreName::TargetInvocationException
+        | CoreName::TargetParameterCountException
+        | CoreName::TargetException
+        | CoreName::Nameless
+        | CoreName::System
+        | CoreName::SystemReflection
+        | CoreName::SystemRuntimeCompilerServices
+        | CoreName::Constructor
+        | CoreName::ToString
+        | CoreName::Equals
+        | CoreName::GetHashCode
+        | CoreName::Finalize
+        | CoreName::GetType
+        | CoreName::ReferenceEquals
+        | CoreName::CompareTo
+        | CoreName::Parse
+        | CoreName::GetLength
+        | CoreName::GetChars
+        | CoreName::Concat
+        | CoreName::OpEquality
+        | CoreName::OpInequality
+        | CoreName::Substring
+        | CoreName::IndexOf
+        | CoreName::IsNullOrEmpty
+        | CoreName::CompareOrdinal
+        | CoreName::WriteLine
+        | CoreName::Write
+        | CoreName::ReadLine
+        | CoreName::Read
+        | CoreName::GetMessage
+        | CoreName::GetInnerException
+        | CoreName::GetTypeFromHandle
+        | CoreName::GetNamespace
+        | CoreName::GetFullName
+        | CoreName::IsAssignableFrom
+        | CoreName::IsInstanceOfType
+        | CoreName::GetIsValueType
+        | CoreName::GetIsInterface
+        | CoreName::GetIsArray
+        | CoreName::GetMethod
+        | CoreName::GetMethods
+        | CoreName::GetField
+        | CoreName::GetFields
+        | CoreName::GetProperty
+        | CoreName::GetProperties
+        | CoreName::GetName
+        | CoreName::GetDeclaringType
+        | CoreName::Invoke
+        | CoreName::GetIsStatic
+        | CoreName::GetReturnType
+        | CoreName::GetValue
+        | CoreName::SetValue
+        | CoreName::GetFieldType
+        | CoreName::GetPropertyType
+        | CoreName::CreateInstance
         | CoreName::InitializeArray
         | CoreName::Dispose
         | CoreName::Empty => exception_call(owner, name, params),

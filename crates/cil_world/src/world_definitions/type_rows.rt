@@ -3,8 +3,9 @@
 ghost use Rattle.std.specs.Prelude.{◌≡◌, IfOk};
 ghost use Rattle.mark_parts.specs.mark_tables.Assemblies.{all_of, IsMarker};
 ghost use Rattle.rules.specs.view_rules.Methods.{head_at};
-ghost use Rattle.cil_world.specs.world_definitions.Types.{AreParamsAt, starts_at};
+ghost use Rattle.cil_world.specs.world_definitions.Types.{AreParamsAt, around_at, starts_at};
 
+use crate::world_methods::signatures::type_place;
 use il_base::NoMemory;
 use il_base::cil_values::Head;
 use mark_parts::mark_rows::initializers::initializer;
@@ -70,6 +71,25 @@ pub(crate) fn starts_at(
         Ok(Some(found)) => {
             let id = method_id(marker.tables.world.recs.as_slice(), found)?;
             Ok(Some(id.0))
+        }
+    }
+}
+
+/// The type that the type in a row of an assembly is nested in, by its place in the world.
+pub(crate) fn around_at(marker: &Marker<'_>, at: RowAt) -> Result<Option<u32>, NoMemory>
+    requires { IsMarker marker.now }
+    ensures { IfOk result (λ t. t ≡ around_at (all_of marker.now) at) }
+{
+    let Some(asm) = marker.assembly_at(at.asm) else {
+        return Ok(None);
+    };
+    match asm.encloser(at.row) {
+        Err(error) => Err(error),
+        Ok(None) => Ok(None),
+        Ok(Some(row)) => {
+            let around = RowAt { asm: at.asm, row };
+            let place = type_place(marker.tables.world.recs.as_slice(), around)?;
+            Ok(Some(place))
         }
     }
 }

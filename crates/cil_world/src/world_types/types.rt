@@ -5,6 +5,7 @@ ghost use Rattle.il_base.specs.declared.core_table.names.CoreName.TheVariants as
 ghost use Rattle.rules.specs.link_rules.Members.{with_bases};
 ghost use Rattle.rules.specs.type_rules.Subtypes.{is_subtype};
 ghost use Rattle.rules.specs.type_rules.Texts.{text};
+ghost use Rattle.rules.specs.type_rules.Labels.{label, space};
 ghost use Rattle.type_tables.specs.Tables.{IsTables};
 ghost use Rattle.rules.specs.view_rules.Members.{core_call};
 ghost use Rattle.rules.specs.view_rules.Answers.{core_type_id, core_method_id, answers_query, nearest_core};
@@ -149,6 +150,20 @@ impl<'w> ClosedTypes<'w> {
         ensures { IfOk result (λ t. t ≡ text self.now.recs ty.now) }
     {
         self.names.text(alloc, ty)
+    }
+
+    /// A type's own name, in UTF-8.
+    pub fn label(&self, alloc: Global, ty: &TypeExpr) -> Result<Text, NoMemory>
+        ensures { IfOk result (λ t. t ≡ label self.now.recs ty.now) }
+    {
+        self.names.label(alloc, ty)
+    }
+
+    /// A type's namespace, in UTF-8.
+    pub fn space(&self, alloc: Global, ty: &TypeExpr) -> Result<Text, NoMemory>
+        ensures { IfOk result (λ t. t ≡ space self.now.recs ty.now) }
+    {
+        self.names.space(alloc, ty)
     }
 
     /// The nearest type of the core library among a type and its bases.

@@ -1,7 +1,8 @@
 -- What holds of the core table, as tests on its types.
-use Rattle.std.specs.Prelude.{ℕ, zero, suc, ◌+◌, ◌-◌, ◌==◌, nat_eq, nat_le, Bool, true, false, not, ◌&&◌, ◌||◌, List, [], ◌∷◌, codes, slice_get, Option, Some, None, if◌then◌else◌}
+use Rattle.std.specs.Prelude.{ℕ, zero, suc, ◌+◌, ◌-◌, ◌==◌, nat_eq, nat_le, Bool, true, false, not, ◌&&◌, ◌||◌, List, [], ◌∷◌, ◌++◌, codes, slice_get, Option, Some, None, if◌then◌else◌}
 use Rattle.std.specs.List.{list_any, list_all, starts_with, ends_with}
 use Rattle.std.specs.Cmp.Lexicographic.{pointwise}
+use Rattle.il_base.specs.declared.element.TheConstants as element
 use Rattle.il_base.specs.declared.type_flags.TheConstants as type_flags
 use Rattle.il_base.specs.declared.method_flags.TheConstants as method_flags
 use Rattle.il_base.specs.Flags.{has_flag}
@@ -15,7 +16,7 @@ use Rattle.il_base.specs.declared.core_table.shape.CoreSig.{CoreSig}
 use Rattle.il_base.specs.declared.core_table.shape.CoreSig.TheVariants as core
 use Rattle.il_base.specs.declared.core_table.shape.CoreType.{CoreType}
 use Rattle.il_base.specs.declared.core_table.types.TheConstants.{TYPES, METHOD_COUNT}
-use Rattle.il_base.specs.declared.core_table.tokens.TheConstants.{OBJECT, VALUE_TYPE, ENUM, ARRAY, RUNTIME_FIELD_HANDLE, EXCEPTION, MEMBER_INFO, METHOD_BASE, SYSTEM_EXCEPTION, APPLICATION_EXCEPTION, MEMBER_ACCESS_EXCEPTION, MISSING_MEMBER_EXCEPTION, ARGUMENT_EXCEPTION, ARITHMETIC_EXCEPTION}
+use Rattle.il_base.specs.declared.core_table.tokens.TheConstants.{OBJECT, VALUE_TYPE, ENUM, ARRAY, RUNTIME_TYPE_HANDLE, RUNTIME_FIELD_HANDLE, EXCEPTION, TYPE, MEMBER_INFO, METHOD_BASE, METHOD_INFO, FIELD_INFO, PROPERTY_INFO, SYSTEM_EXCEPTION, APPLICATION_EXCEPTION, MEMBER_ACCESS_EXCEPTION, MISSING_MEMBER_EXCEPTION, ARGUMENT_EXCEPTION, ARITHMETIC_EXCEPTION}
 use Rattle.il_base.specs.core_table.Names.{text_of}
 use Rattle.il_base.specs.core_table.Members.{methods_of}
 
@@ -43,22 +44,25 @@ runs_meet field method (t ∷ ts) =
 abbrev pub same_type : CoreType → CoreType → Bool
 same_type a b = same_text (text_of a.name) (text_of b.name) && same_text (text_of a.namespace) (text_of b.namespace)
 
--- a signature's type as a number: an element type is below each token
-abbrev pub number_of : CoreSig → ℕ
-number_of (core.Prim code) = code
-number_of (core.Class token) = token
-number_of (core.Value token) = token
+-- a signature's type in numbers (II.23.2.12): an element type is below each token
+abbrev pub spelled : CoreSig → List ℕ
+spelled (core.Prim code) = code ∷ []
+spelled (core.Class token) = token ∷ []
+spelled (core.Value token) = token ∷ []
+spelled (core.Prims code) = element.SZARRAY ∷ code ∷ []
+spelled (core.Classes token) = element.SZARRAY ∷ token ∷ []
+spelled (core.MVar n) = element.MVAR ∷ n ∷ []
 
-abbrev pub numbers_of : CoreParams → List ℕ
-numbers_of Zero = []
-numbers_of (One a) = number_of a ∷ []
-numbers_of (Two a b) = number_of a ∷ number_of b ∷ []
-numbers_of (Three a b c) = number_of a ∷ number_of b ∷ number_of c ∷ []
-numbers_of (Four a b c d) = number_of a ∷ number_of b ∷ number_of c ∷ number_of d ∷ []
+abbrev pub spelled_all : CoreParams → List ℕ
+spelled_all Zero = []
+spelled_all (One a) = spelled a
+spelled_all (Two a b) = spelled a ++ spelled b
+spelled_all (Three a b c) = spelled a ++ spelled b ++ spelled c
+spelled_all (Four a b c d) = spelled a ++ spelled b ++ spelled c ++ spelled d
 
 -- name and parameters; no two methods of the core library differ in their return alone
 abbrev pub same_method : CoreMethod → CoreMethod → Bool
-same_method a b = same_text (text_of a.name) (text_of b.name) && same_text (numbers_of a.params) (numbers_of b.params)
+same_method a b = same_text (text_of a.name) (text_of b.name) && same_text (spelled_all a.params) (spelled_all b.params)
 
 abbrev pub are_types_once : List CoreType → Bool
 are_types_once [] = true
@@ -116,10 +120,15 @@ named_tokens =
     ∷ (VALUE_TYPE, codes "ValueType")
     ∷ (ENUM, codes "Enum")
     ∷ (ARRAY, codes "Array")
+    ∷ (RUNTIME_TYPE_HANDLE, codes "RuntimeTypeHandle")
     ∷ (RUNTIME_FIELD_HANDLE, codes "RuntimeFieldHandle")
     ∷ (EXCEPTION, codes "Exception")
+    ∷ (TYPE, codes "Type")
     ∷ (MEMBER_INFO, codes "MemberInfo")
     ∷ (METHOD_BASE, codes "MethodBase")
+    ∷ (METHOD_INFO, codes "MethodInfo")
+    ∷ (FIELD_INFO, codes "FieldInfo")
+    ∷ (PROPERTY_INFO, codes "PropertyInfo")
     ∷ (SYSTEM_EXCEPTION, codes "SystemException")
     ∷ (APPLICATION_EXCEPTION, codes "ApplicationException")
     ∷ (MEMBER_ACCESS_EXCEPTION, codes "MemberAccessException")

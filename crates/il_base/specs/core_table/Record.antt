@@ -1,10 +1,10 @@
 -- The core library as a record (II.22): the rows of its types and members. Its methods have no bodies, and no other
--- table than Module, TypeDef, Field, MethodDef and Assembly has rows.
+-- table than Module, TypeDef, Field, MethodDef and Assembly has rows. A generic method has its parameters in its signature alone.
 use Rattle.std.specs.Prelude.{ℕ, ◌+◌, List, [], ◌∷◌, ◌++◌, length, map, codes, Bool, true, false, not, None}
 use Rattle.il_base.specs.declared.sig.Sig.{Sig}
 use Rattle.il_base.specs.declared.method_flags.TheConstants.{STATIC}
 use Rattle.il_base.specs.Flags.{has_flag}
-use Rattle.il_base.specs.declared.sig.Sig.TheVariants.{Prim, Named}
+use Rattle.il_base.specs.declared.sig.Sig.TheVariants.{Prim, Named, Array, MVar}
 use Rattle.il_base.specs.declared.sig.MethodSig.{MethodSig}
 use Rattle.il_base.specs.declared.world_model.known.Known.TheVariants.{Good}
 use Rattle.il_base.specs.declared.world_model.assemblies.AssemblyRow.{AssemblyRow}
@@ -30,6 +30,9 @@ abbrev pub sig_of : CoreSig → Sig
 sig_of (core.Prim code) = Prim code
 sig_of (core.Class token) = Named false token
 sig_of (core.Value token) = Named true token
+sig_of (core.Prims code) = Array (Prim code)
+sig_of (core.Classes token) = Array (Named false token)
+sig_of (core.MVar n) = MVar n
 
 unfoldable pub params_of : CoreParams → List Sig
 params_of Zero = []
@@ -42,9 +45,9 @@ params_of (Four a b c d) = sig_of a ∷ sig_of b ∷ sig_of c ∷ sig_of d ∷ [
 unfoldable pub is_static : ℕ → Bool
 is_static flags = has_flag flags STATIC
 
--- a method that isn't static has HASTHIS
+-- A method that isn't static has HASTHIS, one with generic parameters GENERIC.
 unfoldable pub signature_of : CoreMethod → MethodSig
-signature_of m = record { this = not (is_static m.flags); generic = 0; ret = sig_of m.ret; params = params_of m.params }
+signature_of m = record { this = not (is_static m.flags); generic = m.type_params; ret = sig_of m.ret; params = params_of m.params }
 
 -- ---- rows of members (II.22.15, II.22.26)
 

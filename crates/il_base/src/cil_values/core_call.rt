@@ -14,7 +14,8 @@ pub enum Printed {
 /// The members of the core library that a program can call, by what they do. Several members of the table can be one here.
 #[derive(Clone, Copy, Debug, PartialEq, Eq)]
 pub enum CoreCall {
-    /// Ends the run as Stopped: GetHashCode; Equals of ValueType and Enum; ToString of Enum and Exception.
+    /// Ends the run as Stopped: GetHashCode; Equals of ValueType and Enum; ToString of Enum and Exception; members of
+    /// reflection that find, call or make what a type has.
     Halts,
     /// Does nothing: the constructors of Object and Attribute, Finalize.
     Idle,
@@ -84,4 +85,34 @@ pub enum CoreCall {
     GetInner,
     /// RuntimeHelpers.InitializeArray.
     FillArray,
+    /// Object.GetType().
+    TypeOf,
+    /// Type.GetTypeFromHandle(RuntimeTypeHandle).
+    TypeFromHandle,
+    /// Type.get_Namespace().
+    TypeNamespace,
+    /// Type.get_FullName().
+    TypeFullName,
+    /// Type.ToString().
+    TypeText,
+    /// Type.op_Equality.
+    TypeSame,
+    /// Type.op_Inequality.
+    TypeOther,
+    /// Type.Equals(object).
+    TypeIs,
+    /// Type.IsAssignableFrom(Type).
+    TypeFits,
+    /// Type.IsInstanceOfType(object).
+    TypeHas,
+    /// Type.get_IsValueType().
+    TypeIsValue,
+    /// Type.get_IsInterface().
+    TypeIsInterface,
+    /// Type.get_IsArray().
+    TypeIsArray,
+    /// MemberInfo.get_Name().
+    MemberName,
+    /// MemberInfo.get_DeclaringType().
+    MemberOwner,
 }

@@ -1,7 +1,10 @@
 //! The types in signatures and the flags of methods that the lists of members use.
 
 use crate::core_table::shape::CoreSig;
-use crate::core_table::tokens::{ARRAY, EXCEPTION, RUNTIME_FIELD_HANDLE};
+use crate::core_table::tokens::{
+    ARRAY, EXCEPTION, FIELD_INFO, METHOD_INFO, PROPERTY_INFO, RUNTIME_FIELD_HANDLE,
+    RUNTIME_TYPE_HANDLE, TYPE,
+};
 use crate::element;
 
 pub const VOID: CoreSig = CoreSig::Prim(element::VOID);
@@ -22,7 +25,32 @@ pub const ARR: CoreSig = CoreSig::Class(ARRAY);
 
 pub const EXC: CoreSig = CoreSig::Class(EXCEPTION);
 
+pub const TYPE_HANDLE: CoreSig = CoreSig::Value(RUNTIME_TYPE_HANDLE);
+
 pub const FIELD_HANDLE: CoreSig = CoreSig::Value(RUNTIME_FIELD_HANDLE);
+
+pub const TYP: CoreSig = CoreSig::Class(TYPE);
+
+pub const METHOD: CoreSig = CoreSig::Class(METHOD_INFO);
+
+pub const FIELD: CoreSig = CoreSig::Class(FIELD_INFO);
+
+pub const PROPERTY: CoreSig = CoreSig::Class(PROPERTY_INFO);
+
+/// `object[]`
+pub const OBJS: CoreSig = CoreSig::Prims(element::OBJECT);
+
+/// `MethodInfo[]`
+pub const METHODS: CoreSig = CoreSig::Classes(METHOD_INFO);
+
+/// `FieldInfo[]`
+pub const FIELDS: CoreSig = CoreSig::Classes(FIELD_INFO);
+
+/// `PropertyInfo[]`
+pub const PROPERTIES: CoreSig = CoreSig::Classes(PROPERTY_INFO);
+
+/// The first generic parameter of the method.
+pub const METHOD_PARAM: CoreSig = CoreSig::MVar(0);
 
 // The flags of methods (II.23.1.10).
 

@@ -1,7 +1,7 @@
 //! The members of the core library by their rows.
 
 ghost use Rattle.std.specs.Prelude.{◌≡◌, slice_get};
-ghost use Rattle.il_base.specs.core_table.Kinds.{kind_of, core_row, core_kind, owned, member_in, member_of};
+ghost use Rattle.il_base.specs.core_table.Kinds.{kind_of, core_row, core_kind, owned, member_in, member_of, is_get_type, asks_of_type, reflects, looks, is_reflective, looks_at_types};
 
 use crate::core_table::names::CoreName;
 use crate::core_table::shape::{CoreMethod, CoreType};
@@ -112,5 +112,78 @@ impl CoreKind {
         } else {
             member_in(&TYPES, row as usize - 1)
         }
+    }
+}
+
+fn is_get_type(name: CoreName) -> bool
+    ensures { result ≡ is_get_type name }
+{
+    name == CoreName::GetType
+}
+
+/// Whether a member of Type asks something of a type.
+fn asks_of_type(name: CoreName) -> bool
+    ensures { result ≡ asks_of_type name }
+{
+    matches!(
+        name,
+        CoreName::GetTypeFromHandle
+            | CoreName::GetNamespace
+            | CoreName::GetFullName
+            | CoreName::ToString
+            | CoreName::OpEquality
+            | CoreName::OpInequality
+            | CoreName::Equals
+            | CoreName::IsAssignableFrom
+            | CoreName::IsInstanceOfType
+            | CoreName::GetIsValueType
+            | CoreName::GetIsInterface
+            | CoreName::GetIsArray
+    )
+}
+
+fn reflects(owner: CoreName, name: CoreName) -> bool
+    ensures { result ≡ reflects owner name }
+{
+    match owner {
+        CoreName::Object => is_get_type(name),
+        CoreName::Type
+        | CoreName::MemberInfo
+        | CoreName::MethodBase
+        | CoreName::MethodInfo
+        | CoreName::FieldInfo
+        | CoreName::PropertyInfo
+        | CoreName::Activator => true,
+        _ => false,
+    }
+}
+
+fn looks(owner: CoreName, name: CoreName) -> bool
+    ensures { result ≡ looks owner name }
+{
+    match owner {
+        CoreName::Object => is_get_type(name),
+        CoreName::Type => asks_of_type(name),
+        CoreName::MemberInfo => true,
+        _ => false,
+    }
+}
+
+impl OwnedMethod {
+    /// Whether the method is a member of one of the seven types of reflection, or Object.GetType.
+    #[tactic(auto, unfolding(crate::specs::core_table::Kinds::is_reflective))]
+    pub fn is_reflective(self) -> bool
+        ensures { result ≡ is_reflective self }
+    {
+        reflects(self.owner, self.method.name)
+    }
+
+    /// Whether the method only looks at types: Object.GetType, a member of MemberInfo, or one that asks something of a
+    /// Type.
+    #[tactic(auto, unfolding(crate::specs::core_table::Kinds::looks_at_types))]
+    pub fn looks_at_types(self) -> bool
+        ensures { result ≡ looks_at_types self }
+    {
+        looks(self.owner, self.method.name)
     }
 }

@@ -8,6 +8,10 @@ use crate::core_table::methods::{
     IDISPOSABLE_METHODS, INT32_METHODS, OBJECT_METHODS, PRIMITIVE_METHODS, RUNTIME_HELPERS_METHODS,
     VALUE_TYPE_METHODS,
 };
+use crate::core_table::reflection_methods::{
+    ACTIVATOR_METHODS, FIELD_INFO_METHODS, MEMBER_INFO_METHODS, METHOD_BASE_METHODS,
+    METHOD_INFO_METHODS, PROPERTY_INFO_METHODS, TYPE_METHODS,
+};
 use crate::core_table::shape::{CoreField, CoreMembers, CoreMethod};
 use crate::core_table::text_methods::{CONSOLE_METHODS, STRING_FIELDS, STRING_METHODS};
 
@@ -16,7 +20,7 @@ impl CoreMembers {
     #[tactic(auto, unfolding(crate::specs::core_table::Members::methods_of))]
     pub fn methods(self) -> &'static [CoreMethod]
         ensures value { result.now ≡ methods_of self }
-        ensures few { length result.now ≤ 16 }
+        ensures few { length result.now ≤ 32 }
     {
         match self {
             CoreMembers::NoMethods => &[],
@@ -30,6 +34,13 @@ impl CoreMembers {
             CoreMembers::Console => &CONSOLE_METHODS,
             CoreMembers::Exception => &EXCEPTION_METHODS,
             CoreMembers::Constructors => &EXCEPTION_CONSTRUCTORS,
+            CoreMembers::Type => &TYPE_METHODS,
+            CoreMembers::MemberInfo => &MEMBER_INFO_METHODS,
+            CoreMembers::MethodBase => &METHOD_BASE_METHODS,
+            CoreMembers::MethodInfo => &METHOD_INFO_METHODS,
+            CoreMembers::FieldInfo => &FIELD_INFO_METHODS,
+            CoreMembers::PropertyInfo => &PROPERTY_INFO_METHODS,
+            CoreMembers::Activator => &ACTIVATOR_METHODS,
             CoreMembers::RuntimeHelpers => &RUNTIME_HELPERS_METHODS,
             CoreMembers::IDisposable => &IDISPOSABLE_METHODS,
             CoreMembers::Attribute => &ATTRIBUTE_METHODS,
@@ -40,7 +51,7 @@ impl CoreMembers {
     #[tactic(auto, unfolding(crate::specs::core_table::Members::fields_of))]
     pub fn fields(self) -> &'static [CoreField]
         ensures value { result.now ≡ fields_of self }
-        ensures few { length result.now ≤ 16 }
+        ensures few { length result.now ≤ 32 }
     {
         match self {
             CoreMembers::String => &STRING_FIELDS,
@@ -54,6 +65,13 @@ impl CoreMembers {
             | CoreMembers::Console
             | CoreMembers::Exception
             | CoreMembers::Constructors
+            | CoreMembers::Type
+            | CoreMembers::MemberInfo
+            | CoreMembers::MethodBase
+            | CoreMembers::MethodInfo
+            | CoreMembers::FieldInfo
+            | CoreMembers::PropertyInfo
+            | CoreMembers::Activator
             | CoreMembers::RuntimeHelpers
             | CoreMembers::IDisposable
             | CoreMembers::Attribute => &[],

@@ -1,53 +1,67 @@
-//! The methods of the core table but for String's and Console's, each list in the table's order.
+//! The methods of the core table but for those of String, Console and reflection, each list in the table's order.
 
 use crate::core_table::forms::{
     ABSTRACT, ACCESSOR, ARR, BOOL, CONSTRUCTOR, EXC, FAMILY_CONSTRUCTOR, FIELD_HANDLE, FINALIZER,
-    INSTANCE, INT, OBJ, OVERRIDE, STATIC, STR, VIRTUAL, VIRTUAL_ACCESSOR, VOID,
+    INSTANCE, INT, OBJ, OVERRIDE, STATIC, STR, TYP, VIRTUAL, VIRTUAL_ACCESSOR, VOID,
 };
 use crate::core_table::names::CoreName;
 use crate::core_table::shape::{CoreMethod, CoreParams};
 
 /// Object: any object.
-pub const OBJECT_METHODS: [CoreMethod; 7] = [
+pub const OBJECT_METHODS: [CoreMethod; 8] = [
     CoreMethod {
         name: CoreName::Constructor,
         flags: CONSTRUCTOR,
+        type_params: 0,
         ret: VOID,
         params: CoreParams::Zero,
     },
     CoreMethod {
         name: CoreName::ToString,
         flags: VIRTUAL,
+        type_params: 0,
         ret: STR,
         params: CoreParams::Zero,
     },
     CoreMethod {
         name: CoreName::Equals,
         flags: VIRTUAL,
+        type_params: 0,
         ret: BOOL,
         params: CoreParams::One(OBJ),
     },
     CoreMethod {
         name: CoreName::GetHashCode,
         flags: VIRTUAL,
+        type_params: 0,
         ret: INT,
         params: CoreParams::Zero,
     },
     CoreMethod {
         name: CoreName::Finalize,
         flags: FINALIZER,
+        type_params: 0,
         ret: VOID,
+        params: CoreParams::Zero,
+    },
+    CoreMethod {
+        name: CoreName::GetType,
+        flags: INSTANCE,
+        type_params: 0,
+        ret: TYP,
         params: CoreParams::Zero,
     },
     CoreMethod {
         name: CoreName::Equals,
         flags: STATIC,
+        type_params: 0,
         ret: BOOL,
         params: CoreParams::Two(OBJ, OBJ),
     },
     CoreMethod {
         name: CoreName::ReferenceEquals,
         flags: STATIC,
+        type_params: 0,
         ret: BOOL,
         params: CoreParams::Two(OBJ, OBJ),
     },
@@ -58,12 +72,14 @@ pub const VALUE_TYPE_METHODS: [CoreMethod; 2] = [
     CoreMethod {
         name: CoreName::Equals,
         flags: OVERRIDE,
+        type_params: 0,
         ret: BOOL,
         params: CoreParams::One(OBJ),
     },
     CoreMethod {
         name: CoreName::GetHashCode,
         flags: OVERRIDE,
+        type_params: 0,
         ret: INT,
         params: CoreParams::Zero,
     },
@@ -74,18 +90,21 @@ pub const ENUM_METHODS: [CoreMethod; 3] = [
     CoreMethod {
         name: CoreName::ToString,
         flags: OVERRIDE,
+        type_params: 0,
         ret: STR,
         params: CoreParams::Zero,
     },
     CoreMethod {
         name: CoreName::Equals,
         flags: OVERRIDE,
+        type_params: 0,
         ret: BOOL,
         params: CoreParams::One(OBJ),
     },
     CoreMethod {
         name: CoreName::GetHashCode,
         flags: OVERRIDE,
+        type_params: 0,
         ret: INT,
         params: CoreParams::Zero,
     },
@@ -96,18 +115,21 @@ pub const PRIMITIVE_METHODS: [CoreMethod; 3] = [
     CoreMethod {
         name: CoreName::ToString,
         flags: OVERRIDE,
+        type_params: 0,
         ret: STR,
         params: CoreParams::Zero,
     },
     CoreMethod {
         name: CoreName::Equals,
         flags: OVERRIDE,
+        type_params: 0,
         ret: BOOL,
         params: CoreParams::One(OBJ),
     },
     CoreMethod {
         name: CoreName::GetHashCode,
         flags: OVERRIDE,
+        type_params: 0,
         ret: INT,
         params: CoreParams::Zero,
     },
@@ -118,36 +140,42 @@ pub const INT32_METHODS: [CoreMethod; 6] = [
     CoreMethod {
         name: CoreName::ToString,
         flags: OVERRIDE,
+        type_params: 0,
         ret: STR,
         params: CoreParams::Zero,
     },
     CoreMethod {
         name: CoreName::Equals,
         flags: OVERRIDE,
+        type_params: 0,
         ret: BOOL,
         params: CoreParams::One(OBJ),
     },
     CoreMethod {
         name: CoreName::GetHashCode,
         flags: OVERRIDE,
+        type_params: 0,
         ret: INT,
         params: CoreParams::Zero,
     },
     CoreMethod {
         name: CoreName::Equals,
         flags: INSTANCE,
+        type_params: 0,
         ret: BOOL,
         params: CoreParams::One(INT),
     },
     CoreMethod {
         name: CoreName::CompareTo,
         flags: INSTANCE,
+        type_params: 0,
         ret: INT,
         params: CoreParams::One(INT),
     },
     CoreMethod {
         name: CoreName::Parse,
         flags: STATIC,
+        type_params: 0,
         ret: INT,
         params: CoreParams::One(STR),
     },
@@ -157,6 +185,7 @@ pub const INT32_METHODS: [CoreMethod; 6] = [
 pub const ARRAY_METHODS: [CoreMethod; 1] = [CoreMethod {
     name: CoreName::GetLength,
     flags: ACCESSOR,
+    type_params: 0,
     ret: INT,
     params: CoreParams::Zero,
 }];
@@ -166,36 +195,42 @@ pub const EXCEPTION_METHODS: [CoreMethod; 6] = [
     CoreMethod {
         name: CoreName::Constructor,
         flags: CONSTRUCTOR,
+        type_params: 0,
         ret: VOID,
         params: CoreParams::Zero,
     },
     CoreMethod {
         name: CoreName::Constructor,
         flags: CONSTRUCTOR,
+        type_params: 0,
         ret: VOID,
         params: CoreParams::One(STR),
     },
     CoreMethod {
         name: CoreName::Constructor,
         flags: CONSTRUCTOR,
+        type_params: 0,
         ret: VOID,
         params: CoreParams::Two(STR, EXC),
     },
     CoreMethod {
         name: CoreName::GetMessage,
         flags: VIRTUAL_ACCESSOR,
+        type_params: 0,
         ret: STR,
         params: CoreParams::Zero,
     },
     CoreMethod {
         name: CoreName::GetInnerException,
         flags: ACCESSOR,
+        type_params: 0,
         ret: EXC,
         params: CoreParams::Zero,
     },
     CoreMethod {
         name: CoreName::ToString,
         flags: OVERRIDE,
+        type_params: 0,
         ret: STR,
         params: CoreParams::Zero,
     },
@@ -206,18 +241,21 @@ pub const EXCEPTION_CONSTRUCTORS: [CoreMethod; 3] = [
     CoreMethod {
         name: CoreName::Constructor,
         flags: CONSTRUCTOR,
+        type_params: 0,
         ret: VOID,
         params: CoreParams::Zero,
     },
     CoreMethod {
         name: CoreName::Constructor,
         flags: CONSTRUCTOR,
+        type_params: 0,
         ret: VOID,
         params: CoreParams::One(STR),
     },
     CoreMethod {
         name: CoreName::Constructor,
         flags: CONSTRUCTOR,
+        type_params: 0,
         ret: VOID,
         params: CoreParams::Two(STR, EXC),
     },
@@ -227,6 +265,7 @@ pub const EXCEPTION_CONSTRUCTORS: [CoreMethod; 3] = [
 pub const RUNTIME_HELPERS_METHODS: [CoreMethod; 1] = [CoreMethod {
     name: CoreName::InitializeArray,
     flags: STATIC,
+    type_params: 0,
     ret: VOID,
     params: CoreParams::Two(ARR, FIELD_HANDLE),
 }];
@@ -235,6 +274,7 @@ pub const RUNTIME_HELPERS_METHODS: [CoreMethod; 1] = [CoreMethod {
 pub const IDISPOSABLE_METHODS: [CoreMethod; 1] = [CoreMethod {
     name: CoreName::Dispose,
     flags: ABSTRACT,
+    type_params: 0,
     ret: VOID,
     params: CoreParams::Zero,
 }];
@@ -243,6 +283,7 @@ pub const IDISPOSABLE_METHODS: [CoreMethod; 1] = [CoreMethod {
 pub const ATTRIBUTE_METHODS: [CoreMethod; 1] = [CoreMethod {
     name: CoreName::Constructor,
     flags: FAMILY_CONSTRUCTOR,
+    type_params: 0,
     ret: VOID,
     params: CoreParams::Zero,
 }];

@@ -1,23 +1,39 @@
 //! The Field and MethodDef rows of the core record (II.22.15, II.22.26).
 
 ghost use Rattle.std.specs.Prelude.{◌≡◌, ◌++◌, IfOk, OnOk};
+ghost use Rattle.il_base.specs.declared.sig.Sig.TheVariants.{Array};
 ghost use Rattle.il_base.specs.core_table.Record.{sig_of, params_of, field_row, method_row, all_fields, all_methods, field_rows, method_rows};
 
 use crate::core_table::shape::{CoreField, CoreMethod, CoreParams, CoreSig, CoreType};
 use crate::world_model::{FieldRow, Known, MethodDefRow};
-use crate::{MethodSig, NoMemory, Seq, Sig, has_flag, method_flags};
+use crate::{Boxed, MethodSig, NoMemory, Seq, Sig, has_flag, method_flags};
 use std::alloc::Global;
 
-fn sig_of(sig: CoreSig) -> Sig
-    ensures { result ≡ sig_of sig }
+fn vector_of(alloc: Global, element: Sig) -> Result<Sig, NoMemory>
+    ensures { IfOk result (λ s. s ≡ Array element) }
+{
+    Ok(Sig::Array(Boxed::new(alloc, element)?))
+}
+
+fn sig_of(alloc: Global, sig: CoreSig) -> Result<Sig, NoMemory>
+    ensures { IfOk result (λ s. s ≡ sig_of sig) }
 {
     match sig {
-        CoreSig::Prim(code) => Sig::Prim(code),
-        CoreSig::Class(token) => Sig::Named {
+        CoreSig::Prim(code) => Ok(Sig::Prim(code)),
+        CoreSig::Class(token) => Ok(Sig::Named {
             value: false,
             token,
-        },
-        CoreSig::Value(token) => Sig::Named { value: true, token },
+        }),
+        CoreSig::Value(token) => Ok(Sig::Named { value: true, token }),
+        CoreSig::Prims(code) => vector_of(alloc, Sig::Prim(code)),
+        CoreSig::Classes(token) => vector_of(
+            alloc,
+            Sig::Named {
+                value: false,
+                token,
+            },
+        ),
+        CoreSig::MVar(n) => Ok(Sig::MVar(n)),
     }
 }
 
@@ -27,11 +43,18 @@ fn params_of(alloc: Global, params: CoreParams) -> Result<Seq<Sig>, NoMemory>
 {
     let sigs = match params {
         CoreParams::Zero => Vec::new(alloc),
-        CoreParams::One(a) => vec![in alloc; sig_of(a)]?,
-        CoreParams::Two(a, b) => vec![in alloc; sig_of(a), sig_of(b)]?,
-        CoreParams::Three(a, b, c) => vec![in alloc; sig_of(a), sig_of(b), sig_of(c)]?,
+        CoreParams::One(a) => vec![in alloc; sig_of(alloc, a)?]?,
+        CoreParams::Two(a, b) => vec![in alloc; sig_of(alloc, a)?, sig_of(alloc, b)?]?,
+        CoreParams::Three(a, b, c) => {
+            vec![in alloc; sig_of(alloc, a)?, sig_of(alloc, b)?, sig_of(alloc, c)?]?
+        }
         CoreParams::Four(a, b, c, d) => {
-            vec![in alloc; sig_of(a), sig_of(b), sig_of(c), sig_of(d)]?
+            vec![in alloc;
+                sig_of(alloc, a)?,
+                sig_of(alloc, b)?,
+                sig_of(alloc, c)?,
+                sig_of(alloc, d)?,
+            ]?
         }
     };
     Ok(Seq::from_vec(sigs))
@@ -42,10 +65,11 @@ fn field_row(alloc: Global, field: &CoreField) -> Result<FieldRow, NoMemory>
     ensures { IfOk result (λ row. row ≡ field_row field.now) }
 {
     let name = Seq::from_slice(alloc, field.name.text())?;
+    let signature = sig_of(alloc, field.signature)?;
     Ok(FieldRow {
         flags: field.flags,
         name,
-        signature: Known::Good(sig_of(field.signature)),
+        signature: Known::Good(signature),
     })
 }
 
@@ -54,11 +78,12 @@ fn method_row(alloc: Global, method: &CoreMethod) -> Result<MethodDefRow, NoMemo
     ensures { IfOk result (λ row. row ≡ method_row method.now) }
 {
     let name = Seq::from_slice(alloc, method.name.text())?;
+    let ret = sig_of(alloc, method.ret)?;
     let params = params_of(alloc, method.params)?;
     let signature = MethodSig {
         this: !has_flag(method.flags, method_flags::STATIC),
-        generic: 0,
-        ret: sig_of(method.ret),
+        generic: method.type_params,
+        ret,
         params,
     };
     Ok(MethodDefRow {

@@ -11,6 +11,12 @@ pub enum CoreSig {
     Class(u32),
     /// A value type of the core library, by its TypeDef token.
     Value(u32),
+    /// A vector of a primitive, `string` or `object`.
+    Prims(u8),
+    /// A vector of a class.
+    Classes(u32),
+    /// A generic parameter of the method, counted from 0.
+    MVar(u32),
 }
 
 /// The types of a method's parameters.
@@ -38,6 +44,8 @@ pub struct CoreMethod {
     pub name: CoreName,
     /// II.23.1.10.
     pub flags: u16,
+    /// How many generic parameters it has (II.9).
+    pub type_params: u32,
     pub ret: CoreSig,
     pub params: CoreParams,
 }
@@ -57,6 +65,13 @@ pub enum CoreMembers {
     Exception,
     /// The three constructors of Exception.
     Constructors,
+    Type,
+    MemberInfo,
+    MethodBase,
+    MethodInfo,
+    FieldInfo,
+    PropertyInfo,
+    Activator,
     RuntimeHelpers,
     IDisposable,
     Attribute,

@@ -12,7 +12,7 @@ use crate::core_table::tokens::{
 pub const TYPE_COUNT: u32 = 59;
 
 /// How many methods the types have.
-pub const METHOD_COUNT: u32 = 161;
+pub const METHOD_COUNT: u32 = 201;
 
 /// Each type, with `<Module>` in row 1.
 pub const TYPES: [CoreType; 59] = [
@@ -189,49 +189,49 @@ pub const TYPES: [CoreType; 59] = [
         namespace: CoreName::System,
         flags: ABSTRACT_TYPE,
         extends: MEMBER_INFO,
-        members: CoreMembers::NoMethods,
+        members: CoreMembers::Type,
     },
     CoreType {
         name: CoreName::MemberInfo,
         namespace: CoreName::SystemReflection,
         flags: ABSTRACT_TYPE,
         extends: OBJECT,
-        members: CoreMembers::NoMethods,
+        members: CoreMembers::MemberInfo,
     },
     CoreType {
         name: CoreName::MethodBase,
         namespace: CoreName::SystemReflection,
         flags: ABSTRACT_TYPE,
         extends: MEMBER_INFO,
-        members: CoreMembers::NoMethods,
+        members: CoreMembers::MethodBase,
     },
     CoreType {
         name: CoreName::MethodInfo,
         namespace: CoreName::SystemReflection,
         flags: ABSTRACT_TYPE,
         extends: METHOD_BASE,
-        members: CoreMembers::NoMethods,
+        members: CoreMembers::MethodInfo,
     },
     CoreType {
         name: CoreName::FieldInfo,
         namespace: CoreName::SystemReflection,
         flags: ABSTRACT_TYPE,
         extends: MEMBER_INFO,
-        members: CoreMembers::NoMethods,
+        members: CoreMembers::FieldInfo,
     },
     CoreType {
         name: CoreName::PropertyInfo,
         namespace: CoreName::SystemReflection,
         flags: ABSTRACT_TYPE,
         extends: MEMBER_INFO,
-        members: CoreMembers::NoMethods,
+        members: CoreMembers::PropertyInfo,
     },
     CoreType {
         name: CoreName::Activator,
         namespace: CoreName::System,
         flags: STATIC_TYPE,
         extends: OBJECT,
-        members: CoreMembers::NoMethods,
+        members: CoreMembers::Activator,
     },
     CoreType {
         name: CoreName::RuntimeHelpers,

@@ -92,6 +92,7 @@ fn own_text(name: CoreName) -> &'static [u8]
         | CoreName::Equals
         | CoreName::GetHashCode
         | CoreName::Finalize
+        | CoreName::GetType
         | CoreName::ReferenceEquals
         | CoreName::CompareTo
         | CoreName::Parse
@@ -110,6 +111,30 @@ fn own_text(name: CoreName) -> &'static [u8]
         | CoreName::Read
         | CoreName::GetMessage
         | CoreName::GetInnerException
+        | CoreName::GetTypeFromHandle
+        | CoreName::GetNamespace
+        | CoreName::GetFullName
+        | CoreName::IsAssignableFrom
+        | CoreName::IsInstanceOfType
+        | CoreName::GetIsValueType
+        | CoreName::GetIsInterface
+        | CoreName::GetIsArray
+        | CoreName::GetMethod
+        | CoreName::GetMethods
+        | CoreName::GetField
+        | CoreName::GetFields
+        | CoreName::GetProperty
+        | CoreName::GetProperties
+        | CoreName::GetName
+        | CoreName::GetDeclaringType
+        | CoreName::Invoke
+        | CoreName::GetIsStatic
+        | CoreName::GetReturnType
+        | CoreName::GetValue
+        | CoreName::SetValue
+        | CoreName::GetFieldType
+        | CoreName::GetPropertyType
+        | CoreName::CreateInstance
         | CoreName::InitializeArray
         | CoreName::Dispose
         | CoreName::Empty => b"Exception was thrown.",

@@ -73,6 +73,18 @@ pub trait Answers {
     fn text(&self, alloc: Global, ty: &TypeExpr) -> Result<Text, NoMemory>
         ensures { IfOk result (λ text. text ≡ (queries self.now).text ty.now) };
 
+    /// A type's own name, as reflection gives it (II.22.37), in UTF-8.
+    fn label(&self, alloc: Global, ty: &TypeExpr) -> Result<Text, NoMemory>
+        ensures { IfOk result (λ text. text ≡ (queries self.now).label ty.now) };
+
+    /// A type's namespace, as reflection gives it (II.22.37), in UTF-8.
+    fn space(&self, alloc: Global, ty: &TypeExpr) -> Result<Text, NoMemory>
+        ensures { IfOk result (λ text. text ≡ (queries self.now).space ty.now) };
+
+    /// The type definition that another is nested in (II.22.32).
+    fn encloser(&self, ty: u32) -> Option<u32>
+        ensures { result ≡ (queries self.now).encloser ty };
+
     /// The nearest type of the core library among a type and its bases.
     fn kin(&self, alloc: Global, ty: &TypeExpr) -> Result<Option<CoreName>, NoMemory>
         ensures { IfOk result (λ name. name ≡ (queries self.now).kin ty.now) };

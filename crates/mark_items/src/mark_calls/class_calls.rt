@@ -1,4 +1,4 @@
-//! The methods that a class slot may run (II.10.3), for instantiated types, and for types that must have a method for it.
+//! The methods that a class slot may run for instantiated types (II.10.3), and whether a type must have a method for a slot.
 
 ghost use Rattle.std.specs.Prelude.{◌≡◌, ◌++◌, IfOk, OnOk};
 ghost use Rattle.std.specs.List.{list_any};
@@ -6,7 +6,7 @@ ghost use Rattle.rules.specs.link_rules.Cycles.{listed};
 ghost use Rattle.rules.specs.type_rules.Slots.{open_type, method_row_at};
 ghost use Rattle.rules.specs.type_rules.Dispatch.{class_dispatch};
 ghost use Rattle.rules.specs.type_rules.Rows.{type_row_at};
-ghost use Rattle.rules.specs.mark_rules.Calls.{is_own_slot, class_answer, class_runs, is_concrete, is_abstract_method, answers_abstract, class_fills};
+ghost use Rattle.rules.specs.mark_rules.Calls.{is_own_slot, class_answer, class_runs, is_concrete, is_abstract_method, answers_abstract};
 ghost use Rattle.mark_parts.specs.mark_tables.Assemblies.{all_of, IsMarker};
 ghost use Rattle.virtual_calls.specs.Slots.{AreSlots};
 
@@ -145,25 +145,4 @@ pub(crate) fn answers_abstract(marker: &Marker<'_>, t: RowAt, b: RowAt) -> bool
     ensures { result ≡ answers_abstract (all_of marker.now) t b }
 {
     is_concrete_at(marker.tables.world.recs.as_slice(), t) && is_abstract_at(marker, b)
-}
-
-/// Marks the method that a marked type has for an abstract class slot (II.10.1.4).
-#[tactic(auto, unfolding(rules::specs::mark_rules::Calls::class_fills), using(crate::proofs::lemmas::mark_calls::Lists::none_more))]
-pub fn add_class_fills(
-    alloc: Global,
-    marker: &Marker<'_>,
-    slots: &Slots,
-    t: RowAt,
-    b: RowAt,
-    facts: &mut Facts,
-) -> Result<(), NoMemory>
-    requires marker { IsMarker marker.now }
-    requires slots { AreSlots (all_of marker.now) slots.now }
-    ensures { OnOk result (facts.new ≡ facts.old ++ class_fills (all_of marker.now) t b) }
-{
-    let answers = answers_abstract(marker, t, b);
-    if answers {
-        return add_class_runs(alloc, marker, slots, t, b, facts);
-    }
-    Ok(())
 }

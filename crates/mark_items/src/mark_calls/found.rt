@@ -68,7 +68,12 @@ fn is_among_bases(
 }
 
 /// Whether a type definition is another one or one of its bases.
-fn is_base_of(alloc: Global, marker: &Marker<'_>, c: RowAt, t: RowAt) -> Result<bool, NoMemory>
+pub(crate) fn is_base_of(
+    alloc: Global,
+    marker: &Marker<'_>,
+    c: RowAt,
+    t: RowAt,
+) -> Result<bool, NoMemory>
     requires { IsMarker marker.now }
     ensures { IfOk result (λ is. is ≡ is_base_of (all_of marker.now) c t) }
 {

@@ -1,9 +1,9 @@
-//! The slots that a type itself has: those of its methods, and those that its MethodImpl rows declare (II.22.27).
+//! The virtual methods of a type, their slots, and the slots that its MethodImpl rows declare (II.22.27).
 
 ghost use Rattle.std.specs.Prelude.{◌≡◌, ◌++◌, [], slice_get, Some, IfOk, OnOk};
 ghost use Rattle.std.specs.List.{flat_map};
 ghost use Rattle.std.specs.Option.{option_map_or};
-ghost use Rattle.base_laws.specs.known_laws.Known.{slot_list, use_slot, declared_slot, declared_slots, own_slots};
+ghost use Rattle.base_laws.specs.known_laws.Known.{slot_list, with_slot, slot_and_own, use_slot, declared_slot, declared_slots, own_slots};
 ghost use Rattle.mark_parts.specs.mark_tables.Assemblies.{recs_of, place_of, rec_of, all_of, IsAssembly, IsMarker};
 ghost use Rattle.virtual_calls.specs.Slots.{AreSlots};
 
@@ -15,6 +15,7 @@ use mark_parts::mark_tables::marker::Marker;
 use rules::link_rules::RowAt;
 use std::alloc::Global;
 use type_tables::methods::{method_home, use_at};
+use virtual_calls::impls::same_row;
 use virtual_calls::slots::{Slots, slot_of_method};
 
 /// Adds the slot of a method, if it has one.
@@ -36,18 +37,45 @@ fn add_slot(
     }
 }
 
-/// Adds the slots of these methods.
-fn add_slots(
+/// Adds a slot, and the method that has it, where that is another.
+fn add_with_slot(at: RowAt, slot: RowAt, found: &mut Vec<RowAt>) -> Result<(), NoMemory>
+    ensures { OnOk result (found.new.items ≡ found.old.items ++ with_slot at slot) }
+{
+    found.push(slot)?;
+    if !same_row(at, slot) {
+        found.push(at)?;
+    }
+    Ok(())
+}
+
+/// Adds the slot of a virtual method, and the method itself.
+fn add_method(
+    marker: &Marker<'_>,
+    slots: &Slots,
+    at: RowAt,
+    found: &mut Vec<RowAt>,
+) -> Result<(), NoMemory>
+    requires { AreSlots (all_of marker.now) slots.now }
+    ensures { OnOk result (found.new.items ≡ found.old.items ++ slot_and_own (all_of marker.now) at) }
+{
+    match slot_of_method(&marker.tables, slots, at) {
+        Some(slot) => add_with_slot(at, slot, found),
+        None => Ok(()),
+    }
+}
+
+/// Adds those of these methods that are virtual, with their slots.
+fn add_methods(
     marker: &Marker<'_>,
     slots: &Slots,
     methods: &[RowAt],
     found: &mut Vec<RowAt>,
 ) -> Result<(), NoMemory>
     requires { AreSlots (all_of marker.now) slots.now }
-    ensures { OnOk result (found.new.items ≡ found.old.items ++ flat_map (slot_list (all_of marker.now)) methods.now) }
+    ensures { OnOk result (found.new.items ≡ found.old.items ++ flat_map (slot_and_own (all_of marker.now)) methods.now) }
 {
     for at in methods {
-        add_slot(marker, slots, *at, found)?;
+        add_method(marker, slots, *at, found)?;
     }
     Ok(())
 }
@@ -149,7 +177,7 @@ fn add_declared_slots(
     Ok(())
 }
 
-/// The slots of a type's methods, and those that its MethodImpl rows declare.
+/// A type's virtual methods, their slots, and the slots that its MethodImpl rows declare.
 pub fn own_slots(
     alloc: Global,
     marker: &Marker<'_>,
@@ -162,7 +190,7 @@ pub fn own_slots(
 {
     let methods = methods_of_type(alloc, marker, c)?;
     let mut found = Vec::new(alloc);
-    add_slots(marker, slots, methods.as_slice(), &mut found)?;
+    add_methods(marker, slots, methods.as_slice(), &mut found)?;
     add_declared_slots(marker, slots, c, &mut found)?;
     Ok(found)
 }

@@ -8,7 +8,8 @@ ghost use Rattle.marking.specs.mark_known.Facts.{recs_in, knows, IsKnown, class_
 use crate::mark_known::known::{Known, is_known_row};
 use crate::mark_known::own::own_slots;
 use il_base::NoMemory;
-use mark_items::mark_calls::class_calls::{add_class_fills, add_class_runs};
+use mark_items::mark_calls::abstract_slots::add_class_fills;
+use mark_items::mark_calls::class_calls::add_class_runs;
 use mark_parts::mark_facts::facts::Facts;
 use mark_parts::mark_facts::kinds::Kind;
 use rules::link_rules::RowAt;
@@ -19,7 +20,7 @@ use std::alloc::Global;
 pub enum Rule {
     /// The method that a call of the slot runs for an instantiated type.
     Runs,
-    /// The method that a marked type has for an abstract slot (II.10.1.4).
+    /// The method that a marked type has for the slot of an abstract method (II.10.1.4).
     Fills,
 }
 

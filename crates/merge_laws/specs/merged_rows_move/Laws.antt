@@ -14,6 +14,7 @@ use Rattle.rules.specs.link_rules.Cycles.{interfaces_at, is_interface_at, is_cor
 use Rattle.rules.specs.type_rules.Rows.{type_row_at, methods_of_type, fields_of_type, is_instance_field}
 use Rattle.rules.specs.type_rules.Slots.{method_row_at, type_of_method, type_of_row}
 use Rattle.rules.specs.type_rules.Texts.{name_at}
+use Rattle.rules.specs.type_rules.Labels.{label_at, space_at, encloser_at}
 use Rattle.rules.specs.view_rules.Methods as view
 use Rattle.rules.specs.view_rules.Layouts.{is_core_type, fits_params}
 use Rattle.rules.specs.view_rules.Answers.{core_name_at}
@@ -79,11 +80,16 @@ MovesImpls =
     ForMerges (λ m k. ReadsImpls m k → (at : RowAt) → IsTrue (keeps_type_row k (before m) at)
     → impls_at (after m) ((places_of m).typ at) ≡ map (move_impl (rho_of m)) (filter (keeps_impl k) (impls_at (before m) at)))
 
--- a type whose text can be printed keeps it
+-- a type whose text can be printed keeps it, with its names and its encloser
+pub record NamesMove (m : Merge) (at : RowAt) : Type 0 where
+  pub name : name_at (after m) ((places_of m).typ at) ≡ name_at (before m) at
+  pub label : label_at (after m) ((places_of m).typ at) ≡ label_at (before m) at
+  pub space : space_at (after m) ((places_of m).typ at) ≡ space_at (before m) at
+  pub encloser : encloser_at (after m) ((places_of m).typ at) ≡ option_map (places_of m).typ (encloser_at (before m) at)
+
 abbrev pub MovesNames : Type 0
 MovesNames =
-    ForMerges (λ m k. KeepsNames m k → (at : RowAt) → IsTrue (keeps_type_row k (before m) at) → IsTrue (k.shown (type_number (before m) at))
-    → name_at (after m) ((places_of m).typ at) ≡ name_at (before m) at)
+    ForMerges (λ m k. KeepsNames m k → (at : RowAt) → IsTrue (keeps_type_row k (before m) at) → IsTrue (k.shown (type_number (before m) at)) → NamesMove m at)
 
 -- a method's signature
 abbrev pub MovesSignatures : Type 0

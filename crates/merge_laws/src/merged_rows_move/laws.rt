@@ -30,7 +30,8 @@ pub fn impls_move()
     ensures { MovesImpls }
 {}
 
-/// A law: a kept type whose text can be printed has the same text in the output. It does nothing.
+/// A law: a kept type whose text can be printed has the same text in the output, with the same name, namespace and encloser. It does
+/// nothing.
 pub fn names_move()
     ensures { MovesNames }
 {}

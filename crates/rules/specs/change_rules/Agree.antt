@@ -38,6 +38,8 @@ is_asked name.MemberInfo = true
 is_asked name.MethodInfo = true
 is_asked name.FieldInfo = true
 is_asked name.PropertyInfo = true
+is_asked name.ValueType = true
+is_asked name.Enum = true
 is_asked _ = false
 
 -- a type of the core library of which there are objects
@@ -62,6 +64,9 @@ pub record Agree (k : Change) (after before : Queries) : Type 0 where
   pub answers : (e owner : TypeExpr) (m : ℕ) → IsTrue (keeps_made k.keep e) → IsTrue (keeps_expr k.keep owner) → IsTrue (k.keep.method m) → IsTrue (is_of_owner (before.method m) owner)
       → after.answers (move_expr k.rho e) (move_expr k.rho owner) (k.rho.method m) ≡ option_map (move_use k.rho) (before.answers e owner m)
   pub text : (e : TypeExpr) → IsTrue (shows_expr k.keep e) → after.text (move_expr k.rho e) ≡ before.text e
+  pub label : (e : TypeExpr) → IsTrue (shows_expr k.keep e) → after.label (move_expr k.rho e) ≡ before.label e
+  pub space : (e : TypeExpr) → IsTrue (shows_expr k.keep e) → after.space (move_expr k.rho e) ≡ before.space e
+  pub encloser : (t : ℕ) → IsTrue (k.keep.shown t) → after.encloser (k.rho.typ t) ≡ option_map k.rho.typ (before.encloser t)
   pub kin : (e : TypeExpr) → IsTrue (keeps_expr k.keep e) → after.kin (move_expr k.rho e) ≡ before.kin e
   pub to_string : after.to_string ≡ k.rho.method before.to_string
   pub equals : after.equals ≡ k.rho.method before.equals
@@ -76,6 +81,8 @@ pub record Agree (k : Change) (after before : Queries) : Type 0 where
   pub keeps_starts : (t m : ℕ) → IsTrue (k.keep.begun t) → before.starts t ≡ Some m → IsTrue (k.keep.method m)
   pub keeps_answers : (e owner : TypeExpr) (m : ℕ) (u : MethodUse) → IsTrue (keeps_made k.keep e) → IsTrue (keeps_expr k.keep owner)
       → IsTrue (k.keep.method m) → IsTrue (is_of_owner (before.method m) owner) → before.answers e owner m ≡ Some u → IsTrue (keeps_use k.keep u)
+  -- a type around one that is shown
+  pub keeps_encloser : (t u : ℕ) → IsTrue (k.keep.shown t) → before.encloser t ≡ Some u → IsTrue (k.keep.typ u && k.keep.shown u)
   pub keeps_to_string : IsTrue (k.keep.method before.to_string)
   pub keeps_equals : IsTrue (k.keep.method before.equals)
   -- there can be objects of each value type that is kept

@@ -128,7 +128,7 @@ keeps_path k p = keeps_root k p.root && keeps_expr k p.of
 abbrev pub keeps_value_layer : Keep → Value-F Bool → Bool
 keeps_value_layer k (Value-F.Pointer p) = keeps_path k p
 keeps_value_layer k (Value-F.Struct of cells) = keeps_expr k of && list_all itself cells
-keeps_value_layer k (Value-F.Handle e) = keeps_expr k e
+keeps_value_layer k (Value-F.Handle e) = shows_expr k e
 keeps_value_layer k (Value-F.FieldHandle f) = k.field f.0
 keeps_value_layer k _ = true
 

@@ -1,6 +1,6 @@
 -- What a marked method needs: its signature, its body, the types that it makes, what it overrides, the initializer of its type;
 -- and what a virtual call of it may run (II.10.3, II.12.2, II.15).
-use Rattle.std.specs.Prelude.{ℕ, suc, List, [], ◌++◌, map, Option, slice_get, ◌&&◌, Bool, not, if◌then◌else◌}
+use Rattle.std.specs.Prelude.{ℕ, suc, List, [], ◌∷◌, ◌++◌, map, Option, slice_get, ◌&&◌, Bool, not, if◌then◌else◌}
 use Rattle.std.specs.List.{list_any, flat_map}
 use Rattle.std.specs.Option.{option_and_then, option_map}
 use Rattle.il_base.specs.declared.body.Form.{Form}
@@ -181,9 +181,18 @@ is_abstract_method m = has_flag m.flags flag.ABSTRACT
 abbrev pub answers_abstract : List AsmRec → RowAt → RowAt → Bool
 answers_abstract recs t b = list_any is_concrete (listed (type_row_at recs t)) && list_any is_abstract_method (listed (method_row_at recs b))
 
--- A marked type that is neither abstract nor an interface has a method for each marked abstract slot (II.10.1.4).
+-- whether the type that has a method is a type or one of its bases
+abbrev pub is_below_owner : List AsmRec → RowAt → RowAt → Bool
+is_below_owner recs t b = list_any (λ owner. is_base_of recs owner t) (listed (type_of_method recs b))
+
+-- The slot that an abstract method asks a type to answer: its own, or, below the type that has it, the one that it overrides.
+unfoldable pub asked_slot : List AsmRec → RowAt → RowAt → List RowAt
+asked_slot recs t b = if is_own_slot recs b then b ∷ [] else if is_below_owner recs t b then listed (slot_of recs b) else []
+
+-- A marked type that is neither abstract nor an interface has a method for each slot that a marked abstract method asks it to answer
+-- (II.10.1.4).
 unfoldable pub class_fills : List AsmRec → RowAt → RowAt → List Fact
-class_fills recs t b = if answers_abstract recs t b then class_runs recs t b else []
+class_fills recs t b = if answers_abstract recs t b then flat_map (class_runs recs t) (asked_slot recs t b) else []
 
 unfoldable pub interface_fills : List AsmRec → RowAt → RowAt → RowAt → List Fact
 interface_fills recs t b r = if answers_abstract recs t b then map (marks_method recs) (interface_answer recs t b r) else []

@@ -24,6 +24,7 @@ use Rattle.rules.specs.step_rules.CoreObjects.{halt, idle_form, type_name_form, 
 use Rattle.rules.specs.step_rules.CoreTexts.{string_length_form, string_unit_form, string_index_form, string_concat_form, string_from_form, string_part_form, string_itself_form, string_same_form, string_other_form, string_is_form, string_is_empty_form, string_compare_form, int_parse_form}
 use Rattle.rules.specs.step_rules.CoreConsole.{print_form, line_end_form, read_unit_form, read_line_form}
 use Rattle.rules.specs.step_rules.CoreArrays.{array_length_form, fill_array_form}
+use Rattle.rules.specs.step_rules.CoreTypes.{type_from_handle_form, object_type_form, type_encloser_form, type_text_form, type_full_name_form, type_namespace_form, type_name_alone_form, type_other_form, type_fits_form, type_has_form, type_is_value_form, type_is_interface_form, type_is_array_form}
 
 -- ---- members that call nothing
 
@@ -62,6 +63,21 @@ simple (core.ExceptionParameter n) = exception_parameter_form n
 simple core.GetMessage = get_message_form
 simple core.GetInner = get_inner_form
 simple core.FillArray = fill_array_form
+simple core.TypeFromHandle = type_from_handle_form
+simple core.TypeOf = object_type_form
+simple core.TypeText = type_text_form
+simple core.TypeFullName = type_full_name_form
+simple core.TypeNamespace = type_namespace_form
+simple core.MemberName = type_name_alone_form
+simple core.MemberOwner = type_encloser_form
+simple core.TypeSame = same_form
+simple core.TypeOther = type_other_form
+simple core.TypeIs = same_form
+simple core.TypeFits = type_fits_form
+simple core.TypeHas = type_has_form
+simple core.TypeIsValue = type_is_value_form
+simple core.TypeIsInterface = type_is_interface_form
+simple core.TypeIsArray = type_is_array_form
 simple core.AreEqual = λ q args s give. stuck s
 
 -- ---- members that call

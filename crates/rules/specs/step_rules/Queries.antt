@@ -32,6 +32,11 @@ pub record Queries : Type 0 where
   pub answers : TypeExpr → TypeExpr → ℕ → Option MethodUse
   -- a type's text, in UTF-8
   pub text : TypeExpr → List ℕ
+  -- a type's own name and its namespace, as reflection gives them, in UTF-8
+  pub label : TypeExpr → List ℕ
+  pub space : TypeExpr → List ℕ
+  -- the type definition that another is nested in (II.22.32)
+  pub encloser : ℕ → Option ℕ
   -- the nearest type of the core library among a type and its bases
   pub kin : TypeExpr → Option CoreName
   -- the slots of Object that the core library calls: ToString() and Equals(object)

@@ -120,6 +120,9 @@ world code = record {
   method = λ m. slice_get (methods code) m;
   field = λ f. Some (record { flags = 0; typ = Good int32; first = blank });
   head = λ t. Some (record { flags = 0; params = 0 });
+  label = λ e. [];
+  space = λ e. [];
+  encloser = λ t. None;
   shape = λ e. shape_in (out-TypeExpr e);
   cells = λ e. cells_in (number_of (out-TypeExpr e));
   starts = λ t. None;

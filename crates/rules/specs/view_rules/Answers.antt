@@ -18,6 +18,7 @@ use Rattle.rules.specs.type_rules.Subtypes.{is_subtype}
 use Rattle.rules.specs.type_rules.Slots.{method_home, type_of_method}
 use Rattle.rules.specs.type_rules.Dispatch.{dispatch, method_id}
 use Rattle.rules.specs.type_rules.Texts.{text}
+use Rattle.rules.specs.type_rules.Labels.{label, space, encloser_at}
 use Rattle.rules.specs.type_rules.Initializers.{initializer}
 use Rattle.rules.specs.step_rules.Queries.{Queries}
 use Rattle.rules.specs.view_rules.Members.{core_call, core_type_row, object_method}
@@ -37,6 +38,12 @@ core_method_id recs name = rows_before methods_in recs (length recs - 1) + objec
 
 abbrev pub starts_query : List AsmRec → ℕ → Option ℕ
 starts_query recs t = option_map (λ at. (method_id recs at).0) (option_and_then (initializer recs) (type_home recs (record { 0 = t })))
+
+-- ---- enclosers
+
+unfoldable pub encloser_query : List AsmRec → ℕ → Option ℕ
+encloser_query recs t =
+    option_map (λ (at : RowAt). (type_id recs at.asm at.row).0) (option_and_then (encloser_at recs) (type_home recs (record { 0 = t })))
 
 -- ---- virtual calls
 
@@ -84,6 +91,9 @@ queries_of recs = record {
   below = is_subtype recs;
   answers = answers_query recs;
   text = text recs;
+  label = label recs;
+  space = space recs;
+  encloser = encloser_query recs;
   kin = λ e. nearest_core recs (with_bases recs e);
   to_string = core_method_id recs core.ToString;
   equals = core_method_id recs core.Equals;

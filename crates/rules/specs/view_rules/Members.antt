@@ -60,6 +60,7 @@ object_call core.Equals (One s) = Some call.IsObject
 object_call core.Equals ps = Some call.AreEqual
 object_call core.GetHashCode ps = Some call.Halts
 object_call core.Finalize ps = Some call.Idle
+object_call core.GetType ps = Some call.TypeOf
 object_call core.ReferenceEquals ps = Some call.SameReference
 object_call _ ps = None
 
@@ -110,6 +111,27 @@ exception_call owner core.GetInnerException ps = Some call.GetInner
 exception_call owner core.ToString ps = Some call.Halts
 exception_call owner _ ps = None
 
+-- a search for a type by its name, or for members, ends the run
+abbrev pub type_call : CoreName → Option CoreCall
+type_call core.GetTypeFromHandle = Some call.TypeFromHandle
+type_call core.GetNamespace = Some call.TypeNamespace
+type_call core.GetFullName = Some call.TypeFullName
+type_call core.ToString = Some call.TypeText
+type_call core.OpEquality = Some call.TypeSame
+type_call core.OpInequality = Some call.TypeOther
+type_call core.Equals = Some call.TypeIs
+type_call core.IsAssignableFrom = Some call.TypeFits
+type_call core.IsInstanceOfType = Some call.TypeHas
+type_call core.GetIsValueType = Some call.TypeIsValue
+type_call core.GetIsInterface = Some call.TypeIsInterface
+type_call core.GetIsArray = Some call.TypeIsArray
+type_call _ = Some call.Halts
+
+abbrev pub member_info_call : CoreName → Option CoreCall
+member_info_call core.GetName = Some call.MemberName
+member_info_call core.GetDeclaringType = Some call.MemberOwner
+member_info_call _ = None
+
 abbrev pub call_by : CoreName → CoreName → CoreParams → Option CoreCall
 call_by core.Object name ps = object_call name ps
 call_by core.ValueType name ps = Some call.Halts
@@ -127,6 +149,13 @@ call_by core.UInt64 name ps = primitive_call element.U8 name ps
 call_by core.String name ps = string_call name ps
 call_by core.Array name ps = Some call.ArrayLength
 call_by core.Console name ps = console_call name ps
+call_by core.Type name ps = type_call name
+call_by core.MemberInfo name ps = member_info_call name
+call_by core.MethodBase name ps = Some call.Halts
+call_by core.MethodInfo name ps = Some call.Halts
+call_by core.FieldInfo name ps = Some call.Halts
+call_by core.PropertyInfo name ps = Some call.Halts
+call_by core.Activator name ps = Some call.Halts
 call_by core.RuntimeHelpers name ps = Some call.FillArray
 call_by core.Attribute name ps = Some call.Idle
 call_by core.IDisposable name ps = None

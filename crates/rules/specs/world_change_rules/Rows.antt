@@ -24,6 +24,7 @@ use Rattle.rules.specs.type_rules.Rows.{type_row_at, each_row, methods_of_type, 
 use Rattle.rules.specs.type_rules.Slots.{is_static, is_virtual, is_new_slot, is_public, method_row_at, type_of_method, type_of_row}
 use Rattle.rules.specs.type_rules.Dispatch.{good_use}
 use Rattle.rules.specs.type_rules.Texts.{name_at}
+use Rattle.rules.specs.type_rules.Labels.{label_at, space_at, encloser_at}
 use Rattle.rules.specs.view_rules.Methods as view
 use Rattle.rules.specs.view_rules.Layouts.{is_core_type, fits_params}
 use Rattle.rules.specs.view_rules.Members.{core_call}
@@ -95,8 +96,11 @@ pub record TypeMoves (k : Change) (kept : RowAt → Bool) (p : Places) (after be
   pub interface : is_interface_at after (p.typ at) ≡ is_interface_at before at
   pub head : view.head_at after (p.typ at) ≡ view.head_at before at
   pub explicit : view.has_explicit_layout after (Some (p.typ at)) ≡ view.has_explicit_layout before (Some at)
-  -- a type whose text can be printed keeps its name
+  -- a type whose text can be printed keeps its names, and its encloser
   pub name : IsTrue (k.keep.shown (type_number before at)) → name_at after (p.typ at) ≡ name_at before at
+  pub label : IsTrue (k.keep.shown (type_number before at)) → label_at after (p.typ at) ≡ label_at before at
+  pub space : IsTrue (k.keep.shown (type_number before at)) → space_at after (p.typ at) ≡ space_at before at
+  pub encloser : IsTrue (k.keep.shown (type_number before at)) → encloser_at after (p.typ at) ≡ option_map p.typ (encloser_at before at)
   pub base : base_at after (p.typ at) ≡ option_map (move_expr k.rho) (base_at before at)
   pub interfaces : interfaces_at after (p.typ at) ≡ map (move_expr k.rho) (kept_interfaces_at before kept at)
   pub methods : methods_of_type after (p.typ at) ≡ map p.method (filter (keeps_method_row k.keep before) (methods_of_type before at))

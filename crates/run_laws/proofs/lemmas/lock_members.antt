@@ -2,4 +2,5 @@ pub mod Giving
 pub mod Objects
 pub mod Texts
 pub mod Console
+pub mod Types
 pub mod Members

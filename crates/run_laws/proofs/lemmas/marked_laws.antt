@@ -6,6 +6,7 @@ pub mod Added
 pub mod Parts
 pub mod Rows
 pub mod Members
+pub mod Enclosers
 pub mod Interfaces
 pub mod Uses
 pub mod Impls

@@ -5,6 +5,7 @@ pub mod Bases
 pub mod Lookups
 pub mod Wholes
 pub mod Texts
+pub mod Enclosers
 pub mod Standings
 pub mod Shapes
 pub mod Cells

@@ -1,5 +1,5 @@
 -- Where the marked set is kept, all that a step of a kept method can reach is kept, in a world of files that link.
-use Rattle.std.specs.Prelude.{◌≡◌, ℕ, List, Option, None, Bool, not, ◌||◌, IsTrue, ◌↔◌}
+use Rattle.std.specs.Prelude.{◌≡◌, ℕ, List, Option, None, Bool, IsTrue}
 use Rattle.il_base.specs.declared.world_model.record.AsmRec.{AsmRec}
 use Rattle.rules.specs.declared.link_rules.row_at.RowAt.{RowAt}
 use Rattle.rules.specs.link_rules.Linked.{assemblies, link_fault_of}
@@ -17,7 +17,7 @@ use Rattle.rules.specs.world_change_rules.Rows.{RowsMove}
 use Rattle.run_laws.specs.dispatch_laws.Kept.{Apart}
 use Rattle.run_laws.specs.lock_steps.Laws.{move_outcome}
 use Rattle.run_laws.specs.agree_laws.Closed.{Closed}
-use Rattle.run_laws.specs.marked_laws.Flags.{HasMarks, keep_of, kept_of, RunsEnd}
+use Rattle.run_laws.specs.marked_laws.Flags.{HasMarks, keep_of, kept_of, RunsEnd, NestsWithin}
 use Rattle.run_laws.specs.marked_code_laws.Laws.{MethodsApart, FieldsApart, AreRead}
 use Rattle.run_laws.specs.marked_call_laws.Laws.{HasFewTypes}
 
@@ -25,6 +25,7 @@ use Rattle.run_laws.specs.marked_call_laws.Laws.{HasFewTypes}
 pub record AreSound (inputs : List AsmRec) (has : Fact → Bool) : Type 0 where
   pub few : HasFewTypes inputs
   pub ends : RunsEnd (assemblies inputs)
+  pub nests : NestsWithin (assemblies inputs)
   pub methods : MethodsApart (assemblies inputs)
   pub fields : FieldsApart (assemblies inputs)
   pub reads : AreRead (assemblies inputs) has

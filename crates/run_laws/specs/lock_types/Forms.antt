@@ -1,4 +1,4 @@
--- The law of a form whose instructions say of which types there are objects: it is asked of those alone.
+-- The law of a form whose instructions show types: it is asked of those alone.
 use Rattle.std.specs.Prelude.{◌≡◌}
 use Rattle.il_base.specs.declared.body as body
 use Rattle.il_base.specs.declared.cil_values.resolved.Instruction.{Instruction}

@@ -9,6 +9,6 @@ pub record TypesLock : Type 0 where
   pub cast : FormLocks cast
   pub box : LocksOf form.Box box
   pub unbox : FormLocks unbox
-  pub load_token : FormLocks load_token
+  pub load_token : LocksOf form.LdToken load_token
   pub new_array_form : LocksOf form.NewArr new_array_form
   pub element_form : FormLocks element_form

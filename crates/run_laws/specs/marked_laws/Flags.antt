@@ -19,6 +19,7 @@ use Rattle.rules.specs.link_rules.Members.{type_home}
 use Rattle.rules.specs.link_rules.Cycles.{listed, same_row, is_static_field}
 use Rattle.rules.specs.type_rules.Slots.{type_of_method}
 use Rattle.rules.specs.type_rules.Rows.{rec_at, field_row_at, owner_of_field}
+use Rattle.base_laws.specs.walk_laws.Walks.{NestsTypes}
 use Rattle.descriptor_file.specs.declared.root.Root.{Root}
 use Rattle.rules.specs.mark_rules.Facts.{Fact}
 use Rattle.rules.specs.mark_rules.Facts.Fact.{marked, instantiated, shown}
@@ -120,3 +121,7 @@ kept_of recs has at = has (marked (impl_item recs at))
 -- runs of methods end with their table, as those of files do (II.22.37)
 abbrev pub RunsEnd : List AsmRec → Type 0
 RunsEnd recs = (a k : ℕ) (rec : AsmRec) (t : TypeDefRow) → slice_get recs a ≡ Some rec → slice_get rec.type_def k ≡ Some t → t.method_list_end ≤ suc (length rec.method_def)
+
+-- rows of NestedClass name types that are there, as those of files do (II.22.32)
+abbrev pub NestsWithin : List AsmRec → Type 0
+NestsWithin recs = (a : ℕ) (rec : AsmRec) → slice_get recs a ≡ Some rec → NestsTypes rec

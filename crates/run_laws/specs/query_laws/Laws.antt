@@ -1,5 +1,5 @@
 -- What two worlds answer of a kept type, where the one has the kept rows of the other.
-use Rattle.std.specs.Prelude.{◌≡◌, ℕ, List, [], ◌∷◌, map, Bool, Option, Some, None, IsTrue, if◌then◌else◌}
+use Rattle.std.specs.Prelude.{◌≡◌, ℕ, List, [], ◌∷◌, map, Bool, Option, Some, None, IsTrue, ◌&&◌, if◌then◌else◌}
 use Rattle.std.specs.List.{list_all, filter}
 use Rattle.std.specs.Option.{option_map}
 use Rattle.il_base.specs.declared.world_model.expr.TypeExpr.{TypeExpr}
@@ -8,11 +8,12 @@ use Rattle.rules.specs.declared.link_rules.row_at.RowAt.{RowAt}
 use Rattle.rules.specs.link_rules.Members.{bases_from, with_bases}
 use Rattle.rules.specs.link_rules.Cycles.{home_of}
 use Rattle.rules.specs.type_rules.Texts.{text}
+use Rattle.rules.specs.type_rules.Labels.{label, space}
 use Rattle.rules.specs.type_rules.Slots.{is_virtual, match_in, nearest, slot_of}
 use Rattle.rules.specs.declared.link_rules.member_type.MethodType.{MethodType}
 use Rattle.base_laws.specs.walk_laws.Walks.{BasesWhole, SlotsWhole}
 use Rattle.rules.specs.view_rules.Methods.{head_query, method_query, field_query}
-use Rattle.rules.specs.view_rules.Answers.{nearest_core, starts_query}
+use Rattle.rules.specs.view_rules.Answers.{nearest_core, starts_query, encloser_query}
 use Rattle.rules.specs.view_rules.Layouts.{shape_query, cells_query}
 use Rattle.rules.specs.change_rules.Answers.{move_method, move_field, move_layout, move_shape}
 use Rattle.rules.specs.change_rules.States.{mask}
@@ -49,6 +50,18 @@ FieldsMove = ForKept (λ k p after before. (f : ℕ) → IsTrue (k.keep.field f)
 
 abbrev pub TextsMove : Type 0
 TextsMove = ForKept (λ k p after before. (e : TypeExpr) → IsTrue (shows_expr k.keep e) → text after (move_expr k.rho e) ≡ text before e)
+
+abbrev pub LabelsMove : Type 0
+LabelsMove = ForKept (λ k p after before. (e : TypeExpr) → IsTrue (shows_expr k.keep e) → label after (move_expr k.rho e) ≡ label before e)
+
+abbrev pub SpacesMove : Type 0
+SpacesMove = ForKept (λ k p after before. (e : TypeExpr) → IsTrue (shows_expr k.keep e) → space after (move_expr k.rho e) ≡ space before e)
+
+abbrev pub EnclosersMove : Type 0
+EnclosersMove = ForKept (λ k p after before. (t : ℕ) → IsTrue (k.keep.shown t) → encloser_query after (k.rho.typ t) ≡ option_map k.rho.typ (encloser_query before t))
+
+abbrev pub EnclosersKept : Type 0
+EnclosersKept = ForKept (λ k p after before. (t u : ℕ) → IsTrue (k.keep.shown t) → encloser_query before t ≡ Some u → IsTrue (k.keep.typ u && k.keep.shown u))
 
 abbrev pub ShapesMove : Type 0
 ShapesMove = ForKept (λ k p after before. (e : TypeExpr) → IsTrue (keeps_expr k.keep e) → shape_query after (move_expr k.rho e) ≡ move_shape k.rho (shape_query before e))

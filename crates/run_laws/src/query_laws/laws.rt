@@ -1,4 +1,4 @@
-ghost use Rattle.run_laws.specs.query_laws.Laws.{HomesMove, BasesMove, KinsMove, HeadsMove, MethodsMove, FieldsMove, TextsMove, ShapesMove, CellsMove, ShapesKept, FirstsMove, StartsMove, StartsKept, MatchesMove, SlotsMove};
+ghost use Rattle.run_laws.specs.query_laws.Laws.{HomesMove, BasesMove, KinsMove, HeadsMove, MethodsMove, FieldsMove, TextsMove, LabelsMove, SpacesMove, EnclosersMove, EnclosersKept, ShapesMove, CellsMove, ShapesKept, FirstsMove, StartsMove, StartsKept, MatchesMove, SlotsMove};
 
 /// A law: the definition of a kept type, and its base with arguments put in, move with it. It does nothing.
 pub fn bases_move()
@@ -18,9 +18,17 @@ pub fn definitions_move()
     ensures fields { FieldsMove }
 {}
 
-/// A law: the text of a shown type stays. It does nothing.
+/// A law: the text, the name and the namespace of a shown type stay. It does nothing.
 pub fn texts_move()
-    ensures { TextsMove }
+    ensures texts { TextsMove }
+    ensures labels { LabelsMove }
+    ensures spaces { SpacesMove }
+{}
+
+/// A law: the type around a shown type moves with it, and is kept and shown. It does nothing.
+pub fn enclosers_move()
+    ensures moves { EnclosersMove }
+    ensures keeps { EnclosersKept }
 {}
 
 /// A law: the shape of a kept type, with the cells of a struct, moves with it, and what it names is kept. It does nothing.

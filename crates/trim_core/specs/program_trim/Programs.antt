@@ -1,11 +1,13 @@
 -- A program to be trimmed, with its plan and its flaws.
-use Rattle.std.specs.Prelude.{◌≡◌, Bool, List, Option, Some, None, Result}
+use Rattle.std.specs.Prelude.{◌≡◌, ℕ, Bool, List, Option, Some, None, Result}
 use Rattle.il_base.specs.declared.ids.TypeId.{TypeId}
 use Rattle.il_base.specs.declared.ids.Place.{Place}
 use Rattle.il_base.specs.declared.world_model.known.BadKind.{BadKind}
 use Rattle.il_base.specs.declared.world_model.known.BadKind.TheVariants.{Unresolved, Outside, Over}
 use Rattle.il_base.specs.declared.world_model.record.AsmRec.{AsmRec}
 use Rattle.rules.specs.link_rules.Linked.{IsWorld}
+use Rattle.rules.specs.mark_rules.Marking.{Marks}
+use Rattle.rules.specs.mark_rules.NotYet.{IsFirstNotYet}
 use Rattle.bad_items.specs.declared.mark_flaws.flaw.Flaw.{Flaw}
 use Rattle.marking.specs.declared.marked.Marked.{Marked}
 use Rattle.marking.specs.Holding.{IsMarked}
@@ -21,7 +23,7 @@ use Rattle.trim_core.specs.declared.program_trim.answers.ProgramTrim.{ProgramTri
 use Rattle.trim_core.specs.declared.program_trim.answers.TrimFault.{TrimFault}
 use Rattle.trim_core.specs.declared.program_trim.answers.TrimFault.TheVariants as refusal
 use Rattle.trim_core.specs.declared.program_trim.program.Program.{Program}
-use Rattle.trim_core.specs.program_trim.Trim.{IsKeptSet, IsCollision, HasNoFlaw, LeftIsSpelled, TrimsWorld}
+use Rattle.trim_core.specs.program_trim.Trim.{IsKeptSet, IsCollision, HasNoFlaw, IsFollowed, LeftIsSpelled, TrimsWorld}
 
 abbrev pub recs_of : Program → List AsmRec
 recs_of p = p.world.now.recs
@@ -31,6 +33,12 @@ IsLinked p = IsWorld p.world.now
 
 abbrev pub IsGood : Program → Type 0
 IsGood p = HasNoFlaw (recs_of p) p.entry p.roots.now
+
+abbrev pub HasFirstNotYet : Program → Option ℕ → Type 0
+HasFirstNotYet p file = IsFirstNotYet (recs_of p) (Marks (recs_of p) p.entry p.roots.now) file
+
+abbrev pub FollowsAll : Program → Type 0
+FollowsAll p = IsFollowed (recs_of p) p.entry p.roots.now
 
 abbrev pub IsSpelled : Program → Type 0
 IsSpelled p = LeftIsSpelled (recs_of p) p.entry p.roots.now p.internal

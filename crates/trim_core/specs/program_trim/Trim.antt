@@ -13,6 +13,7 @@ use Rattle.rules.specs.mark_rules.Facts.{Fact}
 use Rattle.rules.specs.mark_rules.Facts.Fact.{marked, shown}
 use Rattle.rules.specs.mark_rules.Marking.{Marks}
 use Rattle.rules.specs.mark_rules.BadItems.{Flaw, IsFirstFlaw}
+use Rattle.rules.specs.mark_rules.NotYet.{IsFirstNotYet}
 use Rattle.rules.specs.mark_rules.KeepList.{keep_list}
 use Rattle.mark_numbers.specs.Numbers.{is_there}
 use Rattle.rules.specs.merge_rules.Names.{Collision, collision}
@@ -58,6 +59,12 @@ HasNoFlaw recs entry roots = IsFirstFlaw recs entry (Marks recs entry roots) Non
 abbrev pub IsFlawedAt : List AsmRec → Option RowAt → List Root → Place → BadKind → Type 0
 IsFlawedAt recs entry roots place kind = IsFirstFlaw recs entry (Marks recs entry roots) (Some (flaw_at place kind))
 
+-- ---- reflection
+
+-- marking follows what each needed method names
+abbrev pub IsFollowed : List AsmRec → Option RowAt → List Root → Type 0
+IsFollowed recs entry roots = IsFirstNotYet recs (Marks recs entry roots) None
+
 -- ---- what is left
 
 -- Where exactly the needed items are kept and none has a flaw, each signature and body of the record that is left has a spelling,
@@ -72,12 +79,14 @@ LeftIsSpelled recs entry roots internal =
 abbrev pub AreFacts : List AsmRec → Option RowAt → List Root → (Fact → Bool) → Type 0
 AreFacts recs entry roots holds = (f : Fact) → IsTrue (is_there recs f) → IsTrue (holds f) ↔ Marks recs entry roots f
 
--- No needed item has a flaw, and no two needed types want one name. The bytes are the file that the record of exactly the needed
+-- No needed item has a flaw, no needed method names a member of reflection that marking doesn't follow yet, and no two needed types
+-- want one name. The bytes are the file that the record of exactly the needed
 -- items is laid out in, where each signature and body has a spelling; it passes no limit. The keep list is that of these items.
 pub record TrimmedWorld (recs : List AsmRec) (entry : Option RowAt) (roots : List Root) (internal : Bool) (t : ProgramTrim) : Type 0 where
   pub kept : Kept
   pub exact : IsKeptSet recs entry roots kept
   pub good : HasNoFlaw recs entry roots
+  pub followed : IsFollowed recs entry roots
   pub holds : Fact → Bool
   pub facts : AreFacts recs entry roots holds
   pub unique : IsCollision recs entry roots kept None
@@ -88,11 +97,17 @@ pub record TrimmedWorld (recs : List AsmRec) (entry : Option RowAt) (roots : Lis
   pub within : limit_of left ≡ None
   pub list : t.kept ≡ keep_list recs kept
 
+-- no needed item has a flaw, and the first operand that marking doesn't follow yet is in this file
+pub record IsUnfollowed (recs : List AsmRec) (entry : Option RowAt) (roots : List Root) (file : ℕ) : Type 0 where
+  pub good : HasNoFlaw recs entry roots
+  pub first : IsFirstNotYet recs (Marks recs entry roots) (Some file)
+
 -- these two types want one name
 pub record Collides (recs : List AsmRec) (entry : Option RowAt) (roots : List Root) (first second : TypeId) : Type 0 where
   pub kept : Kept
   pub exact : IsKeptSet recs entry roots kept
   pub good : HasNoFlaw recs entry roots
+  pub followed : IsFollowed recs entry roots
   pub both : Collision
   pub collides : IsCollision recs entry roots kept (Some both)
   pub first_is : first ≡ id_of recs both.first
@@ -103,6 +118,7 @@ pub record IsTooLong (recs : List AsmRec) (entry : Option RowAt) (roots : List R
   pub kept : Kept
   pub exact : IsKeptSet recs entry roots kept
   pub good : HasNoFlaw recs entry roots
+  pub followed : IsFollowed recs entry roots
   pub unique : IsCollision recs entry roots kept None
   pub left : AsmRec
   pub restricted : restricted internal recs kept ≡ Some left
@@ -117,6 +133,7 @@ pub record HasLongBody (recs : List AsmRec) (entry : Option RowAt) (roots : List
 abbrev pub RefusesWorld : List AsmRec → Option RowAt → List Root → Bool → TrimFault → Type 0
 RefusesWorld recs entry roots internal (refusal.Outside place what) = IsFlawedAt recs entry roots place (Outside what)
 RefusesWorld recs entry roots internal (refusal.Unresolved place) = IsFlawedAt recs entry roots place Unresolved
+RefusesWorld recs entry roots internal (refusal.NotYet file) = IsUnfollowed recs entry roots file
 RefusesWorld recs entry roots internal (refusal.Collision first second) = Collides recs entry roots first second
 RefusesWorld recs entry roots internal (refusal.Limit which found) =
     HasLongBody recs entry roots which found ⊎ IsTooLong recs entry roots internal which found

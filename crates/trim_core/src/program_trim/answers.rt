@@ -21,6 +21,8 @@ pub enum TrimFault {
     Outside { place: Place, what: u8 },
     /// A needed item has a part that names nothing.
     Unresolved { place: Place },
+    /// A method that is needed names a member of reflection that marking doesn't follow yet. Files are counted from 0.
+    NotYet { file: u32 },
     /// Two types that are needed, of different assemblies, have one full name, and the second can't be renamed.
     Collision { first: TypeId, second: TypeId },
     /// More than a limit allows: a limit's number in `il_base::limit`, and what was found.

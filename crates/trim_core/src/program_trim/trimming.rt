@@ -4,7 +4,7 @@ ghost use Rattle.std.specs.Prelude.{◌≡◌, None};
 ghost use Rattle.rules.specs.link_rules.Linked.{IsWorld};
 ghost use Rattle.base_laws.specs.flaw_laws.There.{RowsThere};
 ghost use Rattle.merge_plan.specs.Kept.{kept_by};
-ghost use Rattle.trim_core.specs.program_trim.Programs.{IsLinked, IsGood, IsSpelled, HasMarks, Keeps, Collides, Names, Leaves, Trims, place_of, refusal_by};
+ghost use Rattle.trim_core.specs.program_trim.Programs.{IsLinked, IsGood, FollowsAll, HasFirstNotYet, IsSpelled, HasMarks, Keeps, Collides, Names, Leaves, Trims, place_of, refusal_by};
 ghost use Rattle.trim_core.specs.program_trim.Trim.{LeftIsSpelled, TrimsWorld};
 
 use crate::program_trim::answers::{ProgramTrim, TrimFault};
@@ -51,6 +51,7 @@ fn write_left(
 ) -> Result<ProgramTrim, TrimFault>
     requires linked { IsLinked program.now }
     requires good { IsGood program.now }
+    requires followed { FollowsAll program.now }
     requires spelled { IsSpelled program.now }
     requires marked { HasMarks program.now marked.now }
     requires kept { Keeps program.now (kept_by kept.now) }
@@ -77,6 +78,7 @@ fn trim_kept(
 ) -> Result<ProgramTrim, TrimFault>
     requires linked { IsLinked program.now }
     requires good { IsGood program.now }
+    requires followed { FollowsAll program.now }
     requires spelled { IsSpelled program.now }
     requires marked { HasMarks program.now marked.now }
     requires kept { Keeps program.now (kept_by kept.now) }
@@ -90,7 +92,7 @@ fn trim_kept(
     }
 }
 
-/// The trim of a program whose needed items have no flaw, by its marked set.
+/// The trim of a program whose needed items have no flaw and whose operands marking follows, by its marked set.
 fn trim_marked(
     alloc: Global,
     program: &Program<'_>,
@@ -98,6 +100,7 @@ fn trim_marked(
 ) -> Result<ProgramTrim, TrimFault>
     requires linked { IsLinked program.now }
     requires good { IsGood program.now }
+    requires followed { FollowsAll program.now }
     requires spelled { IsSpelled program.now }
     requires marked { HasMarks program.now marked.now }
     ensures { Trims program.now result }
@@ -112,14 +115,35 @@ fn trim_marked(
     }
 }
 
+/// The trim of a program whose needed items have no flaw. `not_yet` is the file of the first operand that marking doesn't follow yet.
+fn trim_good(
+    alloc: Global,
+    program: &Program<'_>,
+    marked: &Marked,
+    not_yet: Option<u32>,
+) -> Result<ProgramTrim, TrimFault>
+    requires linked { IsLinked program.now }
+    requires good { IsGood program.now }
+    requires spelled { IsSpelled program.now }
+    requires marked { HasMarks program.now marked.now }
+    requires first { HasFirstNotYet program.now not_yet }
+    ensures { Trims program.now result }
+{
+    match not_yet {
+        Some(file) => Err(TrimFault::NotYet { file }),
+        None => trim_marked(alloc, program, marked),
+    }
+}
+
 /// Trims the world that a link gave. The items that `rules/specs/mark_rules/Marking` derives from the entry method, by its row, and
 /// from the elements of descriptors are kept, in one assembly with the name of the first input. With `internal` public types of the
 /// other inputs become internal.
 ///
 /// `Outside` and `Unresolved` come exactly where a needed item is outside of the profile or names nothing, with the first place by
-/// assembly, token and offset. `Collision` comes exactly where no needed item has such a flaw, and a type that is public or shown
-/// has the full name of an earlier type of another assembly. It names the first such type. `Limit` 5 and 7 come exactly where the
-/// trimmed file would have too many rows or bytes. `NoMemory` alone is free.
+/// assembly, token and offset. `NotYet` comes exactly where no needed item has such a flaw, and an operand of a needed method names a
+/// member of reflection that does more than look at types: the file is that of the first such operand. `Collision` comes exactly where
+/// neither is so, and a type that is public or shown has the full name of an earlier type of another assembly. It names the first such
+/// type. `Limit` 5 and 7 come exactly where the trimmed file would have too many rows or bytes. `NoMemory` alone is free.
 pub fn trim_world(
     alloc: Global,
     world: &World,
@@ -141,6 +165,6 @@ pub fn trim_world(
     };
     match needs.flaw {
         Some(flaw) => Err(refusal_of(flaw)),
-        None => trim_marked(alloc, &program, &needs.marked),
+        None => trim_good(alloc, &program, &needs.marked, needs.not_yet),
     }
 }

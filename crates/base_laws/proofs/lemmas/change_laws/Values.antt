@@ -12,7 +12,7 @@ use Rattle.rules.specs.step_rules.Stores.{parts_in, parts_of}
 use Rattle.rules.specs.change_rules.Change.{Rho, Keep}
 use Rattle.rules.specs.change_rules.Moves.{move_field_id, move_expr, move_path, move_value_layer, move_value, move_values}
 use Rattle.rules.specs.change_rules.Answers.{move_parts}
-use Rattle.rules.specs.change_rules.Keeps.{keeps_expr, keeps_path, itself, keeps_value_layer, keeps_value, keeps_values}
+use Rattle.rules.specs.change_rules.Keeps.{keeps_expr, shows_expr, keeps_path, itself, keeps_value_layer, keeps_value, keeps_values}
 
 -- ---- the move
 
@@ -87,7 +87,7 @@ all_itself k (v ∷ vs) = ap (λ (b : Bool). keeps_value k v && b) (all_itself k
 abbrev pub keeps_in : Keep → Value-F Value → Bool
 keeps_in k (Value-F.Pointer p) = keeps_path k p
 keeps_in k (Value-F.Struct of cells) = keeps_expr k of && keeps_values k cells
-keeps_in k (Value-F.Handle e) = keeps_expr k e
+keeps_in k (Value-F.Handle e) = shows_expr k e
 keeps_in k (Value-F.FieldHandle f) = k.field f.0
 keeps_in k _ = true
 
@@ -128,7 +128,7 @@ module _ (k : Keep) where
   pub keeps_struct : (of : TypeExpr) (cells : List Value) → keeps_value k (value.Struct of cells) ≡ (keeps_expr k of && keeps_values k cells)
   keeps_struct of cells = ap (keeps_value k) (sym (value.rolls-Struct of cells)) ∙ keeps_rolled (Value-F.Struct of cells)
 
-  pub keeps_handle : (e : TypeExpr) → keeps_value k (value.Handle e) ≡ keeps_expr k e
+  pub keeps_handle : (e : TypeExpr) → keeps_value k (value.Handle e) ≡ shows_expr k e
   keeps_handle e = ap (keeps_value k) (sym (value.rolls-Handle e)) ∙ keeps_rolled (Value-F.Handle e)
 
   pub keeps_field_handle : (f : FieldId) → keeps_value k (value.FieldHandle f) ≡ k.field f.0

@@ -98,7 +98,7 @@ index_is table token k e = by (table_of token == table) refl e
 
 module _ (recs : List AsmRec) where
   -- a method is in the run of its type
-  method_in_run : (b owner : RowAt) (m : MethodDefRow) → type_of_method recs b ≡ Some owner → method_row_at recs b ≡ Some m → Contains (methods_of_type recs owner) b
+  pub method_in_run : (b owner : RowAt) (m : MethodDefRow) → type_of_method recs b ≡ Some owner → method_row_at recs b ≡ Some m → Contains (methods_of_type recs owner) b
   unfolding methods_of_type
   method_in_run b owner m of row =
       let outer = and_then_some (λ (rec : AsmRec). option_map (at_row b.asm) (position_from (owns_method (suc b.row)) 0 rec.type_def)) (slice_get recs b.asm) owner of in
@@ -150,7 +150,7 @@ module _ (recs : List AsmRec) where
     pub own : Contains (own_rows recs of) r
     pub method : Contains (row_methods recs r) b
 
-  base_in : (t c : RowAt) → is_base_of recs c t ≡ true → Contains (lineage recs t) c
+  pub base_in : (t c : RowAt) → is_base_of recs c t ≡ true → Contains (lineage recs t) c
   base_in t c e =
       let r = from_any (λ e. list_any (same_row c) (listed (home_of recs e))) (with_bases recs (open_type recs t)) e in
       let s = from_any (same_row c) (listed (home_of recs r.0)) r.2 in

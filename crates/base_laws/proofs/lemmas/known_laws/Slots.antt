@@ -1,5 +1,5 @@
 -- A type answers a class slot only where one of its definitions has it.
-use Rattle.std.proofs.Common.{◌≡◌, ℕ, suc, List, [], ◌∷◌, map, Bool, true, false, ◌⊎◌, inl, inr, Option, Some, None, refl, ap, subst}
+use Rattle.std.proofs.Common.{◌≡◌, ℕ, suc, List, [], ◌∷◌, map, Bool, true, false, ◌⊎◌, inl, inr, Option, Some, None, refl, sym, ap, subst}
 use Rattle.std.specs.Prelude.{slice_get, ◌==◌, ◌&&◌, not, if◌then◌else◌}
 use Rattle.std.specs.List.{Contains, flat_map}
 use Rattle.std.specs.Option.{option_and_then}
@@ -15,14 +15,14 @@ use Rattle.il_base.specs.world_model.Tokens.{token_of}
 use Rattle.rules.specs.declared.link_rules.row_at.RowAt.{RowAt}
 use Rattle.rules.specs.link_rules.Types.{at_row, or_else}
 use Rattle.rules.specs.link_rules.Members.{with_bases, generic_method}
-use Rattle.rules.specs.link_rules.Cycles.{listed, home_of}
+use Rattle.rules.specs.link_rules.Cycles.{listed, same_row, home_of}
 use Rattle.rules.specs.type_rules.Slots.{open_type, slot_of, method_home, nearest, is_slot, has_slot}
 use Rattle.rules.specs.type_rules.Dispatch.{good_use, in_interface, class_dispatch, class_method_in, slot_in, slot_in_run, impl_in, impl_in_row, impl_of_row, impl_body, first_impl, declares_slot, place_that, find_row_in_run}
 use Rattle.rules.specs.type_rules.Rows.{methods_of_type, run_places, rec_at}
 use Rattle.rules.specs.mark_rules.Facts.{Fact}
 use Rattle.rules.specs.mark_rules.Places.{marks_method, method_item}
-use Rattle.rules.specs.mark_rules.Calls.{class_runs, class_fills, class_answer, is_own_slot, answers_abstract}
-use Rattle.base_laws.specs.known_laws.Known.{is_known_at, lineage, slot_list, use_slot, declared_slot, slot_of_impl, declared_slots, own_slots, slot_gives, with_slots}
+use Rattle.rules.specs.mark_rules.Calls.{class_runs, class_answer, is_own_slot}
+use Rattle.base_laws.specs.known_laws.Known.{is_known_at, lineage, slot_list, use_slot, declared_slot, slot_of_impl, declared_slots, with_slot, slot_and_own, own_slots, slot_gives, with_slots}
 use Rattle.base_laws.proofs.lemmas.known_laws.Lists.{first_in, later_in, from_flat, to_flat, from_listed, to_listed, to_option, from_if, to_if, from_any, from_map, to_map, and_then_some, map_some}
 use Rattle.base_laws.proofs.lemmas.known_laws.Rows.{same_is}
 
@@ -70,6 +70,29 @@ module _ (recs : List AsmRec) where
   slot_listed : (m b : RowAt) → has_slot recs b m ≡ true → Contains (slot_list recs m) b
   slot_listed m b e = to_listed (slot_of recs m) b (slot_by (slot_of recs m) b e)
 
+  first_with : (m b : RowAt) → Contains (with_slot m b) b
+  first_with m b = by_same (same_row m b)
+    where
+      by_same : (same : Bool) → Contains (if same then b ∷ [] else b ∷ m ∷ []) b
+      by_same true = first_in b []
+      by_same false = first_in b (m ∷ [])
+
+  slot_tried : (m b : RowAt) → has_slot recs b m ≡ true → Contains (slot_and_own recs m) b
+  slot_tried m b e = to_option (with_slot m) (slot_of recs m) b b (slot_by (slot_of recs m) b e) (first_with m b)
+
+  own_with : (m slot : RowAt) → Contains (with_slot m slot) m
+  own_with m slot = by_same (same_row m slot) refl
+    where
+      by_same : (same : Bool) → same_row m slot ≡ same → Contains (if same then slot ∷ [] else slot ∷ m ∷ []) m
+      by_same true e = subst (λ (x : RowAt). Contains (slot ∷ []) x) (sym (same_is m slot e)) (first_in slot [])
+      by_same false e = later_in slot (m ∷ []) m (first_in m [])
+
+  -- a virtual method is tried for its type
+  pub own_tried : (c m slot : RowAt) → Contains (methods_of_type recs c) m → slot_of recs m ≡ Some slot → Contains (own_slots recs c) m
+  own_tried c m slot inside e =
+      Contains-append_left (flat_map (slot_and_own recs) (methods_of_type recs c)) (declared_slots recs c) m
+      (to_flat (slot_and_own recs) (methods_of_type recs c) m (record { item = m; there = inside; inside = to_option (with_slot m) (slot_of recs m) slot m e (own_with m slot) }))
+
   -- ---- the methods of a type
 
   record Has (e : TypeExpr) (b : RowAt) : Type 0 where
@@ -96,8 +119,8 @@ module _ (recs : List AsmRec) where
       record {
         of = at;
         home = outer.1;
-        own = Contains-append_left (flat_map (slot_list recs) (methods_of_type recs at)) (declared_slots recs at) b
-            (to_flat (slot_list recs) (methods_of_type recs at) b (record { item = at_row at.asm found.0; there = method; inside = slot_listed (at_row at.asm found.0) b k.1 }));
+        own = Contains-append_left (flat_map (slot_and_own recs) (methods_of_type recs at)) (declared_slots recs at) b
+            (to_flat (slot_and_own recs) (methods_of_type recs at) b (record { item = at_row at.asm found.0; there = method; inside = slot_tried (at_row at.asm found.0) b k.1 }));
       }
 
   -- ---- the MethodImpl rows of a type
@@ -130,7 +153,7 @@ module _ (recs : List AsmRec) where
       record {
         of = at;
         home = outer.1;
-        own = Contains-append_right (flat_map (slot_list recs) (methods_of_type recs at)) (declared_slots recs at) b
+        own = Contains-append_right (flat_map (slot_and_own recs) (methods_of_type recs at)) (declared_slots recs at) b
             (to_option (λ (rec : AsmRec). flat_map (slot_of_impl recs at rec) rec.method_impl) (rec_at recs at) rec b middle.1
             (to_flat (slot_of_impl recs at rec) rec.method_impl b (record { item = row.0; there = row.1; inside = row_has e at rec row.0 b z row.2 })));
       }
@@ -163,10 +186,6 @@ module _ (recs : List AsmRec) where
       let r = from_map (marks_method recs) (class_answer recs t b) f c in
       let s = from_if (is_own_slot recs b && not (in_interface recs b)) (listed (class_dispatch recs (open_type recs t) b)) r.0 r.1 in
       dispatch_tried t b r.0 (from_listed (class_dispatch recs (open_type recs t) b) r.0 s.1)
-
-  pub fills_tried : (t b : RowAt) (f : Fact) → Contains (class_fills recs t b) f → Tried t b
-  unfolding class_fills
-  fills_tried t b f c = runs_tried t b f (from_if (answers_abstract recs t b) (class_runs recs t b) f c).1
 
   -- ---- all slots that are tried
 

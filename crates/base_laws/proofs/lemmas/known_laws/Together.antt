@@ -33,8 +33,9 @@ use Rattle.base_laws.specs.known_laws.Laws.{GivesWith, TriesEnough}
 use Rattle.base_laws.specs.known_laws.Laws.GivesWith.{with_one, with_two}
 use Rattle.base_laws.proofs.lemmas.known_laws.Lists.{none_in, from_option, to_option, from_if, to_if, from_any, to_any, from_each, to_each}
 use Rattle.base_laws.proofs.lemmas.known_laws.Rows.{same_is, is_same, number_is, known_parts, known_from}
-use Rattle.base_laws.proofs.lemmas.known_laws.Slots.{runs_tried, fills_tried, slots_from, slots_to}
+use Rattle.base_laws.proofs.lemmas.known_laws.Slots.{runs_tried, slots_from, slots_to}
 use Rattle.base_laws.proofs.lemmas.known_laws.Interfaces.{runs_by, fills_by, rows_from, rows_to}
+use Rattle.base_laws.proofs.lemmas.known_laws.Abstract.{fills_tried}
 
 module _ (recs : List AsmRec) (known : Item → Bool) where
   -- ---- interface rows of a type

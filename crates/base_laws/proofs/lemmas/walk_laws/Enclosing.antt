@@ -3,6 +3,7 @@ use Rattle.std.proofs.Common.{◌≡◌, ℕ, zero, suc, ◌/◌, ◌%◌, ◌<�
 use Rattle.std.specs.Prelude.{slice_get, ◌==◌, if◌then◌else◌}
 use Rattle.std.proofs.lemmas.Bool.{eqb-true, true≢false}
 use Rattle.std.proofs.lemmas.Bool.Decides.{Decides-eqb}
+use Rattle.il_base.specs.declared.world_model.types.TypeDefRow.{TypeDefRow}
 use Rattle.il_base.specs.declared.world_model.types.NestedClassRow.{NestedClassRow}
 use Rattle.il_base.specs.declared.world_model.record.AsmRec.{AsmRec}
 use Rattle.il_base.specs.world_model.Tokens.{token_of, index_from, index_in}
@@ -15,7 +16,8 @@ use Rattle.rules.specs.link_rules.Cycles.{is_on_cycle, around}
 use Rattle.rules.specs.link_rules.Faults.{first_of, duplicate_assembly, cyclic_types, is_cyclic_around, cyclic_nesting_row, cyclic_nesting, duplicate_member, link_fault}
 use Rattle.rules.specs.link_rules.Linked.{assemblies, link_fault_of}
 use Rattle.rules.specs.type_rules.Texts.{nested_name, part_or_none, row_name}
-use Rattle.base_laws.specs.walk_laws.Walks.{InLinked, NestsTypes, NamesWhole}
+use Rattle.rules.specs.type_rules.Labels.{own_space, space_around, row_space}
+use Rattle.base_laws.specs.walk_laws.Walks.{InLinked, NestsTypes, ByEncloser, SaidWhole, NamesWhole, SpacesWhole}
 use Rattle.base_laws.proofs.lemmas.type_laws.Within.{in_listed, listed_in}
 use Rattle.base_laws.proofs.lemmas.type_laws.Reaching.{Leads, Walks, cyclic}
 use Rattle.base_laws.proofs.lemmas.type_laws.Bounded.{no_walk}
@@ -85,8 +87,18 @@ module _ (rec : AsmRec) (right : NestsTypes rec) where
       let i : index_in 0x02 r.row.nested_class ≡ Some k = t.1 ∙ ap (λ (n : ℕ). Some n) (sym same) in
       ap (is_cyclic_around rec) (sym i) ∙ none r.place r.row r.there
 
+  -- a type that another encloses is there
+  pub nested_there : (k j : ℕ) → encloser rec k ≡ Some j → k < length rec.type_def
+  unfolding encloser
+  nested_there k j h =
+      let r = row_of k rec.nested_class j h in
+      let t = (right r.place r.row r.there).0 in
+      let same : k ≡ t.0 = (let e = place_of r.row.nested_class t.0 t.1 in let f = r.is in omega arith) in
+      let lt = t.2 in
+      omega arith
+
   -- an encloser is a type that is there
-  encloser_there : (k j : ℕ) → encloser rec k ≡ Some j → j < length rec.type_def
+  pub encloser_there : (k j : ℕ) → encloser rec k ≡ Some j → j < length rec.type_def
   unfolding encloser
   encloser_there k j h =
       let r = enclosing_of k rec.nested_class j h in
@@ -107,20 +119,41 @@ module _ (rec : AsmRec) (right : NestsTypes rec) where
 
   -- ---- a greater bound
 
-  nested_by : (n m k : ℕ) (o : Option ℕ) → encloser rec k ≡ o → (Walks (around rec) (suc n) k → ⊥) → ((j : ℕ) → (Walks (around rec) n j → ⊥) → row_name rec m j ≡ row_name rec n j)
-      → nested_name (row_name rec m) o (part_or_none o (slice_get rec.type_def k)) ≡ nested_name (row_name rec n) o (part_or_none o (slice_get rec.type_def k))
-  nested_by n m k None e none more = refl
-  nested_by n m k (Some j) e none more =
-      ap (λ (name : List ℕ). nested_name (λ i. name) (Some j) (part_or_none (Some j) (slice_get rec.type_def k))) (more j (λ w. none (j, listed_in j (encloser rec k) e, w)))
+  module _ (said : AsmRec → ℕ → ℕ → List ℕ) (step : (ℕ → List ℕ) → Option ℕ → Option TypeDefRow → List ℕ) (by : ByEncloser said step) where
+    grown : (n m k : ℕ) → n ≤ m → (Walks (around rec) n k → ⊥) → said rec m k ≡ said rec n k
+    grown zero m k le none = absurd (none tt)
+    grown (suc n) zero k le none = absurd (omega arith)
+    grown (suc n) (suc m) k le none =
+        by.next rec m k
+        ∙ by.same (said rec m) (said rec n) (encloser rec k) (slice_get rec.type_def k) (λ j e. grown n m j (omega arith) (λ w. none (j, listed_in j (encloser rec k) e, w)))
+        ∙ sym (by.next rec n k)
 
-  grown : (n m k : ℕ) → n ≤ m → (Walks (around rec) n k → ⊥) → row_name rec m k ≡ row_name rec n k
-  unfolding row_name
-  grown zero m k le none = absurd (none tt)
-  grown (suc n) zero k le none = absurd (omega arith)
-  grown (suc n) (suc m) k le none = nested_by n m k (encloser rec k) refl none (λ j. grown n m j (omega arith))
+    pub whole : NoneCyclic → (n k : ℕ) → k < length rec.type_def → length rec.type_def ≤ n → said rec n k ≡ said rec (length rec.type_def) k
+    whole none n k lt le = grown (length rec.type_def) n k le (no_long_walk none k lt)
 
-  pub whole : NoneCyclic → (n k : ℕ) → k < length rec.type_def → length rec.type_def ≤ n → row_name rec n k ≡ row_name rec (length rec.type_def) k
-  whole none n k lt le = grown (length rec.type_def) n k le (no_long_walk none k lt)
+-- ---- names and namespaces
+
+abbrev pub name_step : (ℕ → List ℕ) → Option ℕ → Option TypeDefRow → List ℕ
+name_step outer o t = nested_name outer o (part_or_none o t)
+
+same_name : (f g : ℕ → List ℕ) (o : Option ℕ) (t : Option TypeDefRow) → ((j : ℕ) → o ≡ Some j → f j ≡ g j) → name_step f o t ≡ name_step g o t
+same_name f g None t h = refl
+same_name f g (Some j) t h = ap (λ (name : List ℕ). nested_name (λ i. name) (Some j) (part_or_none (Some j) t)) (h j refl)
+
+pub names_by : ByEncloser row_name name_step
+unfolding row_name
+names_by = record { none = λ rec k. refl; next = λ rec n k. refl; same = same_name; empty = λ f. refl }
+
+abbrev pub space_step : (ℕ → List ℕ) → Option ℕ → Option TypeDefRow → List ℕ
+space_step outer o t = space_around outer o (own_space t)
+
+same_space : (f g : ℕ → List ℕ) (o : Option ℕ) (t : Option TypeDefRow) → ((j : ℕ) → o ≡ Some j → f j ≡ g j) → space_step f o t ≡ space_step g o t
+same_space f g None t h = refl
+same_space f g (Some j) t h = h j refl
+
+pub spaces_by : ByEncloser row_space space_step
+unfolding row_space
+spaces_by = record { none = λ rec k. refl; next = λ rec n k. refl; same = same_space; empty = λ f. refl }
 
 none_there : (place : ℕ) (row : NestedClassRow) → slice_get [] place ≡ Some row → ⊥
 none_there zero row e = cc
@@ -165,5 +198,11 @@ module _ (inputs : List AsmRec) (sound : link_fault_of inputs ≡ None) where
   unfolding assemblies
   none_cyclic a rec e right = none_cyclic_by a rec right (either inputs (core_with core_record names) a rec e)
 
+pub said_whole : (said : AsmRec → ℕ → ℕ → List ℕ) (step : (ℕ → List ℕ) → Option ℕ → Option TypeDefRow → List ℕ) → ByEncloser said step → InLinked (SaidWhole said)
+said_whole said step by inputs sound a n k rec there right lt le = whole rec right said step by (none_cyclic inputs sound a rec there right) n k lt le
+
 pub all_whole : InLinked NamesWhole
-all_whole inputs sound a n k rec there right lt le = whole rec right (none_cyclic inputs sound a rec there right) n k lt le
+all_whole = said_whole row_name name_step names_by
+
+pub spaces_whole : InLinked SpacesWhole
+spaces_whole = said_whole row_space space_step spaces_by

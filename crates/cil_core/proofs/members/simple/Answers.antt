@@ -118,3 +118,28 @@ pub returns-in-PrintsLineEnd : goal.returns-in-PrintsLineEnd
 unfolding simple
 returns-in-PrintsLineEnd g c =
     turned_ok c.line_end.result c.args.st.now c.args.st.now c.line_end.new.printed.items c.line_end.new.printed.items (g.Q.Answers.queries c.args.q.now) c.args.member core.PrintsLineEnd c.args.args.now c.in-PrintsLineEnd.is refl c.line_end.ensures
+
+pub returns-in-TypeFromHandle : goal.returns-in-TypeFromHandle
+unfolding simple
+returns-in-TypeFromHandle g c =
+    turned_ok c.type_from_handle.result c.args.st.now c.type_from_handle.new.st c.args.printed.now.items [] (g.Q.Answers.queries c.args.q.now) c.args.member core.TypeFromHandle c.args.args.now c.in-TypeFromHandle.is c.requires c.type_from_handle.ensures
+
+pub returns-in-TypeSame : goal.returns-in-TypeSame
+unfolding simple
+returns-in-TypeSame g c =
+    turned c.same-in-TypeSame.result c.args.st.now c.args.st.now c.args.printed.now.items [] (g.Q.Answers.queries c.args.q.now) c.args.member core.TypeSame c.args.args.now c.in-TypeSame.is c.requires c.same-in-TypeSame.ensures
+
+pub returns-in-TypeOther : goal.returns-in-TypeOther
+unfolding simple
+returns-in-TypeOther g c =
+    turned c.type_other.result c.args.st.now c.args.st.now c.args.printed.now.items [] (g.Q.Answers.queries c.args.q.now) c.args.member core.TypeOther c.args.args.now c.in-TypeOther.is c.requires c.type_other.ensures
+
+pub returns-in-TypeIs : goal.returns-in-TypeIs
+unfolding simple
+returns-in-TypeIs g c =
+    turned c.same-in-TypeIs.result c.args.st.now c.args.st.now c.args.printed.now.items [] (g.Q.Answers.queries c.args.q.now) c.args.member core.TypeIs c.args.args.now c.in-TypeIs.is c.requires c.same-in-TypeIs.ensures
+
+pub returns-in-TypeIsArray : goal.returns-in-TypeIsArray
+unfolding simple
+returns-in-TypeIsArray g c =
+    turned c.type_is_array.result c.args.st.now c.args.st.now c.args.printed.now.items [] (g.Q.Answers.queries c.args.q.now) c.args.member core.TypeIsArray c.args.args.now c.in-TypeIsArray.is c.requires c.type_is_array.ensures

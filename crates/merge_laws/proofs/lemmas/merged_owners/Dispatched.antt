@@ -28,7 +28,7 @@ use Rattle.base_laws.proofs.lemmas.walk_laws.Answering.{all_answered}
 use Rattle.base_laws.proofs.lemmas.known_laws.Lists.{and_then_some, map_some}
 use Rattle.rules.specs.mark_rules.Places.{marks_method}
 use Rattle.rules.specs.mark_rules.Types.{impl_type}
-use Rattle.rules.specs.mark_rules.Calls.{overridden, initializer_of, class_answer, is_own_slot, choice, found_first, found_for, is_base_of, row_class, searched, first_found, interface_answer, class_runs, interface_runs, answers_abstract, class_fills, interface_fills}
+use Rattle.rules.specs.mark_rules.Calls.{overridden, initializer_of, class_answer, is_own_slot, choice, found_first, found_for, is_base_of, row_class, searched, first_found, interface_answer, class_runs, interface_runs, answers_abstract, asked_slot, class_fills, interface_fills}
 use Rattle.merge_laws.specs.merged_record.Laws.{InputsAreRecords}
 use Rattle.merge_laws.specs.merged_owners.Laws.{has_method}
 use Rattle.merge_laws.proofs.lemmas.merged_owners.Homes.{passing}
@@ -191,7 +191,8 @@ module _ (recs : List AsmRec) (records : InputsAreRecords recs) where
 
   pub class_fills_fine : (t b : RowAt) → Fine recs (class_fills recs t b)
   unfolding class_fills
-  class_fills_fine t b = all_if (OfFact recs) (answers_abstract recs t b) (class_runs recs t b) (λ e. class_runs_fine t b)
+  class_fills_fine t b =
+      all_if (OfFact recs) (answers_abstract recs t b) (flat_map (class_runs recs t) (asked_slot recs t b)) (λ e. all_flat (OfFact recs) (class_runs recs t) (asked_slot recs t b) (λ s c. class_runs_fine t s))
 
   pub interface_runs_fine : (t b r : RowAt) → Fine recs (interface_runs recs t b r)
   unfolding interface_runs

@@ -35,7 +35,7 @@ use Rattle.rules.specs.merge_rules.Moved.{moved_method_row}
 use Rattle.rules.specs.merge_rules.Restricted.{put_rva}
 use Rattle.rules.specs.change_rules.Change.{Rho}
 use Rattle.rules.specs.change_rules.Moves.{move_expr, move_exprs}
-use Rattle.base_laws.proofs.lemmas.change_laws.Exprs.{move_prim}
+use Rattle.base_laws.proofs.lemmas.change_laws.Exprs.{move_prim, move_array, move_mvar}
 use Rattle.rules.specs.world_change_rules.Rows.{move_method_type, is_table_type}
 use Rattle.rules.specs.merged_world_rules.Merge.{Merge, before, after, output, IsMerge}
 use Rattle.rules.specs.merged_world_rules.Numbering.{number_at}
@@ -64,6 +64,10 @@ module _ (r : Rho) where
       by_rest (Good es) = refl
       by_rest (Bad why) = refl
 
+  array_moved : (k : Known TypeExpr) → known_map (λ (e : TypeExpr). expr.Array e) (known_map (move_expr r) k) ≡ known_map (move_expr r) (known_map (λ (e : TypeExpr). expr.Array e) k)
+  array_moved (Good e) = ap Good (sym (move_array r e))
+  array_moved (Bad why) = refl
+
   made_by : (s : MethodSig) (ret : Known TypeExpr) (params : Known (List TypeExpr))
       → known_then (λ (t : TypeExpr). known_map (λ ts. method_type_of s t ts) (known_map (move_exprs r) params)) (known_map (move_expr r) ret)
       ≡ known_map (move_method_type r) (known_then (λ (t : TypeExpr). known_map (λ ts. method_type_of s t ts) params) ret)
@@ -77,6 +81,9 @@ abbrev is_plain : CoreSig → Bool
 is_plain (core.Prim code) = true
 is_plain (core.Class token) = is_table_type token
 is_plain (core.Value token) = is_table_type token
+is_plain (core.Prims code) = true
+is_plain (core.Classes token) = is_table_type token
+is_plain (core.MVar n) = true
 
 abbrev are_plain : CoreParams → Bool
 are_plain Zero = true
@@ -131,6 +138,12 @@ module _ (recs : List AsmRec) (a : ℕ) (rec : AsmRec) where
   prim_sig : (n : ℕ) → sig_expr (names_at recs a rec) (sig.Prim n) ≡ Good (expr.Prim n)
   prim_sig n = layer (Sig-F.Prim n) (sig.Prim n) (sig.rolls-Prim n)
 
+  mvar_sig : (n : ℕ) → sig_expr (names_at recs a rec) (sig.MVar n) ≡ Good (expr.MVar n)
+  mvar_sig n = layer (Sig-F.MVar n) (sig.MVar n) (sig.rolls-MVar n)
+
+  array_sig : (s : Sig) → sig_expr (names_at recs a rec) (sig.Array s) ≡ known_map (λ (e : TypeExpr). expr.Array e) (sig_expr (names_at recs a rec) s)
+  array_sig s = layer (Sig-F.Array s) (sig.Array s) (sig.rolls-Array s)
+
   named_sig : (value : Bool) (w : ℕ) (own : Own w) → own.row < types_in rec → sig_expr (names_at recs a rec) (sig.Named value w) ≡ Good (definition_expr recs (at_row a own.row))
   unfolding named_in
   named_sig value w own lt =
@@ -155,6 +168,15 @@ module _ (m : Merge) (is : IsMerge m) where
     prim_moves n =
         prim_sig (after m) 1 (left_core m) n ∙ ap Good (sym (move_prim (rho_of m) n)) ∙ sym (ap (known_map (move_expr (rho_of m))) (prim_sig (before m) a (core_of m) n))
 
+    mvar_moves : (n : ℕ) → SigMoves (sig.MVar n)
+    mvar_moves n =
+        mvar_sig (after m) 1 (left_core m) n ∙ ap Good (sym (move_mvar (rho_of m) n)) ∙ sym (ap (known_map (move_expr (rho_of m))) (mvar_sig (before m) a (core_of m) n))
+
+    array_moves : (s : Sig) → SigMoves s → SigMoves (sig.Array s)
+    array_moves s here =
+        array_sig (after m) 1 (left_core m) s ∙ ap (known_map (λ (e : TypeExpr). expr.Array e)) here
+        ∙ array_moved (rho_of m) (sig_expr (names_at (before m) a (core_of m)) s) ∙ sym (ap (known_map (move_expr (rho_of m))) (array_sig (before m) a (core_of m) s))
+
     named_moves : (value : Bool) (w : ℕ) → is_table_type w ≡ true → SigMoves (sig.Named value w)
     named_moves value w h =
         let own = own_token w h in
@@ -168,6 +190,9 @@ module _ (m : Merge) (is : IsMerge m) where
     plain_moves (core.Prim code) h = prim_moves code
     plain_moves (core.Class token) h = named_moves false token h
     plain_moves (core.Value token) h = named_moves true token h
+    plain_moves (core.Prims code) h = array_moves (sig.Prim code) (prim_moves code)
+    plain_moves (core.Classes token) h = array_moves (sig.Named false token) (named_moves false token h)
+    plain_moves (core.MVar n) h = mvar_moves n
 
     abbrev SigsMove : List Sig → Type 0
     SigsMove ss = map (sig_expr (names_at (after m) 1 (left_core m))) ss ≡ map (known_map (move_expr (rho_of m))) (map (sig_expr (names_at (before m) a (core_of m))) ss)

@@ -18,7 +18,6 @@ use Rattle.rules.specs.link_rules.Members.{methods_in, fields_in, base_at}
 use Rattle.rules.specs.link_rules.Cycles.{listed, interfaces_at}
 use Rattle.rules.specs.type_rules.Rows.{is_instance_field}
 use Rattle.rules.specs.type_rules.Slots.{type_of_row}
-use Rattle.rules.specs.type_rules.Texts.{name_at}
 use Rattle.rules.specs.view_rules.Members.{core_type_row}
 use Rattle.rules.specs.merge_rules.Numbers.{kept_types, kept_methods, kept_fields}
 use Rattle.rules.specs.change_rules.Change.{Keep, Undone}
@@ -36,13 +35,13 @@ use Rattle.merge_laws.proofs.lemmas.merged_places.Situations.{place, situation, 
 use Rattle.merge_laws.proofs.lemmas.merged_places.Tables.{number_type, number_method, number_field, type_kind}
 use Rattle.merge_laws.proofs.lemmas.merged_places.Whole.{row_there, there_row, type_stays, method_stays, field_stays}
 use Rattle.merge_laws.specs.merged_rows_move.Premises.{ReadsTokens, HasGoodBases, HasGoodInterfaces, ReadsImpls, ReadsSignatures, KeepsNames}
-use Rattle.merge_laws.specs.merged_rows_move.Laws.{ReadsRows, MembersMove, TypeMarks, MethodMarks, MarksMove}
+use Rattle.merge_laws.specs.merged_rows_move.Laws.{ReadsRows, MembersMove, TypeMarks, MethodMarks, MarksMove, NamesMove}
 use Rattle.merge_laws.proofs.lemmas.merged_rows_move.Members.{methods_move, fields_move}
 use Rattle.merge_laws.proofs.lemmas.merged_rows_move.Owners.{owner_moved}
 use Rattle.merge_laws.proofs.lemmas.merged_rows_move.Bases.{base_moved}
 use Rattle.merge_laws.proofs.lemmas.merged_rows_move.Interfaces.{interfaces_moved}
 use Rattle.merge_laws.proofs.lemmas.merged_rows_move.Impls.{impls_moved}
-use Rattle.merge_laws.proofs.lemmas.merged_rows_move.Names.{name_moved}
+use Rattle.merge_laws.proofs.lemmas.merged_rows_move.Names.{name_moved, space_moved, label_moved, around_moved}
 use Rattle.merge_laws.proofs.lemmas.merged_rows_move.Signatures.{signature_moved}
 use Rattle.merge_laws.proofs.lemmas.merged_rows_move.Core.{type_count, type_row_below, types_more}
 use Rattle.merge_laws.proofs.lemmas.merged_rows_move.Heads.{head_moved, fits_moved}
@@ -197,9 +196,14 @@ module _ (m : Merge) (k : Keep) (kept : RowAt → Bool) (is : IsMerge m) (flags 
 
   -- ---- names
 
-  pub names : KeepsNames m k → (at : RowAt) → IsTrue (keeps_type_row k (before m) at) → IsTrue (k.shown (type_number (before m) at)) → name_at (after m) ((places_of m).typ at) ≡ name_at (before m) at
+  pub names : KeepsNames m k → (at : RowAt) → IsTrue (keeps_type_row k (before m) at) → IsTrue (k.shown (type_number (before m) at)) → NamesMove m at
   unfolding kept_types
-  names stays at keeps shown = name_moved m is k stays at (λ h. type_stays m is k kept flags at keeps h) shown
+  names stays at keeps shown = record {
+    name = name_moved m is k stays at (λ h. type_stays m is k kept flags at keeps h) shown;
+    label = label_moved m is k stays at (λ h. type_stays m is k kept flags at keeps h) shown;
+    space = space_moved m is k stays at (λ h. type_stays m is k kept flags at keeps h) shown;
+    encloser = around_moved m is k stays at (λ h. type_stays m is k kept flags at keeps h);
+  }
 
   -- ---- all of a type's row
 
@@ -211,7 +215,10 @@ module _ (m : Merge) (k : Keep) (kept : RowAt → Bool) (is : IsMerge m) (flags 
         interface = marks.interface;
         head = marks.head;
         explicit = marks.explicit;
-        name = λ shown. names reads.names at keeps shown;
+        name = λ shown. (names reads.names at keeps shown).name;
+        label = λ shown. (names reads.names at keeps shown).label;
+        space = λ shown. (names reads.names at keeps shown).space;
+        encloser = λ shown. (names reads.names at keeps shown).encloser;
         base = bases reads.tokens reads.bases at keeps;
         interfaces = interfaces reads.tokens reads.interfaces at keeps;
         methods = own.methods;

@@ -18,7 +18,8 @@ use Rattle.rules.specs.world_change_rules.Places.{Places}
 use Rattle.run_laws.specs.dispatch_laws.Kept.{KeepsRuns}
 use Rattle.run_laws.proofs.lemmas.query_laws.Lookups.{head_moved, method_moved, field_moved}
 use Rattle.run_laws.proofs.lemmas.query_laws.Wholes.{kin_moved}
-use Rattle.run_laws.proofs.lemmas.query_laws.Texts.{text_moved}
+use Rattle.run_laws.proofs.lemmas.query_laws.Texts.{text_moved, label_moved, space_moved}
+use Rattle.run_laws.proofs.lemmas.query_laws.Enclosers.{encloser_moved, encloser_kept}
 use Rattle.run_laws.proofs.lemmas.query_laws.Shapes.{shape_moved}
 use Rattle.run_laws.proofs.lemmas.query_laws.Cells.{cells_moved}
 use Rattle.run_laws.proofs.lemmas.query_laws.Covered.{shape_kept}
@@ -79,6 +80,9 @@ module _ (k : Change) (kept : RowAt → Bool) (p : Places) (outputs inputs : Lis
     answers = λ e owner m h g u o.
         answers_moved k kept p after before t.moves t.closed.rows t.apart t.closed.impls later earlier t.slots_after t.slots_before e (made_kept e h) owner m u (runs e owner m h g u o);
     text = λ e h. text_moved k kept p after before t.moves t.closed.rows e h;
+    label = λ e h. label_moved k kept p after before t.moves t.closed.rows e h;
+    space = λ e h. space_moved k kept p after before t.moves t.closed.rows e h;
+    encloser = λ i h. encloser_moved k kept p after before t.moves t.closed.rows i h;
     kin = λ e h. kin_moved k kept p after before t.moves t.closed.rows later earlier e h;
     to_string = t.moves.core.methods core.ToString;
     equals = t.moves.core.methods core.Equals;
@@ -88,6 +92,7 @@ module _ (k : Change) (kept : RowAt → Bool) (p : Places) (outputs inputs : Lis
     keeps_shapes = λ e h. shape_kept k kept p after before t.moves t.closed.rows e h;
     keeps_cells = λ e h. cells_kept k kept p after before t.moves t.closed.rows exception e h;
     keeps_starts = λ i m h is. starts_kept k kept p after before t.moves t.closed.rows i m h is;
+    keeps_encloser = λ i u h is. encloser_kept k kept p after before t.moves t.closed.rows i u h is;
     keeps_answers = λ e owner m u h g v o is. answers_kept k kept p after before t.moves t.closed.rows exception e owner m u (made_kept e h) (λ f it. t.closed.runs e owner m f h g v o it) is;
     keeps_to_string = t.closed.to_string;
     keeps_equals = t.closed.equals;

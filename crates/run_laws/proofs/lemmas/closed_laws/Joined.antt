@@ -23,7 +23,7 @@ owned recs owner n h f is = sym (ap (λ (o : Option Method). is_of_owner o owner
 pub all_closed : MarkedClosed
 all_closed inputs entry roots has sound m marked =
     let recs : List AsmRec = assemblies inputs in
-    let rows = rows_kept inputs entry roots has sound m marked.ends in
+    let rows = rows_kept inputs entry roots has sound m marked.ends marked.nests in
     let implied = implied_kept inputs entry roots has sound m in
     record {
       rows = rows;

@@ -2,7 +2,7 @@
 use Rattle.std.proofs.Common.{List, sym, subst}
 use Rattle.il_base.specs.declared.world_model.record.AsmRec.{AsmRec}
 use Rattle.rules.specs.link_rules.Linked.{assemblies}
-use Rattle.base_laws.proofs.lemmas.world_laws.Inputs.{slots_whole}
+use Rattle.base_laws.proofs.lemmas.world_laws.Inputs.{nesting_kept, slots_whole}
 use Rattle.rules.specs.change_rules.Change.{Keep}
 use Rattle.run_laws.specs.agree_laws.Closed.{Closed}
 use Rattle.run_laws.specs.agree_laws.Laws.{IsTrimmed}
@@ -21,6 +21,7 @@ trims_run k p outputs inputs entry roots has linked sound are_outputs are_inputs
     let good : AreSound inputs has = record {
       few = few;
       ends = runs_end inputs are_inputs;
+      nests = nesting_kept inputs are_inputs;
       methods = methods_apart inputs are_inputs;
       fields = fields_apart inputs are_inputs;
       reads = all_read inputs entry roots has only none;

@@ -52,6 +52,7 @@ use Rattle.run_laws.proofs.lemmas.lock_frames.Dispatching.{dispatched_lock, this
 use Rattle.run_laws.proofs.lemmas.lock_members.Giving.{value_lock, truth_lock, checked_lock}
 use Rattle.run_laws.proofs.lemmas.lock_members.Objects.{head_kept, tail_kept, is_same_moved, halt_lock, idle_lock, type_name_lock, same_lock, number_text_lock, number_is_lock, int_equals_lock, int_compare_lock, exception_text_lock, exception_inner_lock, exception_parameter_lock, get_message_lock, get_inner_lock, array_length_lock, fill_array_lock}
 use Rattle.run_laws.proofs.lemmas.lock_members.Texts.{string_length_lock, string_unit_lock, string_index_lock, string_concat_lock, string_from_lock, string_part_lock, string_itself_lock, string_same_lock, string_other_lock, string_is_lock, string_is_empty_lock, string_compare_lock, int_parse_lock}
+use Rattle.run_laws.proofs.lemmas.lock_members.Types.{type_from_handle_lock, object_type_lock, type_text_lock, type_full_name_lock, type_namespace_lock, type_name_alone_lock, type_encloser_lock, type_other_lock, type_fits_lock, type_has_lock, type_is_value_lock, type_is_interface_lock, type_is_array_lock}
 use Rattle.run_laws.proofs.lemmas.lock_members.Console.{print_lock, line_end_lock, read_unit_lock, read_line_lock}
 
 module _ (k : Change) (after before : Queries) (a : Agree k after before) where
@@ -94,6 +95,21 @@ module _ (k : Change) (after before : Queries) (a : Agree k after before) where
   simple_lock core.GetMessage args s f g h c gl = get_message_lock k after before a s c f g gl args h
   simple_lock core.GetInner args s f g h c gl = get_inner_lock k after before a s c f g gl args h
   simple_lock core.FillArray args s f g h c gl = fill_array_lock k after before a s c f g gl args h
+  simple_lock core.TypeFromHandle args s f g h c gl = type_from_handle_lock k after before a s c f g gl args h
+  simple_lock core.TypeOf args s f g h c gl = object_type_lock k after before a s c f g gl args h
+  simple_lock core.TypeText args s f g h c gl = type_text_lock k after before a s c f g gl args h
+  simple_lock core.TypeFullName args s f g h c gl = type_full_name_lock k after before a s c f g gl args h
+  simple_lock core.TypeNamespace args s f g h c gl = type_namespace_lock k after before a s c f g gl args h
+  simple_lock core.MemberName args s f g h c gl = type_name_alone_lock k after before a s c f g gl args h
+  simple_lock core.MemberOwner args s f g h c gl = type_encloser_lock k after before a s c f g gl args h
+  simple_lock core.TypeSame args s f g h c gl = same_lock k after before a s c f g gl args h
+  simple_lock core.TypeOther args s f g h c gl = type_other_lock k after before a s c f g gl args h
+  simple_lock core.TypeIs args s f g h c gl = same_lock k after before a s c f g gl args h
+  simple_lock core.TypeFits args s f g h c gl = type_fits_lock k after before a s c f g gl args h
+  simple_lock core.TypeHas args s f g h c gl = type_has_lock k after before a s c f g gl args h
+  simple_lock core.TypeIsValue args s f g h c gl = type_is_value_lock k after before a s c f g gl args h
+  simple_lock core.TypeIsInterface args s f g h c gl = type_is_interface_lock k after before a s c f g gl args h
+  simple_lock core.TypeIsArray args s f g h c gl = type_is_array_lock k after before a s c f g gl args h
   simple_lock core.AreEqual args s f g h c gl = stuck_lock k before s
 
   -- ---- what a member does with a result

@@ -92,7 +92,7 @@ module _ (k : Change) (after before : Queries) (a : Agree k after before) where
     effect_lock form.NewArr e = arrays.new_array_form_lock k after before a here i s c there operand (of_form form.NewArr e)
     effect_lock form.Elem e = arrays.element_form_lock k after before a here i s c there operand
     effect_lock form.Indirect e = indirect.indirect_lock k after before a here i s c there operand
-    effect_lock form.LdToken e = types.load_token_lock k after before a here i s c there operand
+    effect_lock form.LdToken e = types.load_token_lock k after before a here i s c there operand (of_form form.LdToken e)
     effect_lock form.Prefix e = making.prefix_form_lock k after before a here i there s c operand (of_form form.Prefix e)
 
     execute_lock : Lock k before (execute after (move_here k.rho here) (move_instruction k.rho i) (move_state k before s)) (execute before here i s)

@@ -43,7 +43,7 @@ use Rattle.run_laws.proofs.lemmas.lock_words.Words.{stuck_lock, stopped_lock, gi
 use Rattle.run_laws.proofs.lemmas.lock_words.Cases.{kept_cases}
 use Rattle.run_laws.proofs.lemmas.lock_words.Types.{in_names, in_moves, standing_moved}
 use Rattle.run_laws.proofs.lemmas.lock_words.Fits.{fits_reference_moved, fits_moved, fits_kept, is_value_moved}
-use Rattle.run_laws.proofs.lemmas.lock_throwing.Objects.{object_moved, object_kept, is_a_at}
+use Rattle.run_laws.proofs.lemmas.lock_throwing.Objects.{shown_kept, object_moved, object_kept, is_a_at}
 use Rattle.run_laws.proofs.lemmas.lock_throwing.Here.{KeptHere}
 use Rattle.run_laws.proofs.lemmas.lock_throwing.Searching.{raise_lock}
 use Rattle.run_laws.proofs.lemmas.lock_places.Options.{some_is}
@@ -245,16 +245,16 @@ module _ (k : Change) (after before : Queries) (a : Agree k after before) (here 
         ∙ (λ j. if_so (definition j || is_sound (standing_moved k after before a d hd j)) (move_expr k.rho d))
         ∙ so_type k.rho (is_definition_in (out-TypeExpr d) || is_sound (standing before.head d)) d
 
-    handle_kept : (e d : TypeExpr) → IsTrue (keeps_expr k.keep e) → closed_handle before here e ≡ Some d → IsTrue (keeps_expr k.keep d)
+    handle_shown : (e d : TypeExpr) → IsTrue (shows_expr k.keep e) → closed_handle before here e ≡ Some d → IsTrue (shows_expr k.keep d)
     unfolding closed_handle
-    handle_kept e d h is = so_is (λ x. IsTrue (keeps_expr k.keep x)) (is_definition_in (out-TypeExpr (In e)) || is_sound (standing before.head (In e))) (In e) d is ((in_names k after before a here.targs here.margs r.targs r.margs e).kept h)
+    handle_shown e d h is = so_is (λ x. IsTrue (shows_expr k.keep x)) (is_definition_in (out-TypeExpr (In e)) || is_sound (standing before.head (In e))) (In e) d is ((in_names k after before a here.targs here.margs r.targs r.margs e).shown h)
 
-    load_handle_lock : (e : TypeExpr) → IsTrue (keeps_expr k.keep e) → Lock k before (load_handle after (move_here k.rho here) (move_instruction k.rho i) (move_state k before s) (move_expr k.rho e)) (load_handle before here i s e)
+    load_handle_lock : (e : TypeExpr) → IsTrue (shows_expr k.keep e) → Lock k before (load_handle after (move_here k.rho here) (move_instruction k.rho i) (move_state k before s) (move_expr k.rho e)) (load_handle before here i s e)
     load_handle_lock e h =
-        had_moved k before (move_expr k.rho) (closed_handle before here e) _ s (λ d. goes (move_here k.rho here) (move_instruction k.rho i) (value.Handle d ∷ move_values k.rho s.top.stack) (move_state k before s)) (λ d. goes here i (value.Handle d ∷ s.top.stack) s) (handle_moved e h) (λ d is.
-        push_lock k before here i (value.Handle (move_expr k.rho d)) (value.Handle d) s.top.stack s (sym (move_handle k.rho d)) c (keeps_handle k.keep d ∙ handle_kept e d h is) c.top.stack)
+        had_moved k before (move_expr k.rho) (closed_handle before here e) _ s (λ d. goes (move_here k.rho here) (move_instruction k.rho i) (value.Handle d ∷ move_values k.rho s.top.stack) (move_state k before s)) (λ d. goes here i (value.Handle d ∷ s.top.stack) s) (handle_moved e (shown_kept k.keep e h)) (λ d is.
+        push_lock k before here i (value.Handle (move_expr k.rho d)) (value.Handle d) s.top.stack s (sym (move_handle k.rho d)) c (keeps_handle k.keep d ∙ handle_shown e d h is) c.top.stack)
 
-    token_by : (u : Use) → IsTrue (keeps_operand k.keep before u)
+    token_by : (u : Use) → IsTrue (keeps_operand k.keep before u) → IsTrue (keeps_of_form k.keep i.opcode form.LdToken u)
         → Lock k before (elim (move_operand k.rho u) [
           | used.Typ e ↦ known e (move_state k before s) (load_handle after (move_here k.rho here) (move_instruction k.rho i) (move_state k before s))
           | used.Field f ↦ closed_field after (move_here k.rho here) f (move_state k before s) (λ x. goes (move_here k.rho here) (move_instruction k.rho i) (value.FieldHandle (record { 0 = x.id }) ∷ move_values k.rho s.top.stack) (move_state k before s))
@@ -267,14 +267,14 @@ module _ (k : Change) (after before : Queries) (a : Agree k after before) (here 
           | used.Method m ↦ stopped s
           | _ ↦ stuck s
         ])
-    token_by (used.Typ o) h = known_moved k before (move_expr k.rho) (keeps_expr k.keep) o s _ _ h (λ e he. load_handle_lock e he)
-    token_by (used.Field o) h =
+    token_by (used.Typ o) h g = known_moved k before (move_expr k.rho) (shows_expr k.keep) o s _ _ g (λ e he. load_handle_lock e he)
+    token_by (used.Field o) h g =
         closed_field_lock k after before a here r s o (λ x. goes (move_here k.rho here) (move_instruction k.rho i) (value.FieldHandle (record { 0 = x.id }) ∷ move_values k.rho s.top.stack) (move_state k before s)) (λ x. goes here i (value.FieldHandle (record { 0 = x.id }) ∷ s.top.stack) s)
         (weaker (keeps_accessed k.keep before) (λ u. k.keep.field u.field.0 && keeps_expr k.keep u.owner) (λ u g. first_so (k.keep.field u.field.0 && keeps_expr k.keep u.owner) _ g) o h)
         (λ u x e is. push_lock k before here i (value.FieldHandle (record { 0 = k.rho.field x.id })) (value.FieldHandle (record { 0 = x.id })) s.top.stack s (sym (move_field_handle k.rho (record { 0 = x.id }))) c (keeps_field_handle k.keep (record { 0 = x.id }) ∙ is.kept.id) c.top.stack)
-    token_by (used.Method m) h = stopped_lock k before s
-    token_by _ h = stuck_lock k before s
+    token_by (used.Method m) h g = stopped_lock k before s
+    token_by _ h g = stuck_lock k before s
 
-    pub load_token_lock : IsTrue (keeps_operand k.keep before i.operand) → Lock k before (load_token after (move_here k.rho here) (move_instruction k.rho i) (move_state k before s)) (load_token before here i s)
+    pub load_token_lock : IsTrue (keeps_operand k.keep before i.operand) → IsTrue (keeps_of_form k.keep i.opcode form.LdToken i.operand) → Lock k before (load_token after (move_here k.rho here) (move_instruction k.rho i) (move_state k before s)) (load_token before here i s)
     unfolding load_token
-    load_token_lock h = token_by i.operand h
+    load_token_lock h g = token_by i.operand h g

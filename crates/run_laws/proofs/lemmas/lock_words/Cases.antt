@@ -10,7 +10,7 @@ use Rattle.il_base.specs.declared.cil_values.value.Value.TheOpen.{Value-F}
 use Rattle.il_base.specs.declared.cil_values.value.Value.TheVariants as value
 use Rattle.rules.specs.change_rules.Change.{Rho, Change}
 use Rattle.rules.specs.change_rules.Moves.{move_field_id, move_expr, move_path, move_value, move_values}
-use Rattle.rules.specs.change_rules.Keeps.{keeps_expr, keeps_path, keeps_value, keeps_values}
+use Rattle.rules.specs.change_rules.Keeps.{keeps_expr, shows_expr, keeps_path, keeps_value, keeps_values}
 use Rattle.base_laws.proofs.lemmas.change_laws.Values.{moved_in, move_rolled, keeps_rolled, keeps_pointer, keeps_handle, keeps_field_handle}
 
 -- a relation of a moved value and the value, from one case for each construct
@@ -53,7 +53,7 @@ pub kept_cases : (k : Change) (R : Value → Value → Type 0)
     → ((p : Path) → IsTrue (keeps_path k.keep p) → R (value.Pointer (move_path k.rho p)) (value.Pointer p))
     → ((e : TypeExpr) (cells : List Value) → IsTrue (keeps_expr k.keep e) → IsTrue (keeps_values k.keep cells)
     → R (roll-Value (Value-F.Struct (move_expr k.rho e) (move_values k.rho cells))) (roll-Value (Value-F.Struct e cells)))
-    → ((e : TypeExpr) → IsTrue (keeps_expr k.keep e) → R (value.Handle (move_expr k.rho e)) (value.Handle e))
+    → ((e : TypeExpr) → IsTrue (shows_expr k.keep e) → R (value.Handle (move_expr k.rho e)) (value.Handle e))
     → ((f : FieldId) → IsTrue (k.keep.field f.0) → R (value.FieldHandle (move_field_id k.rho f)) (value.FieldHandle f))
     → (v : Value) → IsTrue (keeps_value k.keep v) → R (move_value k.rho v) v
 kept_cases k R null i4 i8 native object pointer struct handle field_handle =

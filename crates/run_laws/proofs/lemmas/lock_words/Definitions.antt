@@ -90,6 +90,24 @@ pub definition_kept : (k : Keep) (e : TypeExpr) (t : ℕ) → IsTrue (keeps_expr
 unfolding definition_of
 definition_kept k e t h is = definition_in_kept k (out-TypeExpr e) t (ap (keeps_expr k) (roll-out-TypeExpr e) ∙ h) is
 
+definition_in_shown : (k : Keep) (x : TypeExpr-F TypeExpr) (t : ℕ) → IsTrue (shows_expr k (roll-TypeExpr x)) → definition_in x ≡ Some t → IsTrue (k.shown t)
+definition_in_shown k (TypeExpr-F.Prim n) t h e = cc
+definition_in_shown k (TypeExpr-F.Def d) t h e =
+    let is : d.0 ≡ t = cc in ap k.shown (sym is) ∙ second_so (k.typ d.0) (k.shown d.0) (sym (ap both (names_rolled k (TypeExpr-F.Def d))) ∙ h)
+definition_in_shown k (TypeExpr-F.Inst d args) t h e =
+    let is : d.0 ≡ t = cc in
+    let rest : Bool = list_all both (map (names_of k) args) in
+    ap k.shown (sym is) ∙ first_so (k.shown d.0) rest (second_so (k.typ d.0 && rest) (k.shown d.0 && rest) (sym (ap both (names_rolled k (TypeExpr-F.Inst d args))) ∙ h))
+definition_in_shown k (TypeExpr-F.Array x) t h e = cc
+definition_in_shown k (TypeExpr-F.ByRef x) t h e = cc
+definition_in_shown k (TypeExpr-F.Var n) t h e = cc
+definition_in_shown k (TypeExpr-F.MVar n) t h e = cc
+definition_in_shown k (TypeExpr-F.Mod required by x) t h e = cc
+
+pub definition_shown : (k : Keep) (e : TypeExpr) (t : ℕ) → IsTrue (shows_expr k e) → definition_of e ≡ Some t → IsTrue (k.shown t)
+unfolding definition_of
+definition_shown k e t h is = definition_in_shown k (out-TypeExpr e) t (ap (shows_expr k) (roll-out-TypeExpr e) ∙ h) is
+
 -- ---- modifiers are taken off once
 
 abbrev PlainTwice : TypeExpr → Type 0

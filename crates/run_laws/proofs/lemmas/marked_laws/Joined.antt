@@ -21,6 +21,7 @@ use Rattle.run_laws.proofs.lemmas.marked_laws.Places.{method_row_below}
 use Rattle.run_laws.proofs.lemmas.marked_laws.Added.{prim_not_added}
 use Rattle.run_laws.proofs.lemmas.marked_laws.Rows.{bases_kept, interfaces_kept, owner_kept, overridden_kept}
 use Rattle.run_laws.proofs.lemmas.marked_laws.Members.{laid_kept, field_types_kept, started_kept, prims_kept, prims_shown, array_is_core, array_not_added}
+use Rattle.run_laws.proofs.lemmas.marked_laws.Enclosers.{enclosers_shown}
 use Rattle.run_laws.proofs.lemmas.marked_laws.Interfaces.{interfaces_implied}
 
 -- a method that some type's run has is a row, where runs end with their table
@@ -41,7 +42,7 @@ module _ (recs : List AsmRec) (ends : RunsEnd recs) where
   owned_there at owner e = row_by at owner (slice_get recs at.asm) refl e
 
 pub rows_kept : MarkedRows
-rows_kept inputs entry roots has sound m ends =
+rows_kept inputs entry roots has sound m ends nests =
     let recs : List AsmRec = assemblies inputs in
     record {
       prims = λ n t e. prims_kept recs entry roots has m n t e (prim_not_added inputs n t e);
@@ -52,6 +53,7 @@ rows_kept inputs entry roots has sound m ends =
       laid = λ at h v. laid_kept recs entry roots has m at h v;
       field_types = λ at d h e. field_types_kept recs entry roots has m at d h e;
       shown = λ t h. shown_typ recs has (record { 0 = t }) h;
+      enclosers = λ at e h is. enclosers_shown inputs entry roots has m nests at e h is;
       begun = λ t h. begun_typ recs has (record { 0 = t }) h;
       started = λ at i h e. started_kept recs entry roots has m at i h e;
       overridden = λ at b d h r v n e. overridden_kept recs entry roots has m at b d h r v n e;

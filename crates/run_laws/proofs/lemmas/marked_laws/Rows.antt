@@ -23,10 +23,10 @@ use Rattle.rules.specs.type_rules.Rows.{rec_at, each_from}
 use Rattle.base_laws.proofs.lemmas.type_laws.Within.{In, in_front, in_behind, in_parts, in_listed, listed_in, in_flat, flat_in}
 use Rattle.descriptor_file.specs.declared.root.Root.{Root}
 use Rattle.rules.specs.mark_rules.Facts.{Fact}
-use Rattle.rules.specs.mark_rules.Places.{type_item, method_item, impl_item, marks_type, marks_method, row_of}
+use Rattle.rules.specs.mark_rules.Places.{type_item, method_item, impl_item, marks_method, row_of}
 use Rattle.rules.specs.mark_rules.Naming.{Part, of_parts, type_token_part}
 use Rattle.rules.specs.mark_rules.Types.{encloser_of, extends_of, constraints_of, parts_of_type, type_needs, layout_needs, parts_of_impl, impl_needs}
-use Rattle.rules.specs.mark_rules.Calls.{owner_facts, method_needs, makes, overridden, overrides_of, method_starts}
+use Rattle.rules.specs.mark_rules.Calls.{method_needs, makes, overridden, overrides_of, method_starts}
 use Rattle.rules.specs.mark_rules.Properties.{accessed}
 use Rattle.rules.specs.mark_rules.Marking.{row_needs}
 use Rattle.rules.specs.change_rules.Change.{Keep}

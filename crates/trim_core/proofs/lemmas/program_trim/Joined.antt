@@ -26,7 +26,7 @@ use Rattle.record_writer.specs.CanWrite.{CanWrite}
 use Rattle.kept_marks.specs.Keeping.{KeepsMarked, ShowsMarked}
 use Rattle.trim_core.specs.declared.program_trim.answers.ProgramTrim.{ProgramTrim}
 use Rattle.trim_core.specs.declared.program_trim.answers.TrimFault.TheVariants as refusal
-use Rattle.trim_core.specs.program_trim.Trim.{AreFacts, IsKeptSet, IsShownSet, IsCollision, HasNoFlaw, IsFlawedAt, TrimmedWorld, Collides, RefusesWorld}
+use Rattle.trim_core.specs.program_trim.Trim.{AreFacts, IsKeptSet, IsShownSet, IsCollision, HasNoFlaw, IsFollowed, IsFlawedAt, TrimmedWorld, Collides, RefusesWorld}
 use Rattle.trim_core.specs.program_trim.Programs.{IsFirst, refusal_by}
 
 module _ (recs : List AsmRec) (entry : Option RowAt) (roots : List Root) where
@@ -46,12 +46,13 @@ module _ (recs : List AsmRec) (entry : Option RowAt) (roots : List Root) where
   refused internal place (Outside what) h = h
   refused internal place (Over which found) h = inl (record { place = place; flawed = h })
 
-  module _ (kept : Kept) (exact : IsKeptSet recs entry roots kept) (good : HasNoFlaw recs entry roots) where
+  module _ (kept : Kept) (exact : IsKeptSet recs entry roots kept) (good : HasNoFlaw recs entry roots) (followed : IsFollowed recs entry roots) where
     pub collides : (seen : TypeId → Bool) (first second : TypeId) → IsShownSet recs entry roots seen → IsFirst recs seen kept first second → Collides recs entry roots first second
     collides seen first second shows f = record {
       kept = kept;
       exact = exact;
       good = good;
+      followed = followed;
       both = f.both;
       collides = record { seen = seen; exact = shows; first = f.is };
       first_is = f.first_is;
@@ -65,6 +66,7 @@ module _ (recs : List AsmRec) (entry : Option RowAt) (roots : List Root) where
         kept = kept;
         exact = exact;
         good = good;
+        followed = followed;
         holds = holds;
         facts = facts;
         unique = unique;
@@ -81,6 +83,7 @@ module _ (recs : List AsmRec) (entry : Option RowAt) (roots : List Root) where
         kept = kept;
         exact = exact;
         good = good;
+        followed = followed;
         unique = unique;
         left = left;
         restricted = is;

@@ -47,6 +47,9 @@ abbrev is_low_sig : CoreSig → Bool
 is_low_sig (core.Prim n) = true
 is_low_sig (core.Class token) = is_low_token token
 is_low_sig (core.Value token) = is_low_token token
+is_low_sig (core.Prims n) = true
+is_low_sig (core.Classes token) = is_low_token token
+is_low_sig (core.MVar n) = true
 
 abbrev are_low : CoreParams → Bool
 are_low Zero = true
@@ -181,10 +184,21 @@ module _ (inputs : List AsmRec) (a : ℕ) (rec : AsmRec) (there : slice_get (ass
       subst (λ (s : Sig). IsFine recs s) (sym (world_is (Sig-F.Named v token) (sig.Named v token) (sig.rolls-Named v token)))
       (of_layer recs (Sig-F.Named v k) (sig.Named v k) (sig.rolls-Named v k) (fine_one recs k (class_listed inputs a rec token (λ at f. low_names inputs a rec there token at low f))))
 
+  mvar_fine : (n : ℕ) → IsFine recs (world_sig recs a rec (sig.MVar n))
+  mvar_fine n = subst (λ (s : Sig). IsFine recs s) (sym (world_is (Sig-F.MVar n) (sig.MVar n) (sig.rolls-MVar n))) (of_layer recs (Sig-F.MVar n) (sig.MVar n) (sig.rolls-MVar n) (fine_none recs []))
+
+  array_fine : (s : Sig) → IsFine recs (world_sig recs a rec s) → IsFine recs (world_sig recs a rec (sig.Array s))
+  array_fine s fine =
+      let w : Sig = world_sig recs a rec s in
+      subst (λ (s : Sig). IsFine recs s) (sym (world_is (Sig-F.Array s) (sig.Array s) (sig.rolls-Array s))) (of_layer recs (Sig-F.Array w) (sig.Array w) (sig.rolls-Array w) fine)
+
   sig_fine : (c : CoreSig) → is_low_sig c ≡ true → IsFine recs (world_sig recs a rec (sig_of c))
   sig_fine (core.Prim n) low = prim_fine n
   sig_fine (core.Class token) low = named_fine false token low
   sig_fine (core.Value token) low = named_fine true token low
+  sig_fine (core.Prims n) low = array_fine (sig.Prim n) (prim_fine n)
+  sig_fine (core.Classes token) low = array_fine (sig.Named false token) (named_fine false token low)
+  sig_fine (core.MVar n) low = mvar_fine n
 
   -- a parameter of a low list
   param_by : (s : Sig) (c : CoreSig) (P : Type 0) → is_low_sig c ≡ true → (P → IsFine recs (world_sig recs a rec s)) → (s ≡ sig_of c) ⊎ P → IsFine recs (world_sig recs a rec s)

@@ -135,10 +135,24 @@ module _ (inputs : List AsmRec) where
         let k : ℕ = class_number recs a rec token in
         ap modifiers (world_is (Sig-F.Named v token) (sig.Named v token) (sig.rolls-Named v token)) ∙ modifiers_are (Sig-F.Named v k) (sig.Named v k) (sig.rolls-Named v k)
 
+    prim_plain : (n : ℕ) → modifiers (world_sig recs a rec (sig.Prim n)) ≡ []
+    prim_plain n = ap modifiers (world_is (Sig-F.Prim n) (sig.Prim n) (sig.rolls-Prim n)) ∙ modifiers_are (Sig-F.Prim n) (sig.Prim n) (sig.rolls-Prim n)
+
+    mvar_plain : (n : ℕ) → modifiers (world_sig recs a rec (sig.MVar n)) ≡ []
+    mvar_plain n = ap modifiers (world_is (Sig-F.MVar n) (sig.MVar n) (sig.rolls-MVar n)) ∙ modifiers_are (Sig-F.MVar n) (sig.MVar n) (sig.rolls-MVar n)
+
+    array_plain : (s : Sig) → modifiers (world_sig recs a rec s) ≡ [] → modifiers (world_sig recs a rec (sig.Array s)) ≡ []
+    array_plain s plain =
+        let w : Sig = world_sig recs a rec s in
+        ap modifiers (world_is (Sig-F.Array s) (sig.Array s) (sig.rolls-Array s)) ∙ modifiers_are (Sig-F.Array w) (sig.Array w) (sig.rolls-Array w) ∙ plain
+
     plain_sig : (c : CoreSig) → modifiers (world_sig recs a rec (sig_of c)) ≡ []
-    plain_sig (core.Prim n) = ap modifiers (world_is (Sig-F.Prim n) (sig.Prim n) (sig.rolls-Prim n)) ∙ modifiers_are (Sig-F.Prim n) (sig.Prim n) (sig.rolls-Prim n)
+    plain_sig (core.Prim n) = prim_plain n
     plain_sig (core.Class token) = named_plain false token
     plain_sig (core.Value token) = named_plain true token
+    plain_sig (core.Prims n) = array_plain (sig.Prim n) (prim_plain n)
+    plain_sig (core.Classes token) = array_plain (sig.Named false token) (named_plain false token)
+    plain_sig (core.MVar n) = mvar_plain n
 
     sig_listed : (s : Sig) (e : TypeExpr) (t : TypeId) → IsFine recs (world_sig recs a rec s) → modifiers (world_sig recs a rec s) ≡ [] → sig_expr (names_at recs a rec) s ≡ Good e → Contains (naming.types_in e) t
         → is_listed recs (suc t.0) ≡ true

@@ -35,7 +35,7 @@ use Rattle.rules.specs.merge_rules.Keys.{number_of, absent_number, found_or, cla
 use Rattle.rules.specs.merge_rules.Refs.{numbers_layer, numbers_in, types_of_sig, type_of_number, type_token, new_sig_layer, new_sig, new_method_sig}
 use Rattle.rules.specs.merge_rules.Restricted.{output_of}
 use Rattle.rules.specs.change_rules.Moves.{move_expr, move_exprs}
-use Rattle.base_laws.proofs.lemmas.change_laws.Exprs.{move_prim}
+use Rattle.base_laws.proofs.lemmas.change_laws.Exprs.{move_prim, move_array, move_mvar}
 use Rattle.rules.specs.world_change_rules.Rows.{move_method_type, is_table_type}
 use Rattle.base_laws.proofs.lemmas.type_laws.Within.{In, in_front, in_behind}
 use Rattle.rules.specs.merged_world_rules.Merge.{Merge, IsMerge, before, output}
@@ -59,6 +59,9 @@ abbrev is_plain : CoreSig → Bool
 is_plain (core.Prim code) = true
 is_plain (core.Class token) = is_table_type token
 is_plain (core.Value token) = is_table_type token
+is_plain (core.Prims code) = true
+is_plain (core.Classes token) = is_table_type token
+is_plain (core.MVar n) = true
 
 abbrev are_plain : CoreParams → Bool
 are_plain Zero = true
@@ -157,6 +160,31 @@ module _ (m : Merge) (is : IsMerge m) (rows : HasReferenceRows m) (a : ℕ) (las
         ∙ ap (sig_expr now) (new_is (Sig-F.Prim n) (sig.Prim n) (sig.rolls-Prim n)) ∙ layer now (Sig-F.Prim n) (sig.Prim n) (sig.rolls-Prim n) ∙ ap Good (sym (move_prim (rho_of m) n));
   }
 
+  mvar_moves : (n : ℕ) → Moves (sig.MVar n)
+  mvar_moves n = record {
+    old = expr.MVar n;
+    reads = layer past (Sig-F.MVar n) (sig.MVar n) (sig.rolls-MVar n);
+    again = λ w.
+        ap (λ (s : Sig). sig_expr now (new_sig (output m) s)) (world_is (Sig-F.MVar n) (sig.MVar n) (sig.rolls-MVar n))
+        ∙ ap (sig_expr now) (new_is (Sig-F.MVar n) (sig.MVar n) (sig.rolls-MVar n)) ∙ layer now (Sig-F.MVar n) (sig.MVar n) (sig.rolls-MVar n) ∙ ap Good (sym (move_mvar (rho_of m) n));
+  }
+
+  -- a vector has the types of its elements
+  array_types : (s : Sig) → types_of_sig (world_sig (before m) a (core_of m) (sig.Array s)) ≡ types_of_sig (world_sig (before m) a (core_of m) s)
+  array_types s =
+      ap types_of_sig (world_is (Sig-F.Array s) (sig.Array s) (sig.rolls-Array s)) ∙ ap (flat_map type_of_number) (numbers (Sig-F.Array (ws s)) (sig.Array (ws s)) (sig.rolls-Array (ws s)))
+
+  array_moves : (s : Sig) → Moves s → Moves (sig.Array s)
+  array_moves s x = record {
+    old = expr.Array x.old;
+    reads = layer past (Sig-F.Array s) (sig.Array s) (sig.rolls-Array s) ∙ ap (known_map (λ (e : TypeExpr). expr.Array e)) x.reads;
+    again = λ w.
+        (let new : Sig = new_sig (output m) (ws s) in
+        ap (λ (s : Sig). sig_expr now (new_sig (output m) s)) (world_is (Sig-F.Array s) (sig.Array s) (sig.rolls-Array s))
+        ∙ ap (sig_expr now) (new_is (Sig-F.Array (ws s)) (sig.Array (ws s)) (sig.rolls-Array (ws s))) ∙ layer now (Sig-F.Array new) (sig.Array new) (sig.rolls-Array new)
+        ∙ ap (known_map (λ (e : TypeExpr). expr.Array e)) (x.again (subst (λ (ts : List TypeId). AreHere ts) (array_types s) w)) ∙ ap Good (sym (move_array (rho_of m) x.old)));
+  }
+
   class_is : (w n : ℕ) (e : TypeExpr) → named_type (before m) a (core_of m) w ≡ Good e → number_of (before m) (Good e) ≡ suc n → class_number (before m) a (core_of m) w ≡ suc n
   unfolding class_number
   class_is w n e f g = ap (λ (k : Known TypeExpr). found_or (number_of (before m) k) (absent_number (before m) a w)) f ∙ ap (λ (i : ℕ). found_or i (absent_number (before m) a w)) g
@@ -191,6 +219,9 @@ module _ (m : Merge) (is : IsMerge m) (rows : HasReferenceRows m) (a : ℕ) (las
   plain_moves (core.Prim code) h = prim_moves code
   plain_moves (core.Class token) h = named_moves false token h
   plain_moves (core.Value token) h = named_moves true token h
+  plain_moves (core.Prims code) h = array_moves (sig.Prim code) (prim_moves code)
+  plain_moves (core.Classes token) h = array_moves (sig.Named false token) (named_moves false token h)
+  plain_moves (core.MVar n) h = mvar_moves n
 
   -- ---- parameters
 

@@ -51,6 +51,9 @@ abbrev is_prim : CoreSig → Bool
 is_prim (core.Prim code) = true
 is_prim (core.Class token) = false
 is_prim (core.Value token) = false
+is_prim (core.Prims code) = false
+is_prim (core.Classes token) = false
+is_prim (core.MVar n) = false
 
 abbrev is_prim_field : CoreField → Bool
 is_prim_field f = is_prim f.signature
@@ -71,6 +74,9 @@ prim_row : (c : CoreSig) (row : FieldRow) → is_prim c ≡ true → row.signatu
 prim_row (core.Prim code) row h e = record { code = code; signature = e }
 prim_row (core.Class token) row h e = absurd (cc)
 prim_row (core.Value token) row h e = absurd (cc)
+prim_row (core.Prims code) row h e = absurd (cc)
+prim_row (core.Classes token) row h e = absurd (cc)
+prim_row (core.MVar n) row h e = absurd (cc)
 
 in_fields : (fs : List CoreField) (rest : List FieldRow) → list_all is_prim_field fs ≡ true → ((k : ℕ) (row : FieldRow) → slice_get rest k ≡ Some row → PrimRow row)
     → (k : ℕ) (row : FieldRow) → slice_get (field_rows fs ++ rest) k ≡ Some row → PrimRow row

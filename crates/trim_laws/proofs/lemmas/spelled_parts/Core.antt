@@ -1,12 +1,13 @@
--- Signatures of the core library's members are primitives, and types of its own table; its methods have no bodies.
-use Rattle.std.proofs.Common.{◌≡◌, ℕ, ◌/◌, List, [], ◌∷◌, map, Bool, true, false, ◌&&◌, inl, refl, arith, eqb-true}
-use Rattle.std.specs.Prelude.{All, ◌==◌}
+-- Signatures of the core library's members are primitives, types of its own table, vectors of these and parameters of methods; its methods have no bodies.
+use Rattle.std.proofs.Common.{◌≡◌, ℕ, ◌/◌, List, [], ◌∷◌, map, Bool, true, false, ◌&&◌, inl, refl, arith, eqb-true, ltb-true}
+use Rattle.std.specs.Prelude.{All, ◌==◌, nat_lt}
 use Rattle.std.specs.List.{list_all}
 use Rattle.std.proofs.lemmas.Bool.{and_parts}
 use Rattle.std.proofs.lemmas.List.Elements.{All-nil}
 use Rattle.il_base.specs.declared.sig.Sig.{Sig}
+use Rattle.il_base.specs.declared.sig.Sig.TheVariants as sig
 use Rattle.il_base.specs.blob_grammar.Signatures.{is_primitive, levels, IsType, IsMethod, IsProperty, IsField, AreLocals, IsInstance}
-use Rattle.il_base.specs.blob_grammar.Values.{FitsType, FitTypes, FitRow, FitsMethod, primitive, named, none, more}
+use Rattle.il_base.specs.blob_grammar.Values.{FitsType, FitTypes, FitRow, FitsMethod, primitive, named, of_method, vector, none, more}
 use Rattle.il_base.specs.declared.world_model.members.FieldRow.{FieldRow}
 use Rattle.il_base.specs.declared.world_model.members.MethodDefRow.{MethodDefRow}
 use Rattle.il_base.specs.declared.world_model.members.MemberRefRow.{MemberRefRow}
@@ -37,10 +38,16 @@ use Rattle.trim_laws.proofs.lemmas.spelled_parts.Recs.{Values}
 abbrev is_type : ℕ → Bool
 is_type token = token / 16777216 == 2
 
+abbrev is_short : ℕ → Bool
+is_short n = nat_lt n 536870912
+
 abbrev fits_sig : CoreSig → Bool
 fits_sig (core.Prim n) = is_primitive n
 fits_sig (core.Class token) = is_type token
 fits_sig (core.Value token) = is_type token
+fits_sig (core.Prims n) = is_primitive n
+fits_sig (core.Classes token) = is_type token
+fits_sig (core.MVar n) = is_short n
 
 abbrev fit_params : CoreParams → Bool
 fit_params Zero = true
@@ -50,7 +57,7 @@ fit_params (Three a b c) = fits_sig a && fits_sig b && fits_sig c
 fit_params (Four a b c d) = fits_sig a && fits_sig b && fits_sig c && fits_sig d
 
 abbrev fits_method : CoreMethod → Bool
-fits_method m = fits_sig m.ret && fit_params m.params
+fits_method m = is_short m.type_params && fits_sig m.ret && fit_params m.params
 
 abbrev fits_field : CoreField → Bool
 fits_field f = fits_sig f.signature
@@ -68,6 +75,9 @@ sig_fits : (c : CoreSig) → fits_sig c ≡ true → FitsType levels (sig_of c)
 sig_fits (core.Prim n) h = primitive levels n h
 sig_fits (core.Class token) h = named levels false token (inl (eqb-true (token / 16777216) 2 h))
 sig_fits (core.Value token) h = named levels true token (inl (eqb-true (token / 16777216) 2 h))
+sig_fits (core.Prims n) h = vector 63 (sig.Prim n) (primitive 63 n h)
+sig_fits (core.Classes token) h = vector 63 (sig.Named false token) (named 63 false token (inl (eqb-true (token / 16777216) 2 h)))
+sig_fits (core.MVar n) h = of_method levels n (ltb-true n 536870912 h)
 
 one_more : (c : CoreSig) (ss : List Sig) → fits_sig c ≡ true → FitTypes levels ss → FitTypes levels (sig_of c ∷ ss)
 one_more c ss h t = more levels (sig_of c) ss (sig_fits c h) t
@@ -89,7 +99,10 @@ params_fit (Four a b c d) h =
 
 method_fits : (m : CoreMethod) → fits_method m ≡ true → FitsMethod (signature_of m)
 unfolding signature_of
-method_fits m h = let p = and_parts (fits_sig m.ret) (fit_params m.params) h in record { generic = omega arith; ret = sig_fits m.ret p.0; params = params_fit m.params p.1 }
+method_fits m h =
+    let p = and_parts (is_short m.type_params && fits_sig m.ret) (fit_params m.params) h in
+    let q = and_parts (is_short m.type_params) (fits_sig m.ret) p.0 in
+    record { generic = ltb-true m.type_params 536870912 q.0; ret = sig_fits m.ret q.1; params = params_fit m.params p.1 }
 
 -- ---- rows
 

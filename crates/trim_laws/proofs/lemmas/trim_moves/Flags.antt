@@ -1,5 +1,5 @@
 -- The flags of rows are what the merge keeps.
-use Rattle.std.proofs.Common.{◌≡◌, ◌<◌, ◌≤◌, ℕ, suc, Bool, true, false, List, [], ◌∷◌, length, Option, Some, inl, inr, refl, sym, ap, ◌∙◌, arith}
+use Rattle.std.proofs.Common.{◌≡◌, ◌<◌, ◌≤◌, suc, Bool, true, false, List, length, Option, Some, inl, inr, refl, sym, ap, ◌∙◌, arith}
 use Rattle.std.specs.Prelude.{IsTrue, slice_get, nat_le, not, ◌==◌, ◌&&◌, ◌||◌, if◌then◌else◌}
 use Rattle.std.specs.List.{list_any}
 use Rattle.std.specs.Option.{is_some}
@@ -9,33 +9,32 @@ use Rattle.il_base.specs.declared.ids.Item.{Item}
 use Rattle.il_base.specs.declared.ids.Item.TheVariants as item
 use Rattle.descriptor_file.specs.declared.root.Root.{Root}
 use Rattle.il_base.specs.declared.world_model.record.AsmRec.{AsmRec}
-use Rattle.il_base.specs.world_model.Records.{IsRecord}
 use Rattle.il_base.specs.world_model.Worlds.{types_in, type_id}
 use Rattle.il_base.specs.core_table.Record.{core_record}
 use Rattle.il_base.specs.declared.core_table.types.TheConstants.{TYPES}
 use Rattle.rules.specs.declared.link_rules.row_at.RowAt.{RowAt}
-use Rattle.rules.specs.link_rules.Members.{home_from, type_home, methods_in, fields_in}
+use Rattle.rules.specs.link_rules.Members.{type_home, methods_in, fields_in}
 use Rattle.rules.specs.link_rules.Cycles.{listed}
 use Rattle.rules.specs.mark_rules.Facts.{Fact, start}
 use Rattle.rules.specs.mark_rules.Facts.Fact.{marked}
-use Rattle.rules.specs.mark_rules.Places.{impls_in, type_item, method_item, field_item, impl_item, row_of, is_core}
+use Rattle.rules.specs.mark_rules.Places.{impls_in, type_item, method_item, field_item, impl_item, row_of}
 use Rattle.rules.specs.mark_rules.Marking.{is_core_fact, given, marking, Marks}
 use Rattle.mark_numbers.specs.Numbers.{is_there}
 use Rattle.rules.specs.change_rules.Change.{Keep}
 use Rattle.rules.specs.world_change_rules.Places.{keeps_type_row, keeps_method_row, keeps_field_row}
-use Rattle.run_laws.specs.marked_laws.Flags.{is_added_row, is_added, keep_of, kept_of}
+use Rattle.run_laws.specs.marked_laws.Flags.{is_added_row, is_added, keep_of}
 use Rattle.run_laws.proofs.lemmas.marked_laws.Places.{last_is_core}
+use Rattle.base_laws.proofs.lemmas.world_laws.Inputs.{nesting_kept}
 use Rattle.run_laws.proofs.lemmas.marked_laws.Joined.{rows_kept}
 use Rattle.run_laws.proofs.lemmas.closed_laws.Runs.{runs_end}
 use Rattle.rules.specs.merged_world_rules.Merge.{Merge, before, names_before, names_after}
-use Rattle.rules.specs.merged_world_rules.Numbering.{number_at}
 use Rattle.rules.specs.merged_world_rules.NewNumbers.{type_core}
 use Rattle.rules.specs.merged_world_rules.Kept.{HasFlags}
 use Rattle.merge_laws.proofs.lemmas.merged_places.Rows.{IsThere, there_home, place_within}
 use Rattle.merge_laws.proofs.lemmas.merged_places.Whole.{row_there}
 use Rattle.merge_laws.proofs.lemmas.merged_places.CoreRows.{own_goes}
 use Rattle.merge_laws.proofs.lemmas.merged_rows_move.Core.{type_count}
-use Rattle.trim_laws.specs.marked_merge_rules.Merges.{IsMarkedMerge, AreFacts, stays_there, flags_of}
+use Rattle.trim_laws.specs.marked_merge_rules.Merges.{stays_there, flags_of}
 use Rattle.trim_laws.specs.trim_moves.Laws.{keep_by, kept_by, IsFlagged}
 
 -- two tests that pass in the same cases
@@ -206,5 +205,5 @@ module _ (m : Merge) (entry : Option RowAt) (roots : List Root) (holds : Fact �
     core_types = λ at t last e. core_type at (row_there (λ rec. rec.type_def) world at t e) last;
     core_methods = λ at r last e. core_method at (row_there (λ rec. rec.method_def) world at r e) last;
     core_fields = λ at f last e. core_field at (row_there (λ rec. rec.field) world at f e) last;
-    keeps = rows_kept m.inputs entry roots has flagged.merge.merge.links flagged.marks (runs_end m.inputs flagged.merge.merge.records);
+    keeps = rows_kept m.inputs entry roots has flagged.merge.merge.links flagged.marks (runs_end m.inputs flagged.merge.merge.records) (nesting_kept m.inputs flagged.merge.merge.records);
   }

@@ -13,7 +13,8 @@ returns c =
       box = λ k q' q a here i s e r c. types.box_lock k q' q a here i s c (record { method = r.method; code = r.code; targs = r.targs; margs = r.margs }) (first_so _ _ r.instruction)
           (subst (λ f. IsTrue (keeps_of_form k.keep i.opcode f i.operand)) e (second_so _ _ r.instruction));
       unbox = λ k q' q a here i s r y c. types.unbox_lock k q' q a here i s c (record { method = r.method; code = r.code; targs = r.targs; margs = r.margs }) (first_so _ _ r.instruction);
-      load_token = λ k q' q a here i s r y c. types.load_token_lock k q' q a here i s c (record { method = r.method; code = r.code; targs = r.targs; margs = r.margs }) (first_so _ _ r.instruction);
+      load_token = λ k q' q a here i s e r c. types.load_token_lock k q' q a here i s c (record { method = r.method; code = r.code; targs = r.targs; margs = r.margs }) (first_so _ _ r.instruction)
+          (subst (λ f. IsTrue (keeps_of_form k.keep i.opcode f i.operand)) e (second_so _ _ r.instruction));
       new_array_form = λ k q' q a here i s e r c. arrays.new_array_form_lock k q' q a here i s c (record { method = r.method; code = r.code; targs = r.targs; margs = r.margs }) (first_so _ _ r.instruction)
           (subst (λ f. IsTrue (keeps_of_form k.keep i.opcode f i.operand)) e (second_so _ _ r.instruction));
       element_form = λ k q' q a here i s r y c. arrays.element_form_lock k q' q a here i s c (record { method = r.method; code = r.code; targs = r.targs; margs = r.margs }) (first_so _ _ r.instruction);

@@ -8,7 +8,7 @@ pub returns : goal.returns
 returns c =
     let p = c.args.program.now in
     let kept = kept_by c.args.kept.now in
-    trimmed (recs_of p) p.entry p.roots.now kept c.requires.kept c.requires.good c.requires.unique p.internal c.args.left.now c.requires.left
+    trimmed (recs_of p) p.entry p.roots.now kept c.requires.kept c.requires.good c.requires.followed c.requires.unique p.internal c.args.left.now c.requires.left
     (record { bytes = c.in-Ok.bytes; kept = c.in_ok-kept.kept }) (holds c.args.marked.now) c.requires.marked c.in-Ok.ensures.is c.in-Ok.ensures.can c.in-Ok.ensures.within c.in_ok-kept.ensures
 
 pub file_of-requires : goal.file_of-requires
