@@ -157,8 +157,8 @@ fn needs_by<'a>(
     ensures not_yet { IfOk result (λ n. IsFirstNotYet (all_of marker.now) (Marks (all_of marker.now) entry roots.now) n.not_yet) }
 {
     let marked = marked_of(alloc, marker, attributes, entry, roots)?;
-    let flaw = flaw_of(alloc, marker, attributes, &marked, tables, entry)?;
     let not_yet = first_not_yet(alloc, marker, &marked)?;
+    let flaw = flaw_of(alloc, marker, attributes, &marked, tables, entry)?;
     Ok(Needs {
         marked,
         flaw,

@@ -44,7 +44,7 @@ pub(crate) fn plain_reference(v: &Value) -> Option<Value>
 }
 
 /// Whether a comparison of two int32 is true.
-#[tactic(auto, unfolding(rules::specs::step_rules::Numbers::comparison, rules::specs::step_rules::Comparisons::test, rules::specs::step_rules::Comparisons::numbers, rules::specs::step_rules::Comparisons::compares))]
+#[tactic(auto, unfolding(rules::specs::step_rules::Numbers::comparison, crate::specs::Opened::compared))]
 fn compared32(code: u16, a: i32, b: i32) -> Option<bool>
     ensures { IfSome result (λ yes. option_and_then (λ t. test t (value.I4 a) (value.I4 b)) (comparison code) ≡ Some yes) }
 {
@@ -146,7 +146,7 @@ pub(crate) fn converted(code: u16, v: &Value) -> Option<Value>
 
 /// Whether the test of a branch on two int32 is true (III.3.5 to III.3.14).
 #[inline(always)]
-#[tactic(auto, unfolding(rules::specs::step_rules::Branches::test_of, rules::specs::step_rules::Comparisons::test, rules::specs::step_rules::Comparisons::numbers, rules::specs::step_rules::Comparisons::compares))]
+#[tactic(auto, unfolding(rules::specs::step_rules::Branches::test_of, crate::specs::Opened::compared))]
 fn holds32(code: u16, a: i32, b: i32) -> Option<bool>
     ensures { IfSome result (λ yes. option_and_then (λ t. test t (value.I4 a) (value.I4 b)) (test_of code) ≡ Some yes) }
 {
