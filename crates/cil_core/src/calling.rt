@@ -7,6 +7,7 @@ ghost use Rattle.machine_words.specs.cil_closing.Callees.{callee_by};
 ghost use Rattle.cil_core.specs.cil_members.Outs.{gives_by};
 
 use crate::cil_members::{CoreOut, Taken, checked, raised, stopped_member, stuck_member};
+use crate::cil_type_members::find_form;
 use crate::members::simple;
 use crate::virtual_members::{equal_form, print_object};
 use il_base::cil_values::{CoreCall, Printed, State, Value};
@@ -38,6 +39,7 @@ fn member<Q: Answers>(
             Printed::OfChar => simple(alloc, q, called, args, st, printed),
         },
         CoreCall::AreEqual => equal_form(alloc, q, args, st, printed),
+        CoreCall::TypeFind(throws) => find_form(alloc, q, throws, args, st),
         _ => simple(alloc, q, called, args, st, printed),
     }
 }

@@ -28,7 +28,7 @@ use il_base::cil_values::{CoreCall, State, Value};
 use machine_words::cil_queries::Answers;
 use std::alloc::Global;
 
-/// A member that calls no method, with its arguments as it takes them. Members that call are stuck here.
+/// A member that calls no method and searches for nothing, with its arguments as it takes them. Others are stuck here.
 #[tactic(auto, unfolding(rules::specs::step_rules::Core::simple))]
 pub(crate) fn simple<Q: Answers>(
     alloc: Global,
@@ -91,6 +91,7 @@ pub(crate) fn simple<Q: Answers>(
         CoreCall::TypeIsValue => type_is_value(alloc, q, args, st),
         CoreCall::TypeIsInterface => Ok(type_is_interface(q, args, st)),
         CoreCall::TypeIsArray => Ok(type_is_array(args, st)),
+        CoreCall::TypeFind(_) => Ok(stuck_member(st)),
         CoreCall::AreEqual => Ok(stuck_member(st)),
     }
 }

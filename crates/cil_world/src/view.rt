@@ -8,7 +8,7 @@ use crate::kept::{all_kept, cells_in};
 use crate::world_definitions::Definitions;
 use crate::world_layouts::Layouts;
 use crate::world_types::ClosedTypes;
-use il_base::cil_values::{CoreCall, FieldDef, Head, Instruction, Layout, Method, Shape};
+use il_base::cil_values::{CoreCall, FieldDef, Head, Instruction, Layout, Method, Shape, Sought};
 use il_base::core_table::CoreName;
 use il_base::world_model::{MethodUse, TypeExpr, World};
 use il_base::{NoMemory, Seq, Text};
@@ -133,6 +133,10 @@ impl<'w> Answers for View<'w> {
 
     fn encloser(&self, ty: u32) -> Option<u32> {
         self.layouts.definitions().encloser(ty)
+    }
+
+    fn find(&self, alloc: Global, method: u32, text: &[u8]) -> Result<Sought, NoMemory> {
+        self.types.find(alloc, method, text)
     }
 
     fn kin(&self, alloc: Global, ty: &TypeExpr) -> Result<Option<CoreName>, NoMemory> {

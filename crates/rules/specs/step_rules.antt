@@ -17,6 +17,7 @@ pub mod Throws
 pub mod Dispatch
 pub mod CoreWords
 pub mod CoreObjects
+pub mod CoreSearches
 pub mod CoreTexts
 pub mod Input
 pub mod CoreConsole

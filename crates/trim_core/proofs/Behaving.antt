@@ -226,6 +226,7 @@ module _ (behave : TrimsBehave) (merging : FilesMerge) where
           within = trims.within;
         };
         facts = trims.facts;
+        followed = trims.followed;
         apart = record { seen = trims.unique.seen; exact = trims.unique.exact; none = trims.unique.first };
         begins = record { first = record_at f; there = refl; names = e.names; below = e.below; is = ap (option_map (at_row 0)) e.names };
         can = trims.can;

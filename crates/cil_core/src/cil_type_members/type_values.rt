@@ -19,7 +19,7 @@ use machine_words::cil_queries::Answers;
 use std::alloc::Global;
 
 /// The member gives the object of a type.
-fn gives_type(alloc: Global, ty: &TypeExpr, st: &mut State) -> Result<CoreOut, NoMemory>
+pub(crate) fn gives_type(alloc: Global, ty: &TypeExpr, st: &mut State) -> Result<CoreOut, NoMemory>
     ensures { IfOk result (λ out. (give : Gives) → gives_by out st.new [] give ≡ gives_type ty.now st.old give) }
 {
     let at = typed(alloc, st, ty)?;

@@ -840,12 +840,19 @@ fn exception_call(owner: CoreName, name: CoreName, params: CoreParams) -> Option
     }
 }
 
-/// Members of Type. A search for a type by its name, or for members, ends the run.
-fn type_call(name: CoreName) -> Option<CoreCall>
-    ensures { result ≡ type_call name }
+/// Members of Type. A search for members ends the run.
+fn type_call(name: CoreName, params: CoreParams) -> Option<CoreCall>
+    ensures { result ≡ type_call name params }
 {
     match name {
         CoreName::GetTypeFromHandle => Some(CoreCall::TypeFromHandle),
+        CoreName::GetType => match params {
+            CoreParams::One(_) => Some(CoreCall::TypeFind(false)),
+            CoreParams::Zero
+            | CoreParams::Two(_, _)
+            | CoreParams::Three(_, _, _)
+            | CoreParams::Four(_, _, _, _) => Some(CoreCall::TypeFind(true)),
+        },
         CoreName::GetNamespace => Some(CoreCall::TypeNamespace),
         CoreName::GetFullName => Some(CoreCall::TypeFullName),
         CoreName::ToString => Some(CoreCall::TypeText),
@@ -923,7 +930,6 @@ fn type_call(name: CoreName) -> Option<CoreCall>
         | CoreName::Constructor
         | CoreName::GetHashCode
         | CoreName::Finalize
-        | CoreName::GetType
         | CoreName::ReferenceEquals
         | CoreName::CompareTo
         | CoreName::Parse
@@ -1105,7 +1111,7 @@ pub(crate) fn call_by(owner: CoreName, name: CoreName, params: CoreParams) -> Op
         CoreName::String => string_call(name, params),
         CoreName::Array => Some(CoreCall::ArrayLength),
         CoreName::Console => console_call(name, params),
-        CoreName::Type => type_call(name),
+        CoreName::Type => type_call(name, params),
         CoreName::MemberInfo => member_info_call(name),
         CoreName::MethodBase => Some(CoreCall::Halts),
         CoreName::MethodInfo => Some(CoreCall::Halts),

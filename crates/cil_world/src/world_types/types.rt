@@ -8,15 +8,15 @@ ghost use Rattle.rules.specs.type_rules.Texts.{text};
 ghost use Rattle.rules.specs.type_rules.Labels.{label, space};
 ghost use Rattle.type_tables.specs.Tables.{IsTables};
 ghost use Rattle.rules.specs.view_rules.Members.{core_call};
-ghost use Rattle.rules.specs.view_rules.Answers.{core_type_id, core_method_id, answers_query, nearest_core};
+ghost use Rattle.rules.specs.view_rules.Answers.{core_type_id, core_method_id, answers_query, find_query, nearest_core};
 
 use crate::world_core::{core_call, core_type_row};
 use crate::world_types::answered::{
     Answered, all_answers, copied, find_answer, kept_answer, kept_led,
 };
 use crate::world_types::core_rows::CoreRows;
-use crate::world_types::{bases, kin};
-use il_base::cil_values::CoreCall;
+use crate::world_types::{bases, kin, sought};
+use il_base::cil_values::{CoreCall, Sought};
 use il_base::core_table::CoreName;
 use il_base::world_model::{AsmRec, MethodUse, TypeExpr, World};
 use il_base::{MethodId, NoMemory, Text};
@@ -164,6 +164,13 @@ impl<'w> ClosedTypes<'w> {
         ensures { IfOk result (λ t. t ≡ space self.now.recs ty.now) }
     {
         self.names.space(alloc, ty)
+    }
+
+    /// The type that a text in UTF-8 names for a method: it is looked for in the method's assembly and then in the core library.
+    pub fn find(&self, alloc: Global, method: u32, text: &[u8]) -> Result<Sought, NoMemory>
+        ensures { IfOk result (λ sought. sought ≡ find_query self.now.recs method text.now) }
+    {
+        sought::find(alloc, self.recs(), &self.names, MethodId(method), text)
     }
 
     /// The nearest type of the core library among a type and its bases.

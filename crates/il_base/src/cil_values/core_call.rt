@@ -111,6 +111,8 @@ pub enum CoreCall {
     TypeIsInterface,
     /// Type.get_IsArray().
     TypeIsArray,
+    /// Type.GetType(string), or with true Type.GetType(string, bool).
+    TypeFind(bool),
     /// MemberInfo.get_Name().
     MemberName,
     /// MemberInfo.get_DeclaringType().

@@ -3,7 +3,7 @@ ghost use Rattle.std.specs.Option.{option_copied};
 ghost use Rattle.rules.specs.step_rules.Queries.{Queries};
 ghost use Rattle.machine_words.specs.cil_queries.Bodies.{instruction_of};
 
-use il_base::cil_values::{CoreCall, FieldDef, Head, Instruction, Layout, Method, Shape};
+use il_base::cil_values::{CoreCall, FieldDef, Head, Instruction, Layout, Method, Shape, Sought};
 use il_base::core_table::CoreName;
 use il_base::world_model::{MethodUse, TypeExpr};
 use il_base::{NoMemory, Seq, Text};
@@ -84,6 +84,10 @@ pub trait Answers {
     /// The type definition that another is nested in (II.22.32).
     fn encloser(&self, ty: u32) -> Option<u32>
         ensures { result ≡ (queries self.now).encloser ty };
+
+    /// The type that a text in UTF-8 names for a method: it is looked for in the method's assembly and then in the core library.
+    fn find(&self, alloc: Global, method: u32, text: &[u8]) -> Result<Sought, NoMemory>
+        ensures { IfOk result (λ sought. sought ≡ (queries self.now).find method text.now) };
 
     /// The nearest type of the core library among a type and its bases.
     fn kin(&self, alloc: Global, ty: &TypeExpr) -> Result<Option<CoreName>, NoMemory>

@@ -7,16 +7,18 @@ use Rattle.il_base.specs.declared.world_model.expr.TypeExpr.{TypeExpr}
 use Rattle.il_base.specs.declared.world_model.expr.MethodUse.{MethodUse}
 use Rattle.il_base.specs.declared.core_table.names.CoreName.{CoreName}
 use Rattle.il_base.specs.declared.core_table.names.CoreName.TheVariants as name
+use Rattle.il_base.specs.declared.cil_values.core_call.CoreCall.{CoreCall}
 use Rattle.il_base.specs.declared.cil_values.definition.Method.{Method}
 use Rattle.il_base.specs.declared.cil_values.definition.FieldDef.{FieldDef}
 use Rattle.rules.specs.step_rules.Queries.{Queries}
 use Rattle.rules.specs.step_rules.Stores.{is_value}
+use Rattle.rules.specs.step_rules.CoreSearches.{searches}
 use Rattle.rules.specs.change_rules.Keeping.{keep}
 use Rattle.rules.specs.change_rules.Change.{Keep, Change}
 use Rattle.rules.specs.change_rules.Moves.{move_expr, move_use}
 use Rattle.rules.specs.change_rules.Answers.{move_method, move_field, move_layout, move_shape}
 use Rattle.rules.specs.change_rules.States.{mask}
-use Rattle.rules.specs.change_rules.Keeps.{keeps_expr, keeps_defined, shows_expr, makes_expr, keeps_made, keeps_use, is_of_owner, keeps_method, keeps_field, keeps_layout, keeps_shape}
+use Rattle.rules.specs.change_rules.Keeps.{keeps_expr, keeps_defined, shows_expr, makes_expr, keeps_made, can_call, keeps_use, is_of_owner, keeps_method, keeps_field, keeps_layout, keeps_shape}
 
 -- the types of the core library that a step asks for by name: those of the exceptions that it raises, and of objects of reflection
 unfoldable pub is_asked : CoreName → Bool
@@ -49,6 +51,8 @@ keeps_core k t = k.typ t && k.made t && k.shown t
 pub record Agree (k : Change) (after before : Queries) : Type 0 where
   -- ---- the same answers, with new numbers
   pub core : (m : ℕ) → IsTrue (k.keep.method m) → after.core (k.rho.method m) ≡ before.core m
+  -- no method that can be called is a member that searches: what such a member gives depends on what isn't kept, too
+  pub searches_nothing : (m : ℕ) (c : CoreCall) → IsTrue (k.keep.called m) → before.core m ≡ Some c → searches c ≡ false
   pub known : (n : CoreName) → IsTrue (is_asked n) → after.known n ≡ k.rho.typ (before.known n)
   pub method : (m : ℕ) → IsTrue (k.keep.method m) → after.method (k.rho.method m) ≡ option_map (move_method k.rho) (before.method m)
   pub field : (f : ℕ) → IsTrue (k.keep.field f) → after.field (k.rho.field f) ≡ option_map (move_field k.rho) (before.field f)
@@ -78,12 +82,12 @@ pub record Agree (k : Change) (after before : Queries) : Type 0 where
   pub keeps_shapes : (e : TypeExpr) → IsTrue (keeps_expr k.keep e) → IsTrue (keeps_shape k.keep (before.shape e))
   pub keeps_cells : (e : TypeExpr) → IsTrue (keeps_expr k.keep e)
       → IsTrue (list_all (keeps_layout k.keep) (keep (mask k.keep (before.cells e)) (before.cells e)))
-  pub keeps_starts : (t m : ℕ) → IsTrue (k.keep.begun t) → before.starts t ≡ Some m → IsTrue (k.keep.method m)
+  pub keeps_starts : (t m : ℕ) → IsTrue (k.keep.begun t) → before.starts t ≡ Some m → IsTrue (can_call k.keep m)
   pub keeps_answers : (e owner : TypeExpr) (m : ℕ) (u : MethodUse) → IsTrue (keeps_made k.keep e) → IsTrue (keeps_expr k.keep owner)
       → IsTrue (k.keep.method m) → IsTrue (is_of_owner (before.method m) owner) → before.answers e owner m ≡ Some u → IsTrue (keeps_use k.keep u)
   -- a type around one that is shown
   pub keeps_encloser : (t u : ℕ) → IsTrue (k.keep.shown t) → before.encloser t ≡ Some u → IsTrue (k.keep.typ u && k.keep.shown u)
-  pub keeps_to_string : IsTrue (k.keep.method before.to_string)
-  pub keeps_equals : IsTrue (k.keep.method before.equals)
+  pub keeps_to_string : IsTrue (can_call k.keep before.to_string)
+  pub keeps_equals : IsTrue (can_call k.keep before.equals)
   -- there can be objects of each value type that is kept
   pub makes_values : (e : TypeExpr) → IsTrue (keeps_expr k.keep e) → is_value before e ≡ true → IsTrue (makes_expr k.keep e)

@@ -24,6 +24,8 @@ pub record Keep : Type 0 where
   pub shown : ℕ → Bool
   -- a type whose initializer an access can begin
   pub begun : ℕ → Bool
+  -- a method that can be called: any but a member of the core library that searches
+  pub called : ℕ → Bool
 
 pub record Change : Type 0 where
   pub rho : Rho

@@ -107,8 +107,12 @@ begins_expr k e = definition_passes k.begun (out-TypeExpr (plain e))
 abbrev pub keeps_made : Keep → TypeExpr → Bool
 keeps_made k e = shows_expr k e && makes_expr k e
 
+-- a method that is kept and can be called
+abbrev pub can_call : Keep → ℕ → Bool
+can_call k m = k.method m && k.called m
+
 abbrev pub keeps_use : Keep → MethodUse → Bool
-keeps_use k u = k.method u.method.0 && keeps_expr k u.owner && list_all (shows_expr k) u.args
+keeps_use k u = can_call k u.method.0 && keeps_expr k u.owner && list_all (shows_expr k) u.args
 
 -- what is bad is the same in both worlds
 abbrev pub if_good : {A : Type 0} → (A → Bool) → Known A → Bool

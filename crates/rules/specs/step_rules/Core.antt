@@ -24,9 +24,10 @@ use Rattle.rules.specs.step_rules.CoreObjects.{halt, idle_form, type_name_form, 
 use Rattle.rules.specs.step_rules.CoreTexts.{string_length_form, string_unit_form, string_index_form, string_concat_form, string_from_form, string_part_form, string_itself_form, string_same_form, string_other_form, string_is_form, string_is_empty_form, string_compare_form, int_parse_form}
 use Rattle.rules.specs.step_rules.CoreConsole.{print_form, line_end_form, read_unit_form, read_line_form}
 use Rattle.rules.specs.step_rules.CoreArrays.{array_length_form, fill_array_form}
+use Rattle.rules.specs.step_rules.CoreSearches.{find_form}
 use Rattle.rules.specs.step_rules.CoreTypes.{type_from_handle_form, object_type_form, type_encloser_form, type_text_form, type_full_name_form, type_namespace_form, type_name_alone_form, type_other_form, type_fits_form, type_has_form, type_is_value_form, type_is_interface_form, type_is_array_form}
 
--- ---- members that call nothing
+-- ---- members that call nothing; a member that searches isn't virtual, so no slot leads to it
 
 unfoldable pub simple : CoreCall → CoreForm
 simple core.Halts = halt
@@ -78,6 +79,7 @@ simple core.TypeHas = type_has_form
 simple core.TypeIsValue = type_is_value_form
 simple core.TypeIsInterface = type_is_interface_form
 simple core.TypeIsArray = type_is_array_form
+simple (core.TypeFind throws) = λ q args s give. stuck s
 simple core.AreEqual = λ q args s give. stuck s
 
 -- ---- members that call
@@ -136,6 +138,7 @@ equal_form q _ s give = stuck s
 unfoldable pub member : CoreCall → CoreForm
 member (core.Prints line of_object) = print_object line
 member core.AreEqual = equal_form
+member (core.TypeFind throws) = find_form throws
 member k = simple k
 
 -- a call, with all its arguments

@@ -10,6 +10,7 @@ use Rattle.il_base.specs.declared.cil_values.definition.FieldDef.{FieldDef}
 use Rattle.il_base.specs.declared.cil_values.definition.Head.{Head}
 use Rattle.il_base.specs.declared.cil_values.layout.Layout.{Layout}
 use Rattle.il_base.specs.declared.cil_values.layout.Shape.{Shape}
+use Rattle.il_base.specs.declared.cil_values.sought.Sought.{Sought}
 
 pub record Queries : Type 0 where
   -- the member of the core library that a method is; None for a method of an input, and for an abstract one
@@ -37,6 +38,8 @@ pub record Queries : Type 0 where
   pub space : TypeExpr → List ℕ
   -- the type definition that another is nested in (II.22.32)
   pub encloser : ℕ → Option ℕ
+  -- the type that a text in UTF-8 names for a method: it is looked for in the method's assembly
+  pub find : ℕ → List ℕ → Sought
   -- the nearest type of the core library among a type and its bases
   pub kin : TypeExpr → Option CoreName
   -- the slots of Object that the core library calls: ToString() and Equals(object)

@@ -27,6 +27,7 @@ use Rattle.il_base.specs.declared.cil_values.layout.Shape.{Shape}
 use Rattle.il_base.specs.declared.cil_values.layout.Shape.TheVariants.{Reference as reference, Integer as integer, Structure as structure, NoValue as no_value}
 use Rattle.il_base.specs.declared.cil_values.layout.Cell.TheVariants.{Field as of_field, Message as message, Inner as inner}
 use Rattle.il_base.specs.declared.cil_values.definition.First.TheVariants.{Blank as blank}
+use Rattle.il_base.specs.declared.cil_values.sought.Sought.TheVariants.{Missing as missing}
 use Rattle.rules.specs.step_rules.Queries.{Queries}
 use Rattle.il_base.specs.declared.cil_values.core_call.CoreCall.{CoreCall}
 use Rattle.il_base.specs.declared.cil_values.core_call.CoreCall.TheVariants.{Idle as idle, Prints as prints}
@@ -123,6 +124,7 @@ world code = record {
   label = λ e. [];
   space = λ e. [];
   encloser = λ t. None;
+  find = λ m text. missing;
   shape = λ e. shape_in (out-TypeExpr e);
   cells = λ e. cells_in (number_of (out-TypeExpr e));
   starts = λ t. None;

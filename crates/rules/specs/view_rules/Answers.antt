@@ -2,6 +2,7 @@
 use Rattle.std.specs.Prelude.{ℕ, suc, ◌+◌, ◌-◌, List, [], ◌∷◌, length, Option, Some, None, slice_get, ◌==◌, if◌then◌else◌}
 use Rattle.std.specs.List.{list_any}
 use Rattle.std.specs.Option.{option_and_then, option_map}
+use Rattle.il_base.specs.declared.ids.TypeId.{TypeId}
 use Rattle.il_base.specs.declared.ids.MethodId.{MethodId}
 use Rattle.il_base.specs.declared.world_model.expr.TypeExpr.{TypeExpr}
 use Rattle.il_base.specs.declared.world_model.expr.MethodUse.{MethodUse}
@@ -12,12 +13,19 @@ use Rattle.il_base.specs.declared.core_table.names.CoreName.TheVariants as core
 use Rattle.il_base.specs.declared.core_table.shape.CoreType.{CoreType}
 use Rattle.il_base.specs.declared.core_table.types.TheConstants.{TYPES}
 use Rattle.rules.specs.declared.link_rules.row_at.RowAt.{RowAt}
+use Rattle.il_base.specs.declared.cil_values.sought.Sought.{Sought}
+use Rattle.il_base.specs.declared.cil_values.sought.Sought.TheVariants as sought
+use Rattle.attr_blobs.specs.declared.name.NameRead.{NameRead}
+use Rattle.attr_blobs.specs.declared.name.NameRead.TheVariants as read
+use Rattle.attr_blobs.specs.Values.{name_of_text}
+use Rattle.rules.specs.link_rules.Signatures.{definition_expr}
 use Rattle.rules.specs.link_rules.Members.{type_home, methods_in, with_bases}
 use Rattle.rules.specs.link_rules.Cycles.{listed, same_row, home_of}
 use Rattle.rules.specs.type_rules.Subtypes.{is_subtype}
 use Rattle.rules.specs.type_rules.Slots.{method_home, type_of_method}
 use Rattle.rules.specs.type_rules.Dispatch.{dispatch, method_id}
 use Rattle.rules.specs.type_rules.Texts.{text}
+use Rattle.rules.specs.type_rules.Searches.{find_type}
 use Rattle.rules.specs.type_rules.Labels.{label, space, encloser_at}
 use Rattle.rules.specs.type_rules.Initializers.{initializer}
 use Rattle.rules.specs.step_rules.Queries.{Queries}
@@ -44,6 +52,22 @@ starts_query recs t = option_map (λ at. (method_id recs at).0) (option_and_then
 unfoldable pub encloser_query : List AsmRec → ℕ → Option ℕ
 encloser_query recs t =
     option_map (λ (at : RowAt). (type_id recs at.asm at.row).0) (option_and_then (encloser_at recs) (type_home recs (record { 0 = t })))
+
+-- ---- types by name
+
+abbrev pub sought_type : List AsmRec → Option TypeId → Sought
+sought_type recs None = sought.Missing
+sought_type recs (Some t) = elim (type_home recs t) [ None ↦ sought.Missing | Some at ↦ sought.Found (definition_expr recs at) ]
+
+abbrev pub sought_from : List AsmRec → ℕ → NameRead → Sought
+sought_from recs from (read.Name n) = sought_type recs (find_type recs from n)
+sought_from recs from read.Malformed = sought.Missing
+sought_from recs from read.Other = sought.Unread
+
+-- the type that a text names, looked for in the assembly of a method and then in the core library
+unfoldable pub find_query : List AsmRec → ℕ → List ℕ → Sought
+find_query recs m text =
+    elim (method_home recs (record { 0 = m })) [ None ↦ sought.Missing | Some at ↦ sought_from recs at.asm (name_of_text text) ]
 
 -- ---- virtual calls
 
@@ -94,6 +118,7 @@ queries_of recs = record {
   label = label recs;
   space = space recs;
   encloser = encloser_query recs;
+  find = find_query recs;
   kin = λ e. nearest_core recs (with_bases recs e);
   to_string = core_method_id recs core.ToString;
   equals = core_method_id recs core.Equals;

@@ -111,21 +111,23 @@ exception_call owner core.GetInnerException ps = Some call.GetInner
 exception_call owner core.ToString ps = Some call.Halts
 exception_call owner _ ps = None
 
--- a search for a type by its name, or for members, ends the run
-abbrev pub type_call : CoreName → Option CoreCall
-type_call core.GetTypeFromHandle = Some call.TypeFromHandle
-type_call core.GetNamespace = Some call.TypeNamespace
-type_call core.GetFullName = Some call.TypeFullName
-type_call core.ToString = Some call.TypeText
-type_call core.OpEquality = Some call.TypeSame
-type_call core.OpInequality = Some call.TypeOther
-type_call core.Equals = Some call.TypeIs
-type_call core.IsAssignableFrom = Some call.TypeFits
-type_call core.IsInstanceOfType = Some call.TypeHas
-type_call core.GetIsValueType = Some call.TypeIsValue
-type_call core.GetIsInterface = Some call.TypeIsInterface
-type_call core.GetIsArray = Some call.TypeIsArray
-type_call _ = Some call.Halts
+-- a search for members ends the run
+abbrev pub type_call : CoreName → CoreParams → Option CoreCall
+type_call core.GetTypeFromHandle ps = Some call.TypeFromHandle
+type_call core.GetType (One s) = Some (call.TypeFind false)
+type_call core.GetType ps = Some (call.TypeFind true)
+type_call core.GetNamespace ps = Some call.TypeNamespace
+type_call core.GetFullName ps = Some call.TypeFullName
+type_call core.ToString ps = Some call.TypeText
+type_call core.OpEquality ps = Some call.TypeSame
+type_call core.OpInequality ps = Some call.TypeOther
+type_call core.Equals ps = Some call.TypeIs
+type_call core.IsAssignableFrom ps = Some call.TypeFits
+type_call core.IsInstanceOfType ps = Some call.TypeHas
+type_call core.GetIsValueType ps = Some call.TypeIsValue
+type_call core.GetIsInterface ps = Some call.TypeIsInterface
+type_call core.GetIsArray ps = Some call.TypeIsArray
+type_call _ ps = Some call.Halts
 
 abbrev pub member_info_call : CoreName → Option CoreCall
 member_info_call core.GetName = Some call.MemberName
@@ -149,7 +151,7 @@ call_by core.UInt64 name ps = primitive_call element.U8 name ps
 call_by core.String name ps = string_call name ps
 call_by core.Array name ps = Some call.ArrayLength
 call_by core.Console name ps = console_call name ps
-call_by core.Type name ps = type_call name
+call_by core.Type name ps = type_call name ps
 call_by core.MemberInfo name ps = member_info_call name
 call_by core.MethodBase name ps = Some call.Halts
 call_by core.MethodInfo name ps = Some call.Halts

@@ -5,6 +5,7 @@ pub mod Places
 pub mod Added
 pub mod Parts
 pub mod Rows
+pub mod Searches
 pub mod Members
 pub mod Enclosers
 pub mod Interfaces

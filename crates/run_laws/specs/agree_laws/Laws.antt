@@ -7,6 +7,7 @@ use Rattle.base_laws.specs.walk_laws.Walks.{SlotsWhole}
 use Rattle.rules.specs.step_rules.Run.{run_from}
 use Rattle.rules.specs.view_rules.Answers.{queries_of}
 use Rattle.rules.specs.change_rules.Change.{Change}
+use Rattle.rules.specs.change_rules.Keeps.{can_call}
 use Rattle.rules.specs.change_rules.Agree.{Agree}
 use Rattle.rules.specs.world_change_rules.Places.{Places}
 use Rattle.rules.specs.world_change_rules.Rows.{RowsMove}
@@ -30,5 +31,5 @@ TrimmedAgrees =
 
 abbrev pub TrimmedRuns : Type 0
 TrimmedRuns =
-    (k : Change) (kept : RowAt → Bool) (p : Places) (outputs inputs : List AsmRec) → IsTrimmed k kept p outputs inputs → (m : ℕ) → IsTrue (k.keep.method m) → (bytes : List ℕ) (n : ℕ)
+    (k : Change) (kept : RowAt → Bool) (p : Places) (outputs inputs : List AsmRec) → IsTrimmed k kept p outputs inputs → (m : ℕ) → IsTrue (can_call k.keep m) → (bytes : List ℕ) (n : ℕ)
     → run_from (queries_of (assemblies outputs)) (k.rho.method m) bytes n ≡ move_outcome k.rho (run_from (queries_of (assemblies inputs)) m bytes n)

@@ -7,6 +7,7 @@ use Rattle.rules.specs.step_rules.Step.{step}
 use Rattle.rules.specs.step_rules.Run.{Outcome, run, run_from}
 use Rattle.rules.specs.change_rules.Change.{Rho, Change}
 use Rattle.rules.specs.change_rules.States.{move_state, move_end}
+use Rattle.rules.specs.change_rules.Keeps.{can_call}
 use Rattle.rules.specs.change_rules.Covered.{Covered}
 use Rattle.rules.specs.change_rules.Agree.{Agree}
 use Rattle.rules.specs.change_rules.Lock.{Lock}
@@ -27,5 +28,5 @@ RunMoves = (k : Change) (after before : Queries) → Agree k after before → (n
 
 -- n steps from an entry point, with the bytes of the input
 abbrev pub RunFromMoves : Type 0
-RunFromMoves = (k : Change) (after before : Queries) → Agree k after before → (m : ℕ) → IsTrue (k.keep.method m) → (bytes : List ℕ) (n : ℕ)
+RunFromMoves = (k : Change) (after before : Queries) → Agree k after before → (m : ℕ) → IsTrue (can_call k.keep m) → (bytes : List ℕ) (n : ℕ)
     → run_from after (k.rho.method m) bytes n ≡ move_outcome k.rho (run_from before m bytes n)

@@ -19,6 +19,8 @@ use Rattle.rules.specs.link_rules.Members.{type_home}
 use Rattle.rules.specs.link_rules.Cycles.{listed, same_row, is_static_field}
 use Rattle.rules.specs.type_rules.Slots.{type_of_method}
 use Rattle.rules.specs.type_rules.Rows.{rec_at, field_row_at, owner_of_field}
+use Rattle.rules.specs.step_rules.CoreSearches.{searches}
+use Rattle.rules.specs.view_rules.Members.{core_call}
 use Rattle.base_laws.specs.walk_laws.Walks.{NestsTypes}
 use Rattle.descriptor_file.specs.declared.root.Root.{Root}
 use Rattle.rules.specs.mark_rules.Facts.{Fact}
@@ -102,6 +104,10 @@ begun_at recs has t = list_any (begun_in recs has t) (listed (rec_at recs t))
 unfoldable pub begins : List AsmRec → (Fact → Bool) → ℕ → Bool
 begins recs has t = list_any (begun_at recs has) (listed (type_home recs (type_numbered t)))
 
+-- whether a method is a member of the core library that searches
+abbrev pub searches_at : List AsmRec → ℕ → Bool
+searches_at recs m = list_any searches (listed (core_call recs m))
+
 -- ---- all flags; types of the core library count as made and shown
 
 unfoldable pub keep_of : List AsmRec → (Fact → Bool) → Keep
@@ -112,6 +118,7 @@ keep_of recs has = record {
   made = λ t. is_core_type recs t || is_absent recs t || has (instantiated (type_numbered t));
   shown = λ t. has (marked (item.Typ (type_numbered t))) && (is_core_type recs t || has (shown (type_numbered t)));
   begun = λ t. has (marked (item.Typ (type_numbered t))) && begins recs has t;
+  called = λ m. not (searches_at recs m);
 }
 
 -- interface rows

@@ -1,4 +1,4 @@
-ghost use Rattle.run_laws.specs.closed_laws.Laws.{MarkedClosed, MarkedReads, RecordsSound, MarkedTrimsRun};
+ghost use Rattle.run_laws.specs.closed_laws.Laws.{MarkedClosed, MarkedReads, MarkedFollows, RecordsSound, MarkedTrimsRun};
 
 /// A law: where the marked set is kept, all that a step of a kept method can reach is kept. It does nothing.
 pub fn marked_closed()
@@ -8,6 +8,12 @@ pub fn marked_closed()
 /// A law: signatures and locals of marked methods with bodies have a reading where no marked item is bad. It does nothing.
 pub fn marked_reads()
     ensures { MarkedReads }
+{}
+
+/// A law: no marked method names a member of reflection that marking doesn't follow, where no trim would say `not yet`. It does
+/// nothing.
+pub fn marked_follows()
+    ensures { MarkedFollows }
 {}
 
 /// A law: runs of members stand apart in inputs that are records, as those of files are. It does nothing.

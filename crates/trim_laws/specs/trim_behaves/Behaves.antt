@@ -19,13 +19,15 @@ use Rattle.rules.specs.merged_world_rules.Numbering.{number_at}
 use Rattle.rules.specs.merged_world_rules.NewNumbers.{rho_of}
 use Rattle.trim_laws.specs.marked_merge_rules.Merges.{IsMarkedMerge, AreFacts}
 use Rattle.trim_laws.specs.trim_moves.Laws.{NamesApart}
+use Rattle.trim_laws.specs.trim_runs.Laws.{IsFollowed}
 use Rattle.trim_laws.specs.trim_runs.Entry.{IsEntry, entry_number}
 
--- Exactly what is marked from this entry method, by its row in the first input, is kept; no two types want one name that can be seen; each
--- signature and body has a spelling.
+-- Exactly what is marked from this entry method, by its row in the first input, is kept; marking follows what each marked method names;
+-- no two types want one name that can be seen; each signature and body has a spelling.
 pub record IsTrimmed (m : Merge) (entry : Option RowAt) (roots : List Root) (holds : Fact → Bool) (k : ℕ) : Type 0 where
   pub merge : IsMarkedMerge m entry roots
   pub facts : AreFacts m entry roots holds
+  pub followed : IsFollowed m entry roots
   pub apart : NamesApart m entry roots
   pub begins : IsEntry m entry k
   pub can : CanWrite m.left

@@ -15,7 +15,7 @@ use Rattle.rules.specs.merged_world_rules.Merge.{Merge, before, after}
 use Rattle.rules.specs.merged_world_rules.NewNumbers.{rho_of}
 use Rattle.trim_laws.specs.marked_merge_rules.Merges.{IsMarkedMerge, flags_of}
 use Rattle.trim_laws.specs.trim_moves.Laws.{keep_by, IsFlagged, NamesApart}
-use Rattle.trim_laws.specs.trim_runs.Laws.{OutputStands, OutputReads}
+use Rattle.trim_laws.specs.trim_runs.Laws.{IsFollowed, OutputStands, OutputReads}
 
 -- The entry method is a row of the first input, whose methods come first in the world.
 pub record IsEntry (m : Merge) (entry : Option RowAt) (k : ℕ) : Type 0 where
@@ -38,6 +38,6 @@ entry_number rec = unwrap_or (index_in METHOD_DEF rec.entry) 0
 -- So the output's program runs as that of the inputs, for any input and any number of steps.
 abbrev pub ProgramsRun : Type 0
 ProgramsRun =
-    (m : Merge) (entry : Option RowAt) (roots : List Root) (holds : Fact → Bool) (k : ℕ) → IsFlagged m entry roots holds → OnlyMarks (before m) entry roots (flags_of m holds) → NamesApart m entry roots → OutputStands m
-    → OutputReads m (keep_by m holds) → IsEntry m entry k → (bytes : List ℕ) (n : ℕ)
+    (m : Merge) (entry : Option RowAt) (roots : List Root) (holds : Fact → Bool) (k : ℕ) → IsFlagged m entry roots holds → OnlyMarks (before m) entry roots (flags_of m holds) → IsFollowed m entry roots → NamesApart m entry roots
+    → OutputStands m → OutputReads m (keep_by m holds) → IsEntry m entry k → (bytes : List ℕ) (n : ℕ)
     → run_from (queries_of (after m)) (entry_number m.left) bytes n ≡ move_outcome (rho_of m) (run_from (queries_of (before m)) k bytes n)

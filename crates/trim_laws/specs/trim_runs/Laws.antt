@@ -8,7 +8,10 @@ use Rattle.rules.specs.step_rules.Run.{run_from}
 use Rattle.rules.specs.view_rules.Methods as view
 use Rattle.rules.specs.view_rules.Answers.{queries_of}
 use Rattle.rules.specs.mark_rules.Facts.{Fact}
+use Rattle.rules.specs.mark_rules.Marking.{Marks}
+use Rattle.rules.specs.mark_rules.NotYet.{IsFirstNotYet}
 use Rattle.rules.specs.change_rules.Change.{Keep}
+use Rattle.rules.specs.change_rules.Keeps.{can_call}
 use Rattle.rules.specs.change_rules.Answers.{move_method, move_field}
 use Rattle.rules.specs.world_change_rules.Places.{keeps_method_row, keeps_field_row}
 use Rattle.run_laws.specs.lock_steps.Laws.{move_outcome}
@@ -34,12 +37,16 @@ pub record OutputReads (m : Merge) (k : Keep) : Type 0 where
   pub methods : (at : RowAt) → IsTrue (keeps_method_row k (before m) at) → view.method_at (after m) ((places_of m).method at) ≡ option_map (move_method (rho_of m)) (view.method_at (before m) at)
   pub fields : (at : RowAt) → IsTrue (keeps_field_row k (before m) at) → view.field_at (after m) ((places_of m).field at) ≡ option_map (move_field (rho_of m)) (view.field_at (before m) at)
 
--- From each kept method, for any input and any number of steps, the output's run is the inputs', with new numbers.
+-- marking follows what each marked method names
+abbrev pub IsFollowed : Merge → Option RowAt → List Root → Type 0
+IsFollowed m entry roots = IsFirstNotYet (before m) (Marks (before m) entry roots) None
+
+-- From each kept method that can be called, for any input and any number of steps, the output's run is the inputs', with new numbers.
 abbrev pub RunsAlike : Merge → Keep → Type 0
 RunsAlike m k =
-    (i : ℕ) → IsTrue (k.method i) → (bytes : List ℕ) (n : ℕ) → run_from (queries_of (after m)) ((rho_of m).method i) bytes n ≡ move_outcome (rho_of m) (run_from (queries_of (before m)) i bytes n)
+    (i : ℕ) → IsTrue (can_call k i) → (bytes : List ℕ) (n : ℕ) → run_from (queries_of (after m)) ((rho_of m).method i) bytes n ≡ move_outcome (rho_of m) (run_from (queries_of (before m)) i bytes n)
 
 abbrev pub TrimsRun : Type 0
 TrimsRun =
-    (m : Merge) (entry : Option RowAt) (roots : List Root) (holds : Fact → Bool) → IsFlagged m entry roots holds → OnlyMarks (before m) entry roots (flags_of m holds) → NamesApart m entry roots → OutputStands m
-    → OutputReads m (keep_by m holds) → RunsAlike m (keep_by m holds)
+    (m : Merge) (entry : Option RowAt) (roots : List Root) (holds : Fact → Bool) → IsFlagged m entry roots holds → OnlyMarks (before m) entry roots (flags_of m holds) → IsFollowed m entry roots → NamesApart m entry roots
+    → OutputStands m → OutputReads m (keep_by m holds) → RunsAlike m (keep_by m holds)

@@ -3,7 +3,8 @@ ghost use Rattle.trim_laws.specs.trim_runs.Entry.{EntryMoves, ProgramsRun};
 
 use crate::trim_moves::laws::left_is_record;
 
-/// A law: what a merge leaves runs as its inputs do, where exactly what is marked is kept. It does nothing.
+/// A law: what a merge leaves runs as its inputs do, where exactly what is marked is kept and marking follows what that names. It does
+/// nothing.
 pub fn trims_run()
     ensures { TrimsRun }
 {

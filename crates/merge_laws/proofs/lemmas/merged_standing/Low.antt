@@ -56,7 +56,7 @@ module _ (recs : List AsmRec) where
   bound = rows_before types_in recs (length recs)
 
   abbrev pub below : Keep
-  below = record { typ = λ n. nat_lt n bound; method = λ n. true; field = λ n. true; made = λ n. true; shown = λ n. nat_lt n bound; begun = λ n. true }
+  below = record { typ = λ n. nat_lt n bound; method = λ n. true; field = λ n. true; made = λ n. true; shown = λ n. nat_lt n bound; begun = λ n. true; called = λ n. true }
 
   -- each type that it names is one of the world's
   abbrev pub Low : TypeExpr → Type 0

@@ -31,10 +31,10 @@ use Rattle.rules.specs.view_rules.Answers.{core_type_id, owner_among, found_owne
 use Rattle.rules.specs.change_rules.Change.{Change}
 use Rattle.rules.specs.change_rules.Keeping.{keep}
 use Rattle.rules.specs.change_rules.States.{keeps_place, mask}
-use Rattle.rules.specs.change_rules.Keeps.{Names, keeps_expr, keeps_value, keeps_layout, keeps_use, keeps_field}
+use Rattle.rules.specs.change_rules.Keeps.{Names, keeps_expr, keeps_value, keeps_layout, can_call, keeps_use, keeps_field}
 use Rattle.base_laws.proofs.lemmas.change_laws.Subst.{names_prim, names_def}
 use Rattle.base_laws.proofs.lemmas.change_laws.Values.{keeps_null}
-use Rattle.rules.specs.world_change_rules.Places.{Places, keeps_method_row, keeps_field_row}
+use Rattle.rules.specs.world_change_rules.Places.{Places, method_number, keeps_field_row}
 use Rattle.rules.specs.world_change_rules.Rows.{RowsMove}
 use Rattle.rules.specs.world_change_rules.Kept.{KeepsRows}
 use Rattle.run_laws.proofs.lemmas.query_laws.Homes.{args_shown}
@@ -152,22 +152,22 @@ module _ (k : Change) (kept : RowAt → Bool) (p : Places) (after before : List 
   found_by e o h None is = absurd (cc)
   found_by e o h (Some x) is = among_kept x (with_bases before e) o (with_bases_kept k kept p after before r keeps e h) is
 
-  use_by : (n : MethodId) (u : MethodUse) (o : Option TypeExpr) → ((x : TypeExpr) → o ≡ Some x → IsTrue (keeps_expr k.keep x)) → IsTrue (k.keep.method n.0)
+  use_by : (n : MethodId) (u : MethodUse) (o : Option TypeExpr) → ((x : TypeExpr) → o ≡ Some x → IsTrue (keeps_expr k.keep x)) → IsTrue (can_call k.keep n.0)
       → option_map (λ owner. record { method = n; owner = owner; args = [] }) o ≡ Some u → IsTrue (keeps_use k.keep u)
   use_by n u None h g is = absurd (cc)
   use_by n u (Some x) h g is =
       let made : MethodUse = record { method = n; owner = x; args = [] } in
       let same : made ≡ u = cc in
-      subst (λ (v : MethodUse). IsTrue (keeps_use k.keep v)) same (and_from (k.keep.method n.0 && keeps_expr k.keep x) true (and_from (k.keep.method n.0) (keeps_expr k.keep x) g (h x refl)) refl)
+      subst (λ (v : MethodUse). IsTrue (keeps_use k.keep v)) same (and_from (can_call k.keep n.0 && keeps_expr k.keep x) true (and_from (can_call k.keep n.0) (keeps_expr k.keep x) g (h x refl)) refl)
 
-  answer_by : (e : TypeExpr) (u : MethodUse) → IsTrue (keeps_expr k.keep e) → (o : Option RowAt) → ((f : RowAt) → o ≡ Some f → IsTrue (keeps_method_row k.keep before f))
+  answer_by : (e : TypeExpr) (u : MethodUse) → IsTrue (keeps_expr k.keep e) → (o : Option RowAt) → ((f : RowAt) → o ≡ Some f → IsTrue (can_call k.keep (method_number before f)))
       → option_and_then (with_owner before e) (option_map (method_id before) o) ≡ Some u → IsTrue (keeps_use k.keep u)
   answer_by e u h None g is = absurd (cc)
   answer_by e u h (Some f) g is =
       use_by (method_id before f) u (found_owner before e (method_id before f)) (λ x it. found_by e x h (option_and_then (type_of_method before) (method_home before (method_id before f))) it) (g f refl) is
 
   pub answers_kept : (e owner : TypeExpr) (m : ℕ) (u : MethodUse) → IsTrue (keeps_expr k.keep e)
-      → ((f : RowAt) → option_and_then (dispatch_slot before e owner) (slot_numbered before m) ≡ Some f → IsTrue (keeps_method_row k.keep before f))
+      → ((f : RowAt) → option_and_then (dispatch_slot before e owner) (slot_numbered before m) ≡ Some f → IsTrue (can_call k.keep (method_number before f)))
       → answers_query before e owner m ≡ Some u → IsTrue (keeps_use k.keep u)
   unfolding answers_query dispatch
   answers_kept e owner m u h g is = answer_by e u h (option_and_then (dispatch_slot before e owner) (slot_numbered before m)) g is

@@ -40,6 +40,7 @@ use Rattle.rules.specs.mark_rules.Marking.{Marks}
 use Rattle.rules.specs.mark_rules.BadItems.{Flaw, flaw, part_flaw, part_flaws, own_flaws, attribute_flaws, flaws_of, IsFlaw, IsFirstFlaw}
 use Rattle.mark_numbers.specs.Numbers.{is_there}
 use Rattle.run_laws.proofs.lemmas.marked_laws.Places.{method_row_of}
+use Rattle.run_laws.proofs.lemmas.marked_laws.Searches.{last_is}
 use Rattle.run_laws.specs.closed_laws.Laws.{OnlyMarks, MarkedReads}
 
 all_at : {A : Type 0} (p : A → Bool) (xs : List A) (k : ℕ) (x : A) → list_all p xs ≡ true → slice_get xs k ≡ Some x → p x ≡ true
@@ -59,12 +60,6 @@ no_bodies = refl
 core_methods : (names : List CoreTypeName) → list_all without_body (core_with core_record names).method_def ≡ true
 unfolding core_with
 core_methods names = no_bodies
-
-last_is : (xs : List AsmRec) (c r : AsmRec) (k : ℕ) → k ≡ length xs → slice_get (xs ++ c ∷ []) k ≡ Some r → c ≡ r
-last_is [] c r zero e h = cc
-last_is [] c r (suc k) e h = absurd (cc)
-last_is (x ∷ xs) c r zero e h = absurd (cc)
-last_is (x ∷ xs) c r (suc k) e h = last_is xs c r k (omega (arith, e)) h
 
 core_body : (inputs : List AsmRec) (a k : ℕ) (rec : AsmRec) (d : MethodDefRow) → suc a ≡ length (assemblies inputs) → slice_get (assemblies inputs) a ≡ Some rec → slice_get rec.method_def k ≡ Some d → without_body d ≡ true
 unfolding assemblies

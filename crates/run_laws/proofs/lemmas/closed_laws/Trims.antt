@@ -12,11 +12,12 @@ use Rattle.run_laws.proofs.lemmas.agree_laws.Joined.{all_agree}
 use Rattle.run_laws.specs.marked_laws.Flags.{kept_of}
 use Rattle.run_laws.specs.closed_laws.Laws.{AreSound, MarkedTrimsRun}
 use Rattle.run_laws.proofs.lemmas.closed_laws.Readings.{all_read}
+use Rattle.run_laws.proofs.lemmas.closed_laws.Follows.{all_followed}
 use Rattle.run_laws.proofs.lemmas.closed_laws.Runs.{runs_end, methods_apart, fields_apart}
 use Rattle.run_laws.proofs.lemmas.closed_laws.Joined.{all_closed}
 
 pub trims_run : MarkedTrimsRun
-trims_run k p outputs inputs entry roots has linked sound are_outputs are_inputs few marks only none keeps moves apart m h bytes n =
+trims_run k p outputs inputs entry roots has linked sound are_outputs are_inputs few marks only none followed keeps moves apart m h bytes n =
     let recs : List AsmRec = assemblies inputs in
     let good : AreSound inputs has = record {
       few = few;
@@ -25,6 +26,7 @@ trims_run k p outputs inputs entry roots has linked sound are_outputs are_inputs
       methods = methods_apart inputs are_inputs;
       fields = fields_apart inputs are_inputs;
       reads = all_read inputs entry roots has only none;
+      follows = all_followed inputs entry roots has only followed;
     } in
     let closed : Closed k.keep (kept_of recs has) recs = subst (λ (x : Keep). Closed x (kept_of recs has) recs) (sym keeps) (all_closed inputs entry roots has sound marks good) in
     let trimmed : IsTrimmed k (kept_of recs has) p outputs inputs = record {

@@ -47,7 +47,7 @@ use Rattle.run_laws.proofs.lemmas.lock_words.Fits.{is_value_moved}
 use Rattle.run_laws.proofs.lemmas.lock_throwing.Objects.{shown_kept, type_of_moved, type_of_made, object_moved, object_kept}
 use Rattle.run_laws.proofs.lemmas.lock_throwing.Searching.{raise_lock}
 use Rattle.run_laws.proofs.lemmas.lock_places.Options.{Made, made_is}
-use Rattle.run_laws.proofs.lemmas.lock_places.Closing.{use_method, use_owner, KeptCallee}
+use Rattle.run_laws.proofs.lemmas.lock_places.Closing.{use_called, use_method, use_owner, KeptCallee}
 use Rattle.run_laws.proofs.lemmas.lock_places.Stores.{all_fit_moved, all_fit_kept}
 use Rattle.run_laws.proofs.lemmas.lock_places.Places.{alive_lock, at_place_lock}
 use Rattle.run_laws.proofs.lemmas.lock_frames.Entering.{enter_lock}
@@ -112,9 +112,10 @@ module _ (k : Change) (after before : Queries) (a : Agree k after before) where
   -- ---- what is called runs
 
   invoked_lock : (d : Callee) (vs : List Value) (w : Waits) (s : State) (f g : Gives) → KeptCallee k.keep before d → IsTrue (keeps_values k.keep vs) → IsTrue (keeps_waits k.keep w) → Covered k.keep before s → GivesLock k before f g → (o : Option CoreCall)
-      → Lock k before (invoked after (move_callee k.rho d) (move_values k.rho vs) (move_waits k.rho w) (move_state k before s) f o) (invoked before d vs w s g o)
-  invoked_lock d vs w s f g hd hv hw c gl (Some m) = core_call_lock k after before a d m vs s f g hd hv c gl
-  invoked_lock d vs w s f g hd hv hw c gl None =
+      → before.core d.called.method.0 ≡ o → Lock k before (invoked after (move_callee k.rho d) (move_values k.rho vs) (move_waits k.rho w) (move_state k before s) f o) (invoked before d vs w s g o)
+  invoked_lock d vs w s f g hd hv hw c gl (Some m) is =
+      core_call_lock k after before a d m (a.searches_nothing d.called.method.0 m (use_called k.keep d.called hd.named) is) vs s f g hd hv c gl
+  invoked_lock d vs w s f g hd hv hw c gl None is =
       given_moved k before (move_values k.rho) (slot_values before d.signature vs) _ s _ _ (slots_by d.signature.this d.signature hd.signature vs) (λ ws is.
       enter_lock k after before a d ws w s hd (slots_kept d.signature.this d.signature vs ws hv is) hw c)
 
@@ -123,7 +124,7 @@ module _ (k : Change) (after before : Queries) (a : Agree k after before) where
   unfolding invoke
   invoke_lock d vs w s f g hd hv hw c gl =
       subst (λ (o : Option CoreCall). Lock k before (invoked after (move_callee k.rho d) (move_values k.rho vs) (move_waits k.rho w) (move_state k before s) f o) (invoked before d vs w s g (before.core d.called.method.0)))
-      (sym (a.core d.called.method.0 (use_method k.keep d.called hd.named))) (invoked_lock d vs w s f g hd hv hw c gl (before.core d.called.method.0))
+      (sym (a.core d.called.method.0 (use_method k.keep d.called hd.named))) (invoked_lock d vs w s f g hd hv hw c gl (before.core d.called.method.0) refl)
 
   module _ (here : Here) (i : Instruction) where
     gives_result_lock : GivesLock k before (gives_result (move_here k.rho here) (move_instruction k.rho i)) (gives_result here i)

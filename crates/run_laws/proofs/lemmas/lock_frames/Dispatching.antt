@@ -36,7 +36,7 @@ use Rattle.run_laws.proofs.lemmas.lock_words.Fits.{is_value_moved}
 use Rattle.run_laws.proofs.lemmas.lock_words.Cases.{moved_cases}
 use Rattle.run_laws.proofs.lemmas.lock_throwing.Objects.{made_kept, object_moved, object_kept}
 use Rattle.run_laws.proofs.lemmas.lock_places.Options.{Made, made_is, some_is}
-use Rattle.run_laws.proofs.lemmas.lock_places.Closing.{use_method, use_owner, use_args, use_from, KeptCallee, callee_moved, callee_kept}
+use Rattle.run_laws.proofs.lemmas.lock_places.Closing.{use_call, use_method, use_owner, use_args, use_from, KeptCallee, callee_moved, callee_kept}
 
 module _ (k : Change) (after before : Queries) (a : Agree k after before) where
   -- ---- what is found
@@ -65,7 +65,7 @@ module _ (k : Change) (after before : Queries) (a : Agree k after before) where
       let m : Made (λ (u : MethodUse). record u { args = c.called.args }) (before.answers e c.called.owner c.called.method.0) u = made_is _ _ _ is in
       let g : IsTrue (keeps_use k.keep m.x) = a.keeps_answers e c.called.owner c.called.method.0 m.x h (use_owner k.keep c.called hc.named) (use_method k.keep c.called hc.named) ho m.there in
       subst (λ (v : MethodUse). IsTrue (keeps_use k.keep v)) m.is
-      (use_from k.keep (record m.x { args = c.called.args }) (use_method k.keep m.x g) (use_owner k.keep m.x g) (use_args k.keep c.called hc.named))
+      (use_from k.keep (record m.x { args = c.called.args }) (use_call k.keep m.x g) (use_owner k.keep m.x g) (use_args k.keep c.called hc.named))
 
   sig_kept : (m : ℕ) (x : Method) → IsTrue (k.keep.method m) → before.method m ≡ Some x → IsTrue (if_good (keeps_signature k.keep) x.signature)
   sig_kept m x h e = second_so _ (if_good (keeps_signature k.keep) x.signature) (first_so _ _ (a.keeps_methods m x h e))

@@ -29,11 +29,12 @@ use Rattle.rules.specs.step_rules.CoreWords.{Gives, gives_value, gives_truth}
 use Rattle.rules.specs.step_rules.CoreConsole.{print_form}
 use Rattle.rules.specs.step_rules.CoreObjects.{is_same}
 use Rattle.rules.specs.step_rules.Core.{simple, with_result, with_option, resumed, run_found, found_args, object_slot, calls_slot, print_object, equal_by, equal_form, member, core_call}
+use Rattle.rules.specs.step_rules.CoreSearches.{searches}
 use Rattle.rules.specs.change_rules.Change.{Change}
 use Rattle.rules.specs.change_rules.Moves.{move_use, move_value, move_values}
 use Rattle.rules.specs.change_rules.Answers.{move_callee}
 use Rattle.rules.specs.change_rules.States.{move_obj, move_state}
-use Rattle.rules.specs.change_rules.Keeps.{Names, keeps_use, is_of_owner, calls_own, keeps_value, keeps_values}
+use Rattle.rules.specs.change_rules.Keeps.{Names, can_call, keeps_use, is_of_owner, calls_own, keeps_value, keeps_values}
 use Rattle.rules.specs.change_rules.Covered.{keeps_obj, Covered}
 use Rattle.rules.specs.change_rules.Agree.{Agree}
 use Rattle.rules.specs.change_rules.Lock.{Lock, keeps_result, GivesLock}
@@ -110,6 +111,7 @@ module _ (k : Change) (after before : Queries) (a : Agree k after before) where
   simple_lock core.TypeIsValue args s f g h c gl = type_is_value_lock k after before a s c f g gl args h
   simple_lock core.TypeIsInterface args s f g h c gl = type_is_interface_lock k after before a s c f g gl args h
   simple_lock core.TypeIsArray args s f g h c gl = type_is_array_lock k after before a s c f g gl args h
+  simple_lock (core.TypeFind throws) args s f g h c gl = stuck_lock k before s
   simple_lock core.AreEqual args s f g h c gl = stuck_lock k before s
 
   -- ---- what a member does with a result
@@ -148,7 +150,7 @@ module _ (k : Change) (after before : Queries) (a : Agree k after before) where
   slot_moved : (m : ℕ) → object_slot (k.rho.method m) ≡ move_use k.rho (object_slot m)
   slot_moved m = λ i. record { method = record { 0 = k.rho.method m }; owner = sym (move_prim k.rho OBJECT) i; args = [] }
 
-  slot_kept : (m : ℕ) → IsTrue (k.keep.method m) → IsTrue (keeps_use k.keep (object_slot m))
+  slot_kept : (m : ℕ) → IsTrue (can_call k.keep m) → IsTrue (keeps_use k.keep (object_slot m))
   slot_kept m h = use_from k.keep (object_slot m) h (ap (λ (n : Names). n.kept) (names_prim k.keep OBJECT)) refl
 
   -- a slot of Object is called on Object
@@ -168,7 +170,7 @@ module _ (k : Change) (after before : Queries) (a : Agree k after before) where
       front_kept (keeps_value k.keep) (this_for before s x (value.Object n)) (all_fit before x.signature.params vs) ws e
       (λ y is. this_kept k after before a s x (value.Object n) y c (keeps_object k.keep n) is) (λ zs is. all_fit_kept k after before a x.signature.params vs zs hv is)
 
-  slot_lock : (m new : ℕ) → new ≡ k.rho.method m → IsTrue (k.keep.method m) → (w : CoreCall) (args : List Value) (n : ℕ) (vs : List Value) (s : State) (f g : Gives)
+  slot_lock : (m new : ℕ) → new ≡ k.rho.method m → IsTrue (can_call k.keep m) → (w : CoreCall) (args : List Value) (n : ℕ) (vs : List Value) (s : State) (f g : Gives)
       → IsTrue (keeps_values k.keep args) → IsTrue (keeps_values k.keep vs) → Covered k.keep before s → GivesLock k before f g
       → Lock k before (calls_slot new after w (move_values k.rho args) n (move_values k.rho vs) (move_state k before s) f) (calls_slot m before w args n vs s g)
   unfolding calls_slot
@@ -252,17 +254,18 @@ module _ (k : Change) (after before : Queries) (a : Agree k after before) where
       equal_lock s f g c gl b v w (head_kept k after before a v (w ∷ []) h) (head_kept k after before a w [] (tail_kept k after before a v (w ∷ []) h)))
   equal_form_lock _ s f g h c gl = stuck_lock k before s
 
-  -- ---- all members
+  -- ---- all members but those that search
 
-  pub member_lock : (m : CoreCall) (args : List Value) (s : State) (f g : Gives) → IsTrue (keeps_values k.keep args) → Covered k.keep before s → GivesLock k before f g
+  pub member_lock : (m : CoreCall) → searches m ≡ false → (args : List Value) (s : State) (f g : Gives) → IsTrue (keeps_values k.keep args) → Covered k.keep before s → GivesLock k before f g
       → Lock k before (member m after (move_values k.rho args) (move_state k before s) f) (member m before args s g)
-  unfolding member
-  member_lock (core.Prints line printed.OfObject) args s f g h c gl = print_object_lock line args s f g h c gl
-  member_lock core.AreEqual args s f g h c gl = equal_form_lock args s f g h c gl
-  member_lock m args s f g h c gl = simple_lock m args s f g h c gl
+  unfolding member searches
+  member_lock (core.TypeFind throws) plain args s f g h c gl = absurd (let f : true ≡ false = plain in cc)
+  member_lock (core.Prints line printed.OfObject) plain args s f g h c gl = print_object_lock line args s f g h c gl
+  member_lock core.AreEqual plain args s f g h c gl = equal_form_lock args s f g h c gl
+  member_lock m plain args s f g h c gl = simple_lock m args s f g h c gl
 
-  pub core_call_lock : (d : Callee) (m : CoreCall) (vs : List Value) (s : State) (f g : Gives) → KeptCallee k.keep before d → IsTrue (keeps_values k.keep vs) → Covered k.keep before s → GivesLock k before f g
+  pub core_call_lock : (d : Callee) (m : CoreCall) → searches m ≡ false → (vs : List Value) (s : State) (f g : Gives) → KeptCallee k.keep before d → IsTrue (keeps_values k.keep vs) → Covered k.keep before s → GivesLock k before f g
       → Lock k before (core_call after (move_callee k.rho d) m (move_values k.rho vs) (move_state k before s) f) (core_call before d m vs s g)
   unfolding core_call
-  core_call_lock d m vs s f g hd hv c gl =
-      checked_lock k after before a s c d hd vs (λ args. member m after args (move_state k before s) f) (λ args. member m before args s g) hv (λ ws hw. member_lock m ws s f g hw c gl)
+  core_call_lock d m plain vs s f g hd hv c gl =
+      checked_lock k after before a s c d hd vs (λ args. member m after args (move_state k before s) f) (λ args. member m before args s g) hv (λ ws hw. member_lock m plain ws s f g hw c gl)

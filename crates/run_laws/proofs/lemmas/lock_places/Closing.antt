@@ -25,7 +25,7 @@ use Rattle.rules.specs.change_rules.Change.{Keep, Change}
 use Rattle.rules.specs.change_rules.Moves.{move_expr, move_exprs, move_use, move_field_use}
 use Rattle.rules.specs.change_rules.Answers.{move_signature, move_method, move_field, move_here, move_callee, move_accessed}
 use Rattle.rules.specs.change_rules.States.{move_state}
-use Rattle.rules.specs.change_rules.Keeps.{keeps_expr, shows_expr, keeps_use, if_good, keeps_signature, keeps_method, keeps_field}
+use Rattle.rules.specs.change_rules.Keeps.{keeps_expr, shows_expr, can_call, keeps_use, if_good, keeps_signature, keeps_method, keeps_field}
 use Rattle.rules.specs.change_rules.Agree.{Agree}
 use Rattle.rules.specs.change_rules.Lock.{Lock}
 use Rattle.run_laws.proofs.lemmas.lock_words.Words.{stopped_lock, had_moved}
@@ -41,8 +41,14 @@ weaker p q f (Bad why) h = refl
 
 -- ---- uses and callees
 
+pub use_call : (k : Keep) (u : MethodUse) → IsTrue (keeps_use k u) → IsTrue (can_call k u.method.0)
+use_call k u h = first_so _ _ (first_so _ (list_all (shows_expr k) u.args) h)
+
+pub use_called : (k : Keep) (u : MethodUse) → IsTrue (keeps_use k u) → IsTrue (k.called u.method.0)
+use_called k u h = second_so (k.method u.method.0) (k.called u.method.0) (use_call k u h)
+
 pub use_method : (k : Keep) (u : MethodUse) → IsTrue (keeps_use k u) → IsTrue (k.method u.method.0)
-use_method k u h = first_so _ _ (first_so _ (list_all (shows_expr k) u.args) h)
+use_method k u h = first_so (k.method u.method.0) (k.called u.method.0) (use_call k u h)
 
 pub use_owner : (k : Keep) (u : MethodUse) → IsTrue (keeps_use k u) → IsTrue (keeps_expr k u.owner)
 use_owner k u h = second_so _ _ (first_so _ (list_all (shows_expr k) u.args) h)
@@ -50,8 +56,8 @@ use_owner k u h = second_so _ _ (first_so _ (list_all (shows_expr k) u.args) h)
 pub use_args : (k : Keep) (u : MethodUse) → IsTrue (keeps_use k u) → IsTrue (list_all (shows_expr k) u.args)
 use_args k u h = second_so _ (list_all (shows_expr k) u.args) h
 
-pub use_from : (k : Keep) (u : MethodUse) → IsTrue (k.method u.method.0) → IsTrue (keeps_expr k u.owner) → IsTrue (list_all (shows_expr k) u.args) → IsTrue (keeps_use k u)
-use_from k u m o args = and_from _ (list_all (shows_expr k) u.args) (and_from (k.method u.method.0) (keeps_expr k u.owner) m o) args
+pub use_from : (k : Keep) (u : MethodUse) → IsTrue (can_call k u.method.0) → IsTrue (keeps_expr k u.owner) → IsTrue (list_all (shows_expr k) u.args) → IsTrue (keeps_use k u)
+use_from k u m o args = and_from _ (list_all (shows_expr k) u.args) (and_from (can_call k u.method.0) (keeps_expr k u.owner) m o) args
 
 pub record KeptCallee (k : Keep) (q : Queries) (c : Callee) : Type 0 where
   pub named : IsTrue (keeps_use k c.called)
@@ -229,7 +235,7 @@ module _ (k : Change) (after before : Queries) (a : Agree k after before) where
         subst (ClosedUse u) m.is (record {
           method = refl;
           owner = closed_cell_is k after before a here.targs here.margs r.targs r.margs u.owner t.x t.there;
-          kept = use_from k.keep (with_owner u t.x m.x) (use_method k.keep u h)
+          kept = use_from k.keep (with_owner u t.x m.x) (use_call k.keep u h)
               (closed_cell_kept k after before a here.targs here.margs r.targs r.margs u.owner t.x (use_owner k.keep u h) t.there)
               (all_of_kept (closed_arg before here.targs here.margs) (shows_expr k.keep) (shows_expr k.keep)
               (λ e c he is. closed_arg_shown k after before a here.targs here.margs r.targs r.margs e c he is) u.args m.x (use_args k.keep u h) m.there);

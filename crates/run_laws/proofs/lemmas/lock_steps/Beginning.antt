@@ -32,7 +32,7 @@ use Rattle.rules.specs.change_rules.Change.{Keep, Change}
 use Rattle.rules.specs.change_rules.Moves.{move_expr, move_exprs, move_use, move_values}
 use Rattle.rules.specs.change_rules.Answers.{move_code, move_signature, move_method, move_callee}
 use Rattle.rules.specs.change_rules.States.{move_state, move_end}
-use Rattle.rules.specs.change_rules.Keeps.{Names, keeps_expr, keeps_use, keeps_values, keeps_code, keeps_body, keeps_signature, keeps_method, if_good}
+use Rattle.rules.specs.change_rules.Keeps.{Names, keeps_expr, can_call, keeps_use, keeps_values, keeps_code, keeps_body, keeps_signature, keeps_method, if_good}
 use Rattle.rules.specs.change_rules.Covered.{Covered}
 use Rattle.rules.specs.change_rules.Agree.{Agree}
 use Rattle.base_laws.proofs.lemmas.change_laws.Exprs.{move_prim, move_def, move_array}
@@ -119,7 +119,7 @@ definition_def : (t : TypeId) → definition_of (expr.Def t) ≡ Some t.0
 unfolding definition_of
 definition_def t = ap (λ (e : TypeExpr). definition_in (out-TypeExpr e)) (sym (expr.rolls-Def t)) ∙ ap definition_in (out-roll-TypeExpr (TypeExpr-F.Def t))
 
-module _ (k : Change) (after before : Queries) (a : Agree k after before) (m : ℕ) (hm : IsTrue (k.keep.method m)) (input : List ℕ) where
+module _ (k : Change) (after before : Queries) (a : Agree k after before) (m : ℕ) (hm : IsTrue (can_call k.keep m)) (input : List ℕ) where
   -- ---- the first frame
 
   frame_begins : (c d : Callee) (locals : List Value) (s : State) → KeptCallee k.keep before c → KeptCallee k.keep before d → IsTrue (keeps_values k.keep locals) → Covered k.keep before s
@@ -226,12 +226,15 @@ module _ (k : Change) (after before : Queries) (a : Agree k after before) (m : �
         good_moved k before m (move_signature k.rho) (keeps_signature k.keep) f.signature _ _ (second_so _ (if_good (keeps_signature k.keep) f.signature) (first_so _ (keeps_body k.keep before f.body) hf)) (λ sig hs.
         stopped_if k before m _ (takes (before.head f.owner) 0) _ _ (ap (λ (h : Option Head). takes h 0) (a.head f.owner type_kept)) (body_begins sig f.body (second_so _ (keeps_body k.keep before f.body) hf)))
 
-module _ (k : Change) (after before : Queries) (a : Agree k after before) (m : ℕ) (hm : IsTrue (k.keep.method m)) (bytes : List ℕ) where
+module _ (k : Change) (after before : Queries) (a : Agree k after before) (m : ℕ) (hm : IsTrue (can_call k.keep m)) (bytes : List ℕ) where
+  method_stays : IsTrue (k.keep.method m)
+  method_stays = first_so (k.keep.method m) (k.keep.called m) hm
+
   beginning_moves : Begin k before (beginning after (k.rho.method m) bytes) (beginning before m bytes)
   unfolding beginning
   beginning_moves =
-      or_stopped_moved k before m (move_method k.rho) (before.method m) _ (begins_method after (k.rho.method m) (decoded bytes)) (begins_method before m (decoded bytes)) (a.method m hm)
-      (λ f e. method_begins k after before a m hm (decoded bytes) f (a.keeps_methods m f hm e))
+      or_stopped_moved k before m (move_method k.rho) (before.method m) _ (begins_method after (k.rho.method m) (decoded bytes)) (begins_method before m (decoded bytes)) (a.method m method_stays)
+      (λ f e. method_begins k after before a m hm (decoded bytes) f (a.keeps_methods m f method_stays e))
 
   begun_moved : (n : ℕ) (x : Beginning) → CoveredBeginning k.keep before x → run_begun after n (move_beginning k before x) ≡ move_outcome k.rho (run_begun before n x)
   begun_moved n (begins s) c = run_moved k after before a (suc n) s c

@@ -57,7 +57,7 @@ bodies f m o = option_and_then (λ body. option_and_then (λ code. Some (here_in
 
 module _ (k : Change) (after before : Queries) (a : Agree k after before) where
   use_method : (f : Frame) → IsTrue (keeps_use k.keep f.method) → IsTrue (k.keep.method f.method.method.0)
-  use_method f h = first_so _ _ (first_so _ (list_all (shows_expr k.keep) f.method.args) h)
+  use_method f h = first_so (k.keep.method f.method.method.0) (k.keep.called f.method.method.0) (first_so _ _ (first_so _ (list_all (shows_expr k.keep) f.method.args) h))
 
   use_owner : (f : Frame) → IsTrue (keeps_use k.keep f.method) → IsTrue (keeps_expr k.keep f.method.owner)
   use_owner f h = second_so _ _ (first_so _ (list_all (shows_expr k.keep) f.method.args) h)

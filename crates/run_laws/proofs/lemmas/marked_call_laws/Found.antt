@@ -79,7 +79,7 @@ module _ (recs : List AsmRec) where
       let k = in_map (at_row at.asm) m (run_places t.0.method_list_first t.0.method_list_end r.0.method_def) t.2 in
       asm_is m at.asm k.0 k.2
 
-  first_home : (T : RowAt → Bool) (m : RowAt) (o : Option RowAt) → option_and_then (λ (at : RowAt). first_at T (methods_of_type recs at)) o ≡ Some m
+  pub first_home : (T : RowAt → Bool) (m : RowAt) (o : Option RowAt) → option_and_then (λ (at : RowAt). first_at T (methods_of_type recs at)) o ≡ Some m
       → (home : RowAt) × (o ≡ Some home) × (m.asm ≡ home.asm) × (T m ≡ true)
   first_home T m None e = absurd (cc)
   first_home T m (Some home) e = let f = first_is T (methods_of_type recs home) m e in (home, refl, run_asm home m f.0, f.1)
@@ -130,7 +130,7 @@ module _ (recs : List AsmRec) where
   rows_body e declares m (Some at) h =
       let r = some_is (of_impl recs e declares) (impls_at recs at) m h in row_body e m (method_home recs r.0.body.method) (declares r.0.declaration) r.1
 
-  impl_body : (e : TypeExpr) (declares : MethodUse → Bool) (m : RowAt) → impl_in recs declares e ≡ Some m → is_body recs e m ≡ true
+  pub impl_body : (e : TypeExpr) (declares : MethodUse → Bool) (m : RowAt) → impl_in recs declares e ≡ Some m → is_body recs e m ≡ true
   impl_body e declares m h = rows_body e declares m (home_of recs e) (sym (impl_is recs e declares) ∙ h)
 
   record Owned (e : TypeExpr) (m : RowAt) : Type 0 where

@@ -1,9 +1,9 @@
 -- What a marked method's signature and body name is kept.
 use Rattle.std.proofs.Common.{◌≡◌, ℕ, suc, Bool, true, false, List, [], ◌∷◌, ◌++◌, map, Option, Some, None, inl, inr, refl, sym, ap, subst, ◌∙◌, arith}
-use Rattle.std.specs.Prelude.{IsTrue, slice_get, ◌==◌, ◌&&◌, if◌then◌else◌}
-use Rattle.std.specs.List.{list_all, flat_map, position_from}
+use Rattle.std.specs.Prelude.{IsTrue, slice_get, not, ◌==◌, ◌&&◌, if◌then◌else◌}
+use Rattle.std.specs.List.{list_all, list_any, flat_map, position_from}
 use Rattle.std.specs.Option.{option_map, option_and_then}
-use Rattle.std.proofs.lemmas.Bool.{and_from}
+use Rattle.std.proofs.lemmas.Bool.{and_from, or_left, or_right, true≢false}
 use Rattle.il_base.specs.declared.ids.TypeId.{TypeId}
 use Rattle.il_base.specs.declared.ids.Item.{Item}
 use Rattle.il_base.specs.declared.ids.Item.TheVariants as item
@@ -19,6 +19,7 @@ use Rattle.il_base.specs.declared.world_model.known.Known.TheVariants.{Good, Bad
 use Rattle.il_base.specs.declared.world_model.known.BadKind.{BadKind}
 use Rattle.il_base.specs.declared.world_model.known.BadKind.TheVariants.{Outside}
 use Rattle.il_base.specs.declared.world_model.expr.TypeExpr.{TypeExpr}
+use Rattle.il_base.specs.declared.world_model.expr.MethodUse.{MethodUse}
 use Rattle.il_base.specs.declared.world_model.members.MethodDefRow.{MethodDefRow}
 use Rattle.il_base.specs.declared.world_model.members.StandAloneSigRow.{StandAloneSigRow}
 use Rattle.il_base.specs.declared.world_model.record.AsmRec.{AsmRec}
@@ -43,11 +44,12 @@ use Rattle.rules.specs.mark_rules.Facts.Fact.{marked, shown}
 use Rattle.rules.specs.mark_rules.Places.{method_item, marks_method, row_of}
 use Rattle.rules.specs.mark_rules.BadItems.{is_global, is_platform, is_interface_body}
 use Rattle.rules.specs.mark_rules.Naming.{Part, of_parts, good_part, type_parts, parts_of, method_sig_parts, method_type_parts, type_token_part}
-use Rattle.rules.specs.mark_rules.Naming.Named.{type}
+use Rattle.rules.specs.mark_rules.Naming.Named.{type, method}
 use Rattle.rules.specs.mark_rules.Bodies.{operand_parts, instruction_parts, locals_row_parts, locals_parts, is_catch, handler_parts, is_read, are_locals_read, code_parts, body_parts, body_of}
 use Rattle.rules.specs.mark_rules.Types.{constraints_of}
 use Rattle.rules.specs.mark_rules.Calls.{owner_facts, row_parts, parts_of_method, uncaught_row_parts, uncaught_parts, method_needs, makes_by, code_of, made_in, makes, overrides_of, method_starts}
 use Rattle.rules.specs.mark_rules.Calls as calls
+use Rattle.rules.specs.mark_rules.NotYet.{is_operand, has_operand}
 use Rattle.rules.specs.mark_rules.Properties.{accessed}
 use Rattle.rules.specs.mark_rules.Shown.{arguments_of_parts, showing_parts, shown_by_item, shown_in, shown_code}
 use Rattle.il_base.specs.declared.cil_values.definition.Method.{Method}
@@ -58,23 +60,29 @@ use Rattle.rules.specs.view_rules.Methods.{signature_by, body_by, is_core_row, m
 use Rattle.rules.specs.view_rules.Answers.{queries_of}
 use Rattle.rules.specs.change_rules.Change.{Keep}
 use Rattle.rules.specs.change_rules.Keeps.{keeps_expr, keeps_defined, if_good, keeps_instruction, keeps_clause, keeps_code, keeps_signature, keeps_body, keeps_method}
-use Rattle.run_laws.specs.marked_laws.Flags.{is_added, HasMarks, keep_of}
+use Rattle.run_laws.specs.marked_laws.Flags.{is_added, HasMarks, searches_at, keep_of}
 use Rattle.run_laws.proofs.lemmas.marked_laws.Closing.{mapped_in, row_gives, item_gives_shown}
 use Rattle.run_laws.proofs.lemmas.marked_laws.Flags.{typ_has, method_is, method_has}
 use Rattle.run_laws.proofs.lemmas.marked_laws.Named.{defined_by_types}
 use Rattle.run_laws.proofs.lemmas.marked_laws.Places.{method_row_of}
 use Rattle.run_laws.proofs.lemmas.marked_laws.Parts.{HasParts, part_types, part_kept}
 use Rattle.run_laws.proofs.lemmas.marked_laws.Rows.{needs_in, owner_kept}
-use Rattle.run_laws.specs.marked_code_laws.Laws.{MethodsApart, FieldsApart, AreRead, MarkedMethods}
+use Rattle.run_laws.proofs.lemmas.marked_laws.Searches.{search_reflects}
+use Rattle.run_laws.specs.marked_code_laws.Laws.{MethodsApart, FieldsApart, AreRead, AreFollowed, MarkedMethods}
 use Rattle.run_laws.proofs.lemmas.marked_code_laws.Owners.{InOwner, own_home}
 use Rattle.run_laws.proofs.lemmas.marked_code_laws.Begins.{method_begins_row}
-use Rattle.run_laws.proofs.lemmas.marked_code_laws.Operands.{all_of, shown_op, operand_kept}
+use Rattle.run_laws.proofs.lemmas.marked_code_laws.Operands.{all_of, shown_op, CallsParts, operand_kept}
 
 all_mapped : {A B : Type 0} (p : B → Bool) (f : A → B) (xs : List A) → ((x : A) → In x xs → IsTrue (p (f x))) → IsTrue (list_all p (map f xs))
 all_mapped p f [] h = refl
 all_mapped p f (x ∷ xs) h = and_from (p (f x)) (list_all p (map f xs)) (h x (inl refl)) (all_mapped p f xs (λ y i. h y (inr i)))
 
-module _ (recs : List AsmRec) (entry : Option RowAt) (roots : List Root) (has : Fact → Bool) (m : HasMarks recs entry roots has) (methods : MethodsApart recs) (fields : FieldsApart recs) where
+any_of : {A : Type 0} (p : A → Bool) (x : A) (xs : List A) → In x xs → p x ≡ true → list_any p xs ≡ true
+any_of p x [] i h = absurd i
+any_of p x (y ∷ xs) (inl e) h = or_left (p y) (list_any p xs) (ap p (sym e) ∙ h)
+any_of p x (y ∷ xs) (inr i) h = or_right (p y) (list_any p xs) (any_of p x xs i h)
+
+module _ (recs : List AsmRec) (entry : Option RowAt) (roots : List Root) (has : Fact → Bool) (m : HasMarks recs entry roots has) (methods : MethodsApart recs) (fields : FieldsApart recs) (follows : AreFollowed recs has) where
   abbrev k : Keep
   k = keep_of recs has
 
@@ -105,6 +113,22 @@ module _ (recs : List AsmRec) (entry : Option RowAt) (roots : List Root) (has : 
     in_parts p i =
         flat_in (λ (rec : AsmRec). flat_map (row_parts recs at rec) (listed (slice_get rec.method_def at.row))) p rec (listed (rec_at recs at)) (listed_in rec (rec_at recs at) there)
         (flat_in (row_parts recs at rec) p d (listed (slice_get rec.method_def at.row)) (listed_in d (slice_get rec.method_def at.row) row) i)
+
+    -- no part names a member that searches
+    reflects : (p : Part) (u : MethodUse) → p.named ≡ Good (method u) → searches_at recs u.method.0 ≡ true → is_operand recs p ≡ true
+    reflects p u is s = subst (λ (x : Part). is_operand recs x ≡ true) (λ i. record p { named = sym is i }) (search_reflects recs u.method.0 s)
+
+    operands_by : (p : Part) (b : Bool) → In p (parts_of_method recs at) → has_operand recs at ≡ b → is_operand recs p ≡ true → b ≡ true
+    unfolding has_operand
+    operands_by p b i e h = sym e ∙ any_of (is_operand recs) p (parts_of_method recs at) i h
+
+    called_by : (p : Part) (u : MethodUse) (b : Bool) → In p (parts_of_method recs at) → p.named ≡ Good (method u) → searches_at recs u.method.0 ≡ b → not b ≡ true
+    called_by p u true i is s = absurd (true≢false (sym (operands_by p false i (follows at h) (reflects p u is s))))
+    called_by p u false i is s = refl
+
+    parts_called : CallsParts recs entry roots has m methods fields self at
+    unfolding keep_of
+    parts_called p u i is = called_by p u (searches_at recs u.method.0) i is refl
 
     in_uncaught : (p : Part) → In p (uncaught_row_parts recs at rec d) → In p (uncaught_parts recs at)
     unfolding uncaught_parts
@@ -228,7 +252,7 @@ module _ (recs : List AsmRec) (entry : Option RowAt) (roots : List Root) (has : 
 
         instruction_kept : IsTrue (keeps_instruction k q (instruction_of recs at.asm rec x))
         unfolding instruction_of
-        instruction_kept = operand_kept recs entry roots has m methods fields self at whole at.asm rec there place x.at x.opcode x.form x.operand (record { parts = op_part; shows = op_shows; makes = op_makes })
+        instruction_kept = operand_kept recs entry roots has m methods fields self at whole parts_called at.asm rec there place x.at x.opcode x.form x.operand (record { parts = op_part; shows = op_shows; makes = op_makes })
 
       -- ---- clauses
 
@@ -327,4 +351,4 @@ module _ (recs : List AsmRec) (entry : Option RowAt) (roots : List Root) (has : 
     by_number n h is = by_home n (home_from methods_in 0 recs n) h refl is
 
 pub methods_kept : MarkedMethods
-methods_kept inputs entry roots has sound m methods fields reads n f h is = by_number (assemblies inputs) entry roots has m methods fields reads f n h is
+methods_kept inputs entry roots has sound m methods fields reads follows n f h is = by_number (assemblies inputs) entry roots has m methods fields follows reads f n h is

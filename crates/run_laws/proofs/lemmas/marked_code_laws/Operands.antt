@@ -39,7 +39,7 @@ use Rattle.rules.specs.view_rules.Methods.{method_query, field_query}
 use Rattle.rules.specs.view_rules.Answers.{queries_of}
 use Rattle.rules.specs.view_rules.Code.{use_by}
 use Rattle.rules.specs.change_rules.Change.{Keep}
-use Rattle.rules.specs.change_rules.Keeps.{keeps_expr, shows_expr, news_expr, begins_expr, keeps_use, is_of_owner, if_good, keeps_called, is_static, keeps_accessed, keeps_operand, keeps_of_form}
+use Rattle.rules.specs.change_rules.Keeps.{keeps_expr, shows_expr, news_expr, begins_expr, can_call, keeps_use, is_of_owner, if_good, keeps_called, is_static, keeps_accessed, keeps_operand, keeps_of_form}
 use Rattle.run_laws.specs.marked_laws.Flags.{is_added, HasMarks, keep_of}
 use Rattle.run_laws.proofs.lemmas.marked_laws.Closing.{mapped_in, in_arguments_of, item_gives_shown}
 use Rattle.run_laws.proofs.lemmas.marked_laws.Named.{kept_by_parts, arguments_are_types, shown_by_parts, all_are_types}
@@ -113,16 +113,16 @@ module _ (recs : List AsmRec) (entry : Option RowAt) (roots : List Root) (has : 
       method_marked : IsTrue (has (marked (item.Method u.method)))
       method_marked = marks (method u) (marked (item.Method u.method)) is (inl refl)
 
-      use_kept : IsTrue (keeps_use k u)
-      use_kept =
-          and_from (k.method u.method.0 && keeps_expr k u.owner) (list_all (shows_expr k) u.args)
-          (and_from (k.method u.method.0) (keeps_expr k u.owner) (method_is recs has u.method method_marked) owner_kept) (all_of (shows_expr k) u.args arg_shown)
+      use_kept : IsTrue (k.called u.method.0) → IsTrue (keeps_use k u)
+      use_kept c =
+          and_from (can_call k u.method.0 && keeps_expr k u.owner) (list_all (shows_expr k) u.args)
+          (and_from (can_call k u.method.0) (keeps_expr k u.owner) (and_from (k.method u.method.0) (k.called u.method.0) (method_is recs has u.method method_marked) c) owner_kept) (all_of (shows_expr k) u.args arg_shown)
 
-      called : MethodIn recs methods u → IsTrue (keeps_called k (queries_of recs) u)
+      called : MethodIn recs methods u → IsTrue (k.called u.method.0) → IsTrue (keeps_called k (queries_of recs) u)
       unfolding queries_of
-      called o =
+      called o c =
           and_from (keeps_use k u && begins_expr k u.owner) (is_of_owner (method_query recs u.method.0) u.owner)
-          (and_from (keeps_use k u) (begins_expr k u.owner) use_kept
+          (and_from (keeps_use k u) (begins_expr k u.owner) (use_kept c)
           (method_begins_type recs has o.owner o.at u.owner o.row o.owned owner_marked (subst (λ (n : MethodId). IsTrue (has (marked (item.Method n)))) o.method method_marked)))
           (ap (λ (n : MethodId). is_of_owner (method_query recs n.0) u.owner) o.method ∙ called_owned recs o.owner o.at o.row u.owner o.owned)
 
@@ -161,7 +161,11 @@ module _ (recs : List AsmRec) (entry : Option RowAt) (roots : List Root) (has : 
 
   -- ---- instructions of an item
 
-  module _ (i : Item) (at : RowAt) (whole : HasParts recs entry roots has m i at) (a : ℕ) (rec : AsmRec) (there : slice_get recs a ≡ Some rec) (place offset opcode : ℕ) where
+  -- the methods that its parts name can be called
+  abbrev pub CallsParts : Item → RowAt → Type 0
+  CallsParts i at = (p : Part) (u : MethodUse) → In p (parts_of_item recs i at) → p.named ≡ Good (method u) → IsTrue (k.called u.method.0)
+
+  module _ (i : Item) (at : RowAt) (whole : HasParts recs entry roots has m i at) (calls : CallsParts i at) (a : ℕ) (rec : AsmRec) (there : slice_get recs a ≡ Some rec) (place offset opcode : ℕ) where
     -- what is known of an instruction's operand
     pub record Told (f : Form) (o : Operand) : Type 0 where
       pub parts : (p : Part) → In p (operand_parts recs a rec place offset f o) → In p (parts_of_item recs i at) × In p (showing_parts recs i at)
@@ -187,6 +191,7 @@ module _ (recs : List AsmRec) (entry : Option RowAt) (roots : List Root) (has : 
     method_kept : (token : ℕ) (t : Known MethodUse) → method_named recs a rec token ≡ t → InParts (method_token_part recs a rec place offset token) → IsTrue (if_good (keeps_called k (queries_of recs)) t)
     method_kept token (Bad why) e q = refl
     method_kept token (Good u) e q = called i at whole (method_token_part recs a rec place offset token) q.0 q.1 u (ap (known_map method) e) (method_in_owner recs methods a rec token u there e)
+        (calls (method_token_part recs a rec place offset token) u q.0 (ap (known_map method) e))
 
     method_made : (token : ℕ) (t : Known MethodUse) → method_named recs a rec token ≡ t → InParts (method_token_part recs a rec place offset token)
         → ((x : TypeId) → In x (made_types t) → IsTrue (has (shown x))) → ((x : Fact) → In x (of_known (makes_type recs) t) → is_added recs x ≡ false → IsTrue (has x)) → IsTrue (if_good (λ u. shows_expr k u.owner && news_expr k u.owner) t)

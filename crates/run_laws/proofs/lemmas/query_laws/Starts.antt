@@ -3,6 +3,7 @@ use Rattle.std.proofs.Common.{◌≡◌, ℕ, Bool, true, false, List, [], ◌�
 use Rattle.std.specs.Prelude.{IsTrue, codes, slice_get, ◌&&◌, ◌||◌, ◌==◌, not, if◌then◌else◌}
 use Rattle.std.specs.List.{list_any, flat_map}
 use Rattle.std.specs.Option.{option_map, option_and_then}
+use Rattle.std.specs.Cmp.{first_so}
 use Rattle.std.proofs.lemmas.List.{append-nil}
 use Rattle.il_base.specs.declared.world_model.known.Known.{Known}
 use Rattle.il_base.specs.declared.world_model.known.Known.TheVariants.{Good, Bad}
@@ -28,7 +29,7 @@ use Rattle.rules.specs.view_rules.Answers.{starts_query}
 use Rattle.rules.specs.change_rules.Change.{Rho, Change}
 use Rattle.rules.specs.change_rules.Moves.{move_expr, move_exprs}
 use Rattle.base_laws.proofs.lemmas.change_laws.Exprs.{With, plain_parts, moved_in, move_rolled}
-use Rattle.rules.specs.world_change_rules.Places.{Places, type_numbered, type_number, keeps_type_row, keeps_method_row}
+use Rattle.rules.specs.world_change_rules.Places.{Places, type_numbered, type_number, method_number, keeps_type_row, keeps_method_row}
 use Rattle.rules.specs.world_change_rules.Rows.{RowsMove, move_method_type}
 use Rattle.rules.specs.world_change_rules.Kept.{KeepsRows}
 use Rattle.il_base.specs.world_model.Worlds.{types_in}
@@ -92,12 +93,33 @@ module _ (recs : List AsmRec) (at : RowAt) where
   first_starts (x ∷ xs) m e = first_by x m (first_at (starts_at recs) xs) (starts_at recs x) refl (first_starts xs m) e
 
   row_of_start : (m : RowAt) (o : Option MethodDefRow) → method_row_at recs m ≡ o → (list_any named_so (listed o) && gives_nothing (type_of_row recs m)) ≡ true
-      → (d : MethodDefRow) × (method_row_at recs m ≡ Some d)
+      → (d : MethodDefRow) × (method_row_at recs m ≡ Some d) × (same_name d.name (codes ".cctor") ≡ true)
   row_of_start m None e h = absurd (cc)
-  row_of_start m (Some d) e h = (d, e)
+  row_of_start m (Some d) e h =
+      let named : (named_so d || false) ≡ true = first_so (named_so d || false) (gives_nothing (type_of_row recs m)) h in
+      (d, e, first_so (same_name d.name (codes ".cctor")) (is_static d) (sym (or_none (named_so d)) ∙ named))
 
-  pub starts_there : (m : RowAt) → initializer recs at ≡ Some m → (d : MethodDefRow) × (method_row_at recs m ≡ Some d)
+  pub starts_there : (m : RowAt) → initializer recs at ≡ Some m → (d : MethodDefRow) × (method_row_at recs m ≡ Some d) × (same_name d.name (codes ".cctor") ≡ true)
   starts_there m e = row_of_start m (method_row_at recs m) refl (first_starts (methods_of_type recs at) m (sym initializer_is ∙ e))
+
+-- the row of an initializer that a query answers with
+module _ (recs : List AsmRec) where
+  pub record StartsFrom (m : ℕ) : Type 0 where
+    pub typ : RowAt
+    pub method : RowAt
+    pub is : initializer recs typ ≡ Some method
+    pub number : method_number recs method ≡ m
+
+  start_found : (m : ℕ) (at : RowAt) (o : Option RowAt) → initializer recs at ≡ o → option_map (λ x. (method_id recs x).0) o ≡ Some m → StartsFrom m
+  start_found m at None e u = absurd (cc)
+  start_found m at (Some x) e u = let same : (method_id recs x).0 ≡ m = cc in record { typ = at; method = x; is = e; number = same }
+
+  start_home : (m : ℕ) (o : Option RowAt) → option_map (λ x. (method_id recs x).0) (option_and_then (initializer recs) o) ≡ Some m → StartsFrom m
+  start_home m None u = absurd (cc)
+  start_home m (Some at) u = start_found m at (initializer recs at) refl u
+
+  pub starts_from : (t m : ℕ) → starts_query recs t ≡ Some m → StartsFrom m
+  starts_from t m is = start_home m (type_home recs (type_numbered t)) is
 
 -- ---- void stays void
 

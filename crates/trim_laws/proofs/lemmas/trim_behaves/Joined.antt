@@ -249,7 +249,7 @@ module _ (l : Laws) (m : Merge) (entry : Option RowAt) (roots : List Root) (hold
         names = e.0;
         below = e.1;
         moved = numbered m;
-        runs = l.runs m entry roots holds k flagged marks.1 t.apart stands output_reads t.begins;
+        runs = l.runs m entry roots holds k flagged marks.1 t.followed t.apart stands output_reads t.begins;
       }
 
 pub all_behave : Laws → TrimsBehave

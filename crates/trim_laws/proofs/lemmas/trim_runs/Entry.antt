@@ -3,7 +3,7 @@ use Rattle.std.proofs.Common.{◌≡◌, ◌<◌, ◌≤◌, ℕ, zero, suc, ◌
 use Rattle.std.specs.Prelude.{IsTrue, slice_get, unwrap_or, ◌==◌, if◌then◌else◌}
 use Rattle.std.specs.List.{Contains, flat_map, list_any, position_from}
 use Rattle.std.specs.Option.{is_some, option_map, option_and_then}
-use Rattle.std.proofs.lemmas.Bool.{or_right, ne_eqb, eqb-true}
+use Rattle.std.proofs.lemmas.Bool.{and_from, or_right, ne_eqb, eqb-true}
 use Rattle.std.proofs.lemmas.List.Elements.{Contains-append_left, Contains-append_right}
 use Rattle.il_base.specs.declared.ids.MethodId.{MethodId}
 use Rattle.il_base.specs.declared.ids.Item.TheVariants as item
@@ -35,7 +35,10 @@ use Rattle.rules.specs.merge_rules.Refs.{Output, row_token, kept_token, method_t
 use Rattle.rules.specs.merge_rules.Keys.{instance_key}
 use Rattle.rules.specs.merge_rules.Moved.{token_or_none, moved_callee}
 use Rattle.rules.specs.merge_rules.Restricted.{output_of}
+use Rattle.rules.specs.change_rules.Keeps.{can_call}
 use Rattle.run_laws.specs.lock_steps.Laws.{move_outcome}
+use Rattle.run_laws.proofs.lemmas.marked_laws.Flags.{called_is}
+use Rattle.run_laws.proofs.lemmas.marked_laws.Searches.{input_searches_nothing}
 use Rattle.run_laws.specs.closed_laws.Laws.{OnlyMarks}
 use Rattle.merge_laws.proofs.lemmas.merged_loads.TextsStand.{any_in}
 use Rattle.merge_laws.proofs.lemmas.merged_record.Lists.{first_in}
@@ -52,7 +55,7 @@ use Rattle.merge_laws.proofs.lemmas.merged_places.Tables.{number_method, method_
 use Rattle.trim_laws.specs.marked_merge_rules.Merges.{IsMarkedMerge, flags_of}
 use Rattle.trim_laws.specs.trim_moves.Laws.{keep_by, IsFlagged, NamesApart, LeftIsRecord}
 use Rattle.trim_laws.proofs.lemmas.trim_moves.Flags.{method_kept}
-use Rattle.trim_laws.specs.trim_runs.Laws.{OutputStands, OutputReads}
+use Rattle.trim_laws.specs.trim_runs.Laws.{IsFollowed, OutputStands, OutputReads}
 use Rattle.trim_laws.specs.trim_runs.Entry.{IsEntry, EntryMoves, entry_number, ProgramsRun}
 use Rattle.trim_laws.proofs.lemmas.trim_runs.Tokens.{own_table, own_key, row_named}
 use Rattle.trim_laws.proofs.lemmas.trim_runs.Runs.{runs_alike}
@@ -210,24 +213,37 @@ entry_moves m entry roots k merge e =
 -- ---- the program
 
 module _ (law : LeftIsRecord) (m : Merge) (entry : Option RowAt) (roots : List Root) (holds : Fact → Bool) (k : ℕ) (flagged : IsFlagged m entry roots holds) (only : OnlyMarks (before m) entry roots (flags_of m holds))
-    (names : NamesApart m entry roots) (stands : OutputStands m) (reads : OutputReads m (keep_by m holds)) (e : IsEntry m entry k) where
+    (followed : IsFollowed m entry roots) (names : NamesApart m entry roots) (stands : OutputStands m) (reads : OutputReads m (keep_by m holds)) (e : IsEntry m entry k) where
   own_number : number_at methods_in (before m) (at_row 0 k) ≡ k
   unfolding rows_before
   own_number = omega arith
 
-  entry_flag : IsTrue ((keep_by m holds).method k)
-  entry_flag =
+  some_input : suc 0 < length (before m)
+  some_input = let long = before_length m in let some = flagged.merge.merge.some in omega (arith, long, some)
+
+  entry_row : IsThere methods_in (before m) (at_row 0 k)
+  entry_row = record { rec = e.first; here = before_input m 0 some_input ∙ e.there; below = e.below }
+
+  entry_stays : IsTrue ((keep_by m holds).method (number_at methods_in (before m) (at_row 0 k)))
+  entry_stays =
       let merge = subst (λ (o : Option RowAt). IsMarkedMerge m o roots) e.is flagged.merge in
-      let kept = entry_kept m roots k merge e.first e.there e.names e.below in
-      let long = before_length m in
-      let some = flagged.merge.merge.some in
-      let row : IsThere methods_in (before m) (at_row 0 k) = record { rec = e.first; here = before_input m 0 (omega (arith, long, some)) ∙ e.there; below = e.below } in
-      subst (λ (i : ℕ). IsTrue ((keep_by m holds).method i)) own_number (method_kept m entry roots holds flagged (at_row 0 k) row ∙ kept)
+      method_kept m entry roots holds flagged (at_row 0 k) entry_row ∙ entry_kept m roots k merge e.first e.there e.names e.below
+
+  -- a method of an input can be called
+  entry_called : IsTrue ((keep_by m holds).called (number_at methods_in (before m) (at_row 0 k)))
+  entry_called =
+      called_is (before m) (flags_of m holds) (number_at methods_in (before m) (at_row 0 k))
+      (input_searches_nothing (before m) (number_at methods_in (before m) (at_row 0 k)) (at_row 0 k) (there_home methods_in (before m) (at_row 0 k) entry_row) some_input)
+
+  entry_flag : IsTrue (can_call (keep_by m holds) k)
+  entry_flag =
+      let i : ℕ = number_at methods_in (before m) (at_row 0 k) in
+      subst (λ (i : ℕ). IsTrue (can_call (keep_by m holds) i)) own_number (and_from ((keep_by m holds).method i) ((keep_by m holds).called i) entry_stays entry_called)
 
   pub program_runs : (bytes : List ℕ) (n : ℕ) → run_from (queries_of (after m)) (entry_number m.left) bytes n ≡ move_outcome (rho_of m) (run_from (queries_of (before m)) k bytes n)
   program_runs bytes n =
       ap (λ (o : Option ℕ). run_from (queries_of (after m)) (unwrap_or o 0) bytes n) (entry_moves m entry roots k flagged.merge e).0
-      ∙ runs_alike law m entry roots holds flagged only names stands reads k entry_flag bytes n
+      ∙ runs_alike law m entry roots holds flagged only followed names stands reads k entry_flag bytes n
 
 pub programs_run : LeftIsRecord → ProgramsRun
-programs_run law m entry roots holds k flagged only names stands reads e bytes n = program_runs law m entry roots holds k flagged only names stands reads e bytes n
+programs_run law m entry roots holds k flagged only followed names stands reads e bytes n = program_runs law m entry roots holds k flagged only followed names stands reads e bytes n

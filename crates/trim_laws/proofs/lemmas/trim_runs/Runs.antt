@@ -26,7 +26,7 @@ use Rattle.trim_laws.specs.trim_moves.Laws.{keep_by, kept_by, IsFlagged, NamesAp
 use Rattle.trim_laws.proofs.lemmas.trim_moves.Flags.{flags_say}
 use Rattle.trim_laws.proofs.lemmas.trim_moves.Parts.{bases_good, interfaces_good}
 use Rattle.trim_laws.proofs.lemmas.trim_moves.Names.{names_stay}
-use Rattle.trim_laws.specs.trim_runs.Laws.{OutputStands, OutputReads, RunsAlike, TrimsRun}
+use Rattle.trim_laws.specs.trim_runs.Laws.{IsFollowed, OutputStands, OutputReads, RunsAlike, TrimsRun}
 
 -- ---- records
 
@@ -64,7 +64,7 @@ module _ (m : Merge) (is : IsMerge m) (k : Keep) (kept : RowAt → Bool) (flags 
       record { types = λ a b x y h g e f. apart.types a b x y e f; methods = λ a b x y h g e f. apart.methods a b x y e f }
 
 module _ (law : LeftIsRecord) (m : Merge) (entry : Option RowAt) (roots : List Root) (holds : Fact → Bool) (flagged : IsFlagged m entry roots holds) (only : OnlyMarks (before m) entry roots (flags_of m holds))
-    (names : NamesApart m entry roots) (stands : OutputStands m) (reads : OutputReads m (keep_by m holds)) where
+    (followed : IsFollowed m entry roots) (names : NamesApart m entry roots) (stands : OutputStands m) (reads : OutputReads m (keep_by m holds)) where
   abbrev k : Keep
   k = keep_by m holds
 
@@ -91,8 +91,8 @@ module _ (law : LeftIsRecord) (m : Merge) (entry : Option RowAt) (roots : List R
 
   pub runs_alike : RunsAlike m k
   runs_alike i h bytes n =
-      closed.trims_run (change_of m (undone_of m) k) (places_of m) (m.left ∷ []) m.inputs entry roots (flags_of m holds) stands.links is.links (one_record m.left left_is) is.records (few_types m is) flagged.marks only flagged.merge.good
+      closed.trims_run (change_of m (undone_of m) k) (places_of m) (m.left ∷ []) m.inputs entry roots (flags_of m holds) stands.links is.links (one_record m.left left_is) is.records (few_types m is) flagged.marks only flagged.merge.good followed
       refl (rows_move m is k kept flags rows reads) (rows_apart m is k kept flags rows reads) i h bytes n
 
 pub trims_run : LeftIsRecord → TrimsRun
-trims_run law m entry roots holds flagged only names stands reads = runs_alike law m entry roots holds flagged only names stands reads
+trims_run law m entry roots holds flagged only followed names stands reads = runs_alike law m entry roots holds flagged only followed names stands reads
