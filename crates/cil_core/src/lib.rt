@@ -10,6 +10,7 @@ pub mod cil_object_members;
 pub mod cil_text_members;
 pub mod cil_type_members;
 mod found;
+mod making;
 mod members;
 mod resuming;
 mod virtual_members;

@@ -19,9 +19,8 @@ use crate::cil_text_members::{
     string_unit,
 };
 use crate::cil_type_members::{
-    object_type, type_encloser, type_fits, type_from_handle, type_full_name, type_has,
-    type_is_array, type_is_interface, type_is_value, type_namespace, type_other, type_own_name,
-    type_text,
+    member_name, member_owner, object_type, type_fits, type_from_handle, type_full_name, type_has,
+    type_is_array, type_is_interface, type_is_value, type_namespace, type_other, type_text,
 };
 use il_base::NoMemory;
 use il_base::cil_values::{CoreCall, State, Value};
@@ -81,8 +80,8 @@ pub(crate) fn simple<Q: Answers>(
         CoreCall::TypeText => type_text(alloc, q, args, st),
         CoreCall::TypeFullName => type_full_name(alloc, q, args, st),
         CoreCall::TypeNamespace => type_namespace(alloc, q, args, st),
-        CoreCall::MemberName => type_own_name(alloc, q, args, st),
-        CoreCall::MemberOwner => type_encloser(alloc, q, args, st),
+        CoreCall::MemberName => member_name(alloc, q, args, st),
+        CoreCall::MemberOwner => member_owner(alloc, q, args, st),
         CoreCall::TypeSame => Ok(same(args, st)),
         CoreCall::TypeOther => Ok(type_other(args, st)),
         CoreCall::TypeIs => Ok(same(args, st)),
@@ -92,6 +91,14 @@ pub(crate) fn simple<Q: Answers>(
         CoreCall::TypeIsInterface => Ok(type_is_interface(q, args, st)),
         CoreCall::TypeIsArray => Ok(type_is_array(args, st)),
         CoreCall::TypeFind(_) => Ok(stuck_member(st)),
+        CoreCall::MemberFind(_) => Ok(stuck_member(st)),
+        CoreCall::MemberList(_) => Ok(stuck_member(st)),
+        CoreCall::MethodIsStatic => Ok(stuck_member(st)),
+        CoreCall::MemberType(_) => Ok(stuck_member(st)),
+        CoreCall::MemberSame => Ok(stuck_member(st)),
+        CoreCall::MemberOther => Ok(stuck_member(st)),
+        CoreCall::Create => Ok(stuck_member(st)),
+        CoreCall::CreateOf => Ok(stuck_member(st)),
         CoreCall::AreEqual => Ok(stuck_member(st)),
     }
 }

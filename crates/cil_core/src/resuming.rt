@@ -1,9 +1,13 @@
 //! A member goes on with what the method that it called returned.
 
-ghost use Rattle.std.specs.Prelude.{◌≡◌, ℕ, List, ◌∷◌, [], IfOk};
+ghost use Rattle.std.specs.Prelude.{◌≡◌, ℕ, List, ◌∷◌, [], IfOk, unwrap_or};
+ghost use Rattle.std.specs.Option.{option_and_then};
+ghost use Rattle.il_base.specs.declared.cil_values.value.Value.TheVariants.{Object};
+ghost use Rattle.rules.specs.step_rules.Words.{object_at};
+ghost use Rattle.rules.specs.step_rules.Places.{boxed_in};
 ghost use Rattle.il_base.specs.declared.cil_values.value.Value.{Value};
 ghost use Rattle.rules.specs.step_rules.CoreWords.{Gives};
-ghost use Rattle.rules.specs.step_rules.Core.{with_option, with_result};
+ghost use Rattle.rules.specs.step_rules.Core.{gives_first, gives_unboxed, with_option, with_result, without_result};
 ghost use Rattle.rules.specs.step_rules.CoreConsole.{print_form};
 ghost use Rattle.rules.specs.step_rules.Queries.{Queries};
 ghost use Rattle.il_base.specs.declared.cil_values.core_call.Printed.TheVariants.{OfObject};
@@ -14,6 +18,7 @@ use crate::cil_console_members::print;
 use crate::cil_members::{CoreOut, gives_value, stuck_member};
 use il_base::cil_values::{CoreCall, Printed, State, Value};
 use il_base::{NoMemory, Seq, element};
+use machine_words::cil_places::boxed_value;
 use machine_words::cil_queries::Answers;
 use machine_words::cil_stores::narrowed;
 use std::alloc::Global;
@@ -76,19 +81,82 @@ fn with_result(
     }
 }
 
+/// The first argument: the object that a constructor made.
+fn gives_first(alloc: Global, args: &[Value], st: &State) -> Result<CoreOut, NoMemory>
+    ensures { IfOk result (λ out. (give : Gives) → gives_first args.now st.now give ≡ gives_by out st.now [] give) }
+{
+    match args {
+        [] => Ok(stuck_member(st)),
+        [v, ..] => {
+            let copy = v.copy(alloc)?;
+            Ok(gives_value(st, copy))
+        }
+    }
+}
+
+/// The value in the box with a number, or the object that is none.
+fn unboxed(alloc: Global, at: u32, st: &State) -> Result<Value, NoMemory>
+    ensures { IfOk result (λ w. w ≡ unwrap_or (option_and_then boxed_in (object_at st.now at)) (Object at)) }
+{
+    match boxed_value(alloc, st, at)? {
+        Some(w) => Ok(w),
+        None => Ok(Value::Object(at)),
+    }
+}
+
+/// The first argument, out of its box.
+fn gives_unboxed(alloc: Global, args: &[Value], st: &State) -> Result<CoreOut, NoMemory>
+    ensures { IfOk result (λ out. (give : Gives) → gives_unboxed args.now st.now give ≡ gives_by out st.now [] give) }
+{
+    let [v, ..] = args else {
+        return Ok(stuck_member(st));
+    };
+    match v {
+        Value::Object(at) => {
+            let w = unboxed(alloc, *at, st)?;
+            Ok(gives_value(st, w))
+        }
+        Value::Null => Ok(stuck_member(st)),
+        Value::I4(_) => Ok(stuck_member(st)),
+        Value::I8(_) => Ok(stuck_member(st)),
+        Value::Native(_) => Ok(stuck_member(st)),
+        Value::Pointer(_) => Ok(stuck_member(st)),
+        Value::Struct(_, _) => Ok(stuck_member(st)),
+        Value::Handle(_) => Ok(stuck_member(st)),
+        Value::FieldHandle(_) => Ok(stuck_member(st)),
+    }
+}
+
+/// The method that the member called returned nothing.
+fn without_result(
+    alloc: Global,
+    member: CoreCall,
+    args: &[Value],
+    st: &State,
+) -> Result<CoreOut, NoMemory>
+    ensures { IfOk result (λ out. (q : Queries) (give : Gives) → without_result member q args.now st.now give ≡ gives_by out st.now [] give) }
+{
+    match member {
+        CoreCall::Create => gives_first(alloc, args, st),
+        CoreCall::CreateOf => gives_unboxed(alloc, args, st),
+        _ => Ok(stuck_member(st)),
+    }
+}
+
 /// The member goes on with what its method returned, in a state that stays as it is.
 fn with_option(
     alloc: Global,
     member: CoreCall,
+    args: &[Value],
     returned: Option<Value>,
     st: &State,
     printed: &mut Vec<u8>,
 ) -> Result<CoreOut, NoMemory>
     requires { printed.old.items ≡ [] }
-    ensures { IfOk result (λ out. (q : Queries) (args : List Value) (give : Gives) → with_option member q args st.now give returned ≡ gives_by out st.now printed.new.items give) }
+    ensures { IfOk result (λ out. (q : Queries) (give : Gives) → with_option member q args.now st.now give returned ≡ gives_by out st.now printed.new.items give) }
 {
     match returned {
-        None => Ok(stuck_member(st)),
+        None => without_result(alloc, member, args, st),
         Some(v) => {
             let out = with_result(alloc, member, &v, st, printed);
             drop(v);
@@ -111,5 +179,5 @@ pub fn resume<Q: Answers>(
     ensures gives { IfOk result (λ out. (give : Gives) → with_option member (Q.queries q.now) args st.old give returned ≡ gives_by out st.new printed.new.items give) }
     ensures frames { IfOk result (λ out. KeepsFrames out st.old st.new) }
 {
-    with_option(alloc, member, returned, st, printed)
+    with_option(alloc, member, args.as_slice(), returned, st, printed)
 }

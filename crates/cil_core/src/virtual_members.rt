@@ -167,7 +167,8 @@ pub(crate) fn print_object<Q: Answers>(
             let member = CoreCall::Prints(line, Printed::OfObject);
             let own = one_object(alloc, *at)?;
             let rest = Seq::new(alloc);
-            calls_slot(alloc, q, q.to_string(), member, own, *at, rest, st, printed)
+            let slot = q.object_slots().to_string;
+            calls_slot(alloc, q, slot, member, own, *at, rest, st, printed)
         }
         Value::I4(_) => Ok(stuck_member(st)),
         Value::I8(_) => Ok(stuck_member(st)),
@@ -193,7 +194,7 @@ fn calls_equals<Q: Answers>(
 {
     let own = two_objects(alloc, first, second)?;
     let rest = one_object(alloc, second)?;
-    let slot = q.equals();
+    let slot = q.object_slots().equals;
     calls_slot(
         alloc,
         q,

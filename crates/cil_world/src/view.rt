@@ -2,20 +2,24 @@
 
 ghost use Rattle.std.specs.Prelude.{◌≡◌, IfOk};
 ghost use Rattle.rules.specs.link_rules.Linked.{IsWorld};
-ghost use Rattle.rules.specs.view_rules.Answers.{queries_of};
+ghost use Rattle.rules.specs.view_rules.Answers.{maker_query, queries_of};
 
 use crate::kept::{all_kept, cells_in};
 use crate::world_definitions::Definitions;
 use crate::world_layouts::Layouts;
 use crate::world_types::ClosedTypes;
-use il_base::cil_values::{CoreCall, FieldDef, Head, Instruction, Layout, Method, Shape, Sought};
+use il_base::cil_values::{
+    CoreCall, FieldDef, Head, Instruction, Layout, MemberKind, Method, Shape, Sought,
+};
 use il_base::core_table::CoreName;
-use il_base::world_model::{MethodUse, TypeExpr, World};
-use il_base::{NoMemory, Seq, Text};
-use machine_words::cil_queries::Answers;
+use il_base::world_model::{AsmRec, Known, MethodUse, TypeExpr, World};
+use il_base::{Item, NoMemory, Seq, Text};
+use machine_words::cil_queries::{Answers, ObjectSlots};
 use mark_parts::mark_tables::marker::Marker;
+use rules::type_rules::FoundMember;
 use std::alloc::Global;
 use std::marker::Model;
+use type_tables::member_search::bases::owner_of;
 
 /// A world that a link gave, with what its answers are looked up in, made once. Contracts see the world.
 #[derive(Drop)]
@@ -58,6 +62,23 @@ impl<'w> View<'w> {
             types,
             kept,
         })
+    }
+}
+
+/// The constructor by which reflection makes objects of a type, by its place in the world.
+#[tactic(auto, unfolding(rules::specs::view_rules::Answers::maker_query))]
+fn maker_of(
+    all: &[AsmRec],
+    definitions: &Definitions<'_>,
+    ty: &TypeExpr,
+) -> Result<Option<u32>, NoMemory>
+    requires { definitions.now.recs ≡ all.now }
+    ensures { IfOk result (λ method. method ≡ maker_query all.now ty.now) }
+{
+    match owner_of(all, ty) {
+        Ok(Some(id)) => Ok(definitions.maker(id.0)),
+        Ok(None) => Ok(None),
+        Err(error) => Err(error),
     }
 }
 
@@ -105,6 +126,10 @@ impl<'w> Answers for View<'w> {
         self.layouts.definitions().starts(ty)
     }
 
+    fn maker(&self, ty: &TypeExpr) -> Result<Option<u32>, NoMemory> {
+        maker_of(self.types.recs(), self.layouts.definitions(), ty)
+    }
+
     fn below(&self, alloc: Global, a: &TypeExpr, b: &TypeExpr) -> Result<bool, NoMemory> {
         self.types.is_subtype(alloc, a, b)
     }
@@ -139,15 +164,32 @@ impl<'w> Answers for View<'w> {
         self.types.find(alloc, method, text)
     }
 
+    fn members(
+        &self,
+        alloc: Global,
+        kind: MemberKind,
+        name: &Option<Text>,
+        ty: &TypeExpr,
+    ) -> Result<Seq<FoundMember>, NoMemory> {
+        self.types.members(alloc, kind, name, ty)
+    }
+
+    fn title(&self, alloc: Global, item: Item) -> Result<Text, NoMemory> {
+        self.types.title(alloc, item)
+    }
+
+    fn property(&self, alloc: Global, property: u32) -> Result<Option<Known<TypeExpr>>, NoMemory> {
+        self.types.property(alloc, property)
+    }
+
     fn kin(&self, alloc: Global, ty: &TypeExpr) -> Result<Option<CoreName>, NoMemory> {
         self.types.kin(alloc, ty)
     }
 
-    fn to_string(&self) -> u32 {
-        self.types.to_string()
-    }
-
-    fn equals(&self) -> u32 {
-        self.types.equals()
+    fn object_slots(&self) -> ObjectSlots {
+        ObjectSlots {
+            to_string: self.types.to_string(),
+            equals: self.types.equals(),
+        }
     }
 }

@@ -19,6 +19,7 @@ impl<T> Model for Boxed<T> {
 }
 
 impl<T> Boxed<T> {
+    #[inline(always)]
     pub fn get(&self) -> &T
         ensures { result.now ≡ self.now }
     {

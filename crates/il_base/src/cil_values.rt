@@ -16,7 +16,7 @@ mod stack;
 mod state;
 mod value;
 
-pub use core_call::{CoreCall, Printed};
+pub use core_call::{CoreCall, MemberKind, Printed};
 pub use definition::{FieldDef, First, Head, Method, Signature};
 pub use end::End;
 pub use frame::{Frame, Prefix, Reason, Running, Unwinding, Waits};

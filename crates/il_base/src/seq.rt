@@ -53,12 +53,14 @@ impl<T> Seq<T> {
         items
     }
 
+    #[inline(always)]
     pub fn as_slice(&self) -> &[T]
         ensures { result.now ≡ self.now }
     {
         self.items.as_slice()
     }
 
+    #[inline(always)]
     pub fn len(&self) -> usize
         ensures { result ≡ length self.now }
     {
@@ -72,6 +74,7 @@ impl<T> Seq<T> {
     }
 
     /// The element at `at`, counted from 0.
+    #[inline(always)]
     pub fn get(&self, at: usize) -> Option<&T>
         ensures value { option_copied result ≡ slice_get self.now at }
         ensures within { OnSome result (at < length self.now) }

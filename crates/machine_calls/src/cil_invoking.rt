@@ -3,14 +3,12 @@
 //! to, as `rules/specs/step_rules/Calls` has it.
 
 mod args;
-mod boxes;
 mod going;
 mod invoking;
 mod operands;
 mod taking;
 
 pub use args::{first_and_rest, with_first};
-pub use boxes::boxed_value;
 pub use cil_core::resume;
 pub use going::{gives_made, push_result};
 pub use invoking::{invoke, runs, runs_found, runs_on};

@@ -6,6 +6,7 @@ mod handlers;
 mod inits;
 mod search;
 mod unwinding;
+mod wrapping;
 
 pub use clauses::{is_catch, is_finally, is_in_handler, is_in_try};
 pub use handlers::{handler_begins, still_running};

@@ -16,3 +16,4 @@ pub use closed_types::{closed_cell, closed_return, closed_slot};
 pub use closed_uses::closed_use;
 pub use plain::{args_of, is_void, without_modifiers};
 pub use running::body_of;
+pub use standing::are_whole;

@@ -2,4 +2,4 @@
 
 mod answers;
 
-pub use answers::Answers;
+pub use answers::{Answers, ObjectSlots};

@@ -23,6 +23,8 @@ pub mod Input
 pub mod CoreConsole
 pub mod CoreArrays
 pub mod CoreTypes
+pub mod CoreMaking
+pub mod CoreMembers
 pub mod Core
 pub mod Calls
 pub mod Returns

@@ -5,4 +5,5 @@ pub mod Texts
 pub mod Labels
 pub mod Searches
 pub mod Initializers
+pub mod Makers
 pub mod Rows

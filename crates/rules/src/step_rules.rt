@@ -1,7 +1,7 @@
 //! The machine (I.12, III), as definitions in `specs/step_rules/`: `Queries` are the questions of a step to a world, `Step` is a
 //! step, which runs one instruction, and `Run` is the run of a program. The functions are laws that state examples.
 
-ghost use Rattle.rules.specs.step_rules.Examples.{Adds, DividesByZero, DividesLeast, Converts, Shifts, Branches, Calls, Prints, BadOperand, EmptyStack, Makes, StoresField, LoadsField, FieldOfNull, Addresses, Points, NewArrays, StoresElement, Mismatches, Boxes, Casts, Catches, Leaves, EndsFinally, FallsOut};
+ghost use Rattle.rules.specs.step_rules.Examples.{Adds, DividesByZero, DividesLeast, Converts, Shifts, Branches, Calls, Prints, BadOperand, EmptyStack, Makes, Creates, CreatesZero, CreatesNothing, StoresField, LoadsField, FieldOfNull, Addresses, Points, NewArrays, StoresElement, Mismatches, Boxes, Casts, Catches, Leaves, EndsFinally, FallsOut};
 
 /// Arithmetic, conversions and shifts (III.3): small programs and steps, and what each comes to. It does nothing.
 pub fn arithmetic()
@@ -29,6 +29,13 @@ pub fn places()
     ensures null { FieldOfNull }
     ensures addresses { Addresses }
     ensures pointers { Points }
+{}
+
+/// Activator.CreateInstance(Type) (II.10.5.1): steps, and what each comes to. It does nothing.
+pub fn creation()
+    ensures constructor { Creates }
+    ensures zero { CreatesZero }
+    ensures none { CreatesNothing }
 {}
 
 /// Arrays (III.4): small programs and steps, and what each comes to. It does nothing.

@@ -1,2 +1,6 @@
 //! Definitions of the type system over the assemblies of a world: subtypes, dispatch, searches by
-//! name, the text of a type. Nothing goes in or comes out; `specs/type_rules/` has them.
+//! name, the text of a type. `specs/type_rules/` has them; here is the data that they speak of.
+
+mod found_member;
+
+pub use found_member::FoundMember;

@@ -1,1 +1,2 @@
 pub mod Constructed
+pub mod Making

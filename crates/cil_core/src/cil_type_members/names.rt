@@ -3,7 +3,7 @@
 ghost use Rattle.std.specs.Prelude.{◌≡◌, [], IfOk};
 ghost use Rattle.rules.specs.step_rules.Objects.{units_of_bytes};
 ghost use Rattle.rules.specs.step_rules.CoreWords.{Gives, gives_text};
-ghost use Rattle.rules.specs.step_rules.CoreTypes.{gives_space, is_constructed, type_full_name_form, type_name_alone_form, type_namespace_form, type_text_form};
+ghost use Rattle.rules.specs.step_rules.CoreTypes.{gives_space, is_constructed, type_full_name_form, type_namespace_form, type_text_form};
 ghost use Rattle.cil_core.specs.cil_members.Outs.{gives_by};
 
 use crate::cil_members::{CoreOut, gives_text, gives_value, stopped_member, stuck_member};
@@ -16,7 +16,7 @@ use machine_words::cil_queries::Answers;
 use std::alloc::Global;
 
 /// The member gives a new string, of this text in UTF-8.
-fn gives_bytes(alloc: Global, bytes: &[u8], st: &mut State) -> Result<CoreOut, NoMemory>
+pub(crate) fn gives_bytes(alloc: Global, bytes: &[u8], st: &mut State) -> Result<CoreOut, NoMemory>
     ensures { IfOk result (λ out. (give : Gives) → gives_by out st.new [] give ≡ gives_text (units_of_bytes bytes.now) st.old give) }
 {
     let units = units_of_bytes(alloc, bytes)?;
@@ -115,24 +115,4 @@ pub fn type_namespace<Q: Answers>(
     };
     let space = q.space(alloc, ty)?;
     gives_space(alloc, space.as_slice(), st)
-}
-
-/// MemberInfo.get_Name() of a type: its own name, without arguments.
-#[tactic(auto, unfolding(rules::specs::step_rules::CoreTypes::type_name_alone_form))]
-pub fn type_own_name<Q: Answers>(
-    alloc: Global,
-    q: &Q,
-    args: &[Value],
-    st: &mut State,
-) -> Result<CoreOut, NoMemory>
-    ensures { IfOk result (λ out. (give : Gives) → gives_by out st.new [] give ≡ type_name_alone_form (Q.queries q.now) args.now st.old give) }
-{
-    let [v] = args else {
-        return Ok(stuck_member(st));
-    };
-    let Some(ty) = typed_by(st, v) else {
-        return Ok(stuck_member(st));
-    };
-    let label = q.label(alloc, ty)?;
-    gives_bytes(alloc, label.as_slice(), st)
 }

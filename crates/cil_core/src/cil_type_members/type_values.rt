@@ -6,7 +6,7 @@ ghost use Rattle.il_base.specs.declared.cil_values.value.Value.TheVariants.{Obje
 ghost use Rattle.rules.specs.step_rules.Queries.{Queries};
 ghost use Rattle.rules.specs.step_rules.Frames.{definition_of};
 ghost use Rattle.rules.specs.step_rules.CoreWords.{Gives};
-ghost use Rattle.rules.specs.step_rules.CoreTypes.{gives_encloser, gives_type, handle_type, object_type, object_type_form, type_encloser_form, type_from_handle_form};
+ghost use Rattle.rules.specs.step_rules.CoreTypes.{gives_encloser, gives_type, handle_type, object_type, object_type_form, type_from_handle_form};
 ghost use Rattle.cil_core.specs.cil_members.Outs.{gives_by};
 
 use crate::cil_members::{CoreOut, gives_value, stuck_member};
@@ -14,7 +14,7 @@ use il_base::cil_values::{State, Value};
 use il_base::world_model::TypeExpr;
 use il_base::{NoMemory, TypeId};
 use machine_frames::cil_frames::definition_of;
-use machine_words::cil_objects::{type_of, typed, typed_by};
+use machine_words::cil_objects::{type_of, typed};
 use machine_words::cil_queries::Answers;
 use std::alloc::Global;
 
@@ -84,7 +84,11 @@ pub fn object_type<Q: Answers>(
 }
 
 /// The object of the definition that a type is nested in; null where there is none.
-fn gives_encloser(alloc: Global, around: Option<u32>, st: &mut State) -> Result<CoreOut, NoMemory>
+pub(crate) fn gives_encloser(
+    alloc: Global,
+    around: Option<u32>,
+    st: &mut State,
+) -> Result<CoreOut, NoMemory>
     ensures { IfOk result (λ out. (give : Gives) → gives_by out st.new [] give ≡ gives_encloser st.old give around) }
 {
     match around {
@@ -99,31 +103,11 @@ fn gives_encloser(alloc: Global, around: Option<u32>, st: &mut State) -> Result<
 }
 
 /// The definition that a type's definition is nested in (II.22.32). None for an array, and for a type that isn't nested.
-fn encloser_of<Q: Answers>(q: &Q, ty: &TypeExpr) -> Option<u32>
+pub(crate) fn encloser_of<Q: Answers>(q: &Q, ty: &TypeExpr) -> Option<u32>
     ensures { result ≡ option_and_then (Q.queries q.now).encloser (definition_of ty.now) }
 {
     match definition_of(ty) {
         None => None,
         Some(id) => q.encloser(id),
     }
-}
-
-/// MemberInfo.get_DeclaringType() of a type.
-#[tactic(auto, unfolding(rules::specs::step_rules::CoreTypes::type_encloser_form))]
-pub fn type_encloser<Q: Answers>(
-    alloc: Global,
-    q: &Q,
-    args: &[Value],
-    st: &mut State,
-) -> Result<CoreOut, NoMemory>
-    ensures { IfOk result (λ out. (give : Gives) → gives_by out st.new [] give ≡ type_encloser_form (Q.queries q.now) args.now st.old give) }
-{
-    let [v] = args else {
-        return Ok(stuck_member(st));
-    };
-    let Some(ty) = typed_by(st, v) else {
-        return Ok(stuck_member(st));
-    };
-    let around = encloser_of(q, ty);
-    gives_encloser(alloc, around, st)
 }

@@ -1,9 +1,9 @@
 //! What the members of the core library do, by their types, names and parameters.
 
 ghost use Rattle.std.specs.Prelude.{◌≡◌};
-ghost use Rattle.rules.specs.view_rules.Members.{equals_by, printed_by, prints_by, object_call, primitive_call, string_call, console_call, text_call, exception_call, type_call, member_info_call, call_by};
+ghost use Rattle.rules.specs.view_rules.Members.{equals_by, printed_by, prints_by, object_call, primitive_call, string_call, console_call, text_call, exception_call, type_call, info_call, member_info_call, activator_call, call_by};
 
-use il_base::cil_values::{CoreCall, Printed};
+use il_base::cil_values::{CoreCall, MemberKind, Printed};
 use il_base::core_table::{CoreName, CoreParams, CoreSig};
 use il_base::element;
 
@@ -840,7 +840,7 @@ fn exception_call(owner: CoreName, name: CoreName, params: CoreParams) -> Option
     }
 }
 
-/// Members of Type. A search for members ends the run.
+/// Members of Type.
 fn type_call(name: CoreName, params: CoreParams) -> Option<CoreCall>
     ensures { result ≡ type_call name params }
 {
@@ -864,6 +864,12 @@ fn type_call(name: CoreName, params: CoreParams) -> Option<CoreCall>
         CoreName::GetIsValueType => Some(CoreCall::TypeIsValue),
         CoreName::GetIsInterface => Some(CoreCall::TypeIsInterface),
         CoreName::GetIsArray => Some(CoreCall::TypeIsArray),
+        CoreName::GetMethod => Some(CoreCall::MemberFind(MemberKind::Method)),
+        CoreName::GetMethods => Some(CoreCall::MemberList(MemberKind::Method)),
+        CoreName::GetField => Some(CoreCall::MemberFind(MemberKind::Field)),
+        CoreName::GetFields => Some(CoreCall::MemberList(MemberKind::Field)),
+        CoreName::GetProperty => Some(CoreCall::MemberFind(MemberKind::Property)),
+        CoreName::GetProperties => Some(CoreCall::MemberList(MemberKind::Property)),
         CoreName::Module
         | CoreName::Object
         | CoreName::ValueType
@@ -946,12 +952,6 @@ fn type_call(name: CoreName, params: CoreParams) -> Option<CoreCall>
         | CoreName::Read
         | CoreName::GetMessage
         | CoreName::GetInnerException
-        | CoreName::GetMethod
-        | CoreName::GetMethods
-        | CoreName::GetField
-        | CoreName::GetFields
-        | CoreName::GetProperty
-        | CoreName::GetProperties
         | CoreName::GetName
         | CoreName::GetDeclaringType
         | CoreName::Invoke
@@ -961,6 +961,128 @@ fn type_call(name: CoreName, params: CoreParams) -> Option<CoreCall>
         | CoreName::SetValue
         | CoreName::GetFieldType
         | CoreName::GetPropertyType
+        | CoreName::CreateInstance
+        | CoreName::InitializeArray
+        | CoreName::Dispose
+        | CoreName::Empty => Some(CoreCall::Halts),
+    }
+}
+
+/// Members of MethodBase, MethodInfo, FieldInfo and PropertyInfo. A call of what was found, and reading or setting it, ends the run.
+fn info_call(name: CoreName) -> Option<CoreCall>
+    ensures { result ≡ info_call name }
+{
+    match name {
+        CoreName::GetIsStatic => Some(CoreCall::MethodIsStatic),
+        CoreName::GetReturnType => Some(CoreCall::MemberType(MemberKind::Method)),
+        CoreName::GetFieldType => Some(CoreCall::MemberType(MemberKind::Field)),
+        CoreName::GetPropertyType => Some(CoreCall::MemberType(MemberKind::Property)),
+        CoreName::OpEquality => Some(CoreCall::MemberSame),
+        CoreName::OpInequality => Some(CoreCall::MemberOther),
+        CoreName::Module
+        | CoreName::Object
+        | CoreName::ValueType
+        | CoreName::Enum
+        | CoreName::Boolean
+        | CoreName::Char
+        | CoreName::SByte
+        | CoreName::Byte
+        | CoreName::Int16
+        | CoreName::UInt16
+        | CoreName::Int32
+        | CoreName::UInt32
+        | CoreName::Int64
+        | CoreName::UInt64
+        | CoreName::IntPtr
+        | CoreName::UIntPtr
+        | CoreName::Void
+        | CoreName::RuntimeTypeHandle
+        | CoreName::RuntimeFieldHandle
+        | CoreName::RuntimeMethodHandle
+        | CoreName::String
+        | CoreName::Array
+        | CoreName::Console
+        | CoreName::Exception
+        | CoreName::Type
+        | CoreName::MemberInfo
+        | CoreName::MethodBase
+        | CoreName::MethodInfo
+        | CoreName::FieldInfo
+        | CoreName::PropertyInfo
+        | CoreName::Activator
+        | CoreName::RuntimeHelpers
+        | CoreName::IDisposable
+        | CoreName::Attribute
+        | CoreName::SystemException
+        | CoreName::ApplicationException
+        | CoreName::MemberAccessException
+        | CoreName::MissingMemberException
+        | CoreName::ArgumentException
+        | CoreName::ArgumentNullException
+        | CoreName::ArgumentOutOfRangeException
+        | CoreName::InvalidOperationException
+        | CoreName::NotSupportedException
+        | CoreName::NotImplementedException
+        | CoreName::NullReferenceException
+        | CoreName::InvalidCastException
+        | CoreName::IndexOutOfRangeException
+        | CoreName::ArrayTypeMismatchException
+        | CoreName::ArithmeticException
+        | CoreName::DivideByZeroException
+        | CoreName::OverflowException
+        | CoreName::FormatException
+        | CoreName::TypeInitializationException
+        | CoreName::TypeLoadException
+        | CoreName::MissingMethodException
+        | CoreName::AmbiguousMatchException
+        | CoreName::TargetInvocationException
+        | CoreName::TargetParameterCountException
+        | CoreName::TargetException
+        | CoreName::Nameless
+        | CoreName::System
+        | CoreName::SystemReflection
+        | CoreName::SystemRuntimeCompilerServices
+        | CoreName::Constructor
+        | CoreName::ToString
+        | CoreName::Equals
+        | CoreName::GetHashCode
+        | CoreName::Finalize
+        | CoreName::GetType
+        | CoreName::ReferenceEquals
+        | CoreName::CompareTo
+        | CoreName::Parse
+        | CoreName::GetLength
+        | CoreName::GetChars
+        | CoreName::Concat
+        | CoreName::Substring
+        | CoreName::IndexOf
+        | CoreName::IsNullOrEmpty
+        | CoreName::CompareOrdinal
+        | CoreName::WriteLine
+        | CoreName::Write
+        | CoreName::ReadLine
+        | CoreName::Read
+        | CoreName::GetMessage
+        | CoreName::GetInnerException
+        | CoreName::GetTypeFromHandle
+        | CoreName::GetNamespace
+        | CoreName::GetFullName
+        | CoreName::IsAssignableFrom
+        | CoreName::IsInstanceOfType
+        | CoreName::GetIsValueType
+        | CoreName::GetIsInterface
+        | CoreName::GetIsArray
+        | CoreName::GetMethod
+        | CoreName::GetMethods
+        | CoreName::GetField
+        | CoreName::GetFields
+        | CoreName::GetProperty
+        | CoreName::GetProperties
+        | CoreName::GetName
+        | CoreName::GetDeclaringType
+        | CoreName::Invoke
+        | CoreName::GetValue
+        | CoreName::SetValue
         | CoreName::CreateInstance
         | CoreName::InitializeArray
         | CoreName::Dispose
@@ -1090,6 +1212,19 @@ fn member_info_call(name: CoreName) -> Option<CoreCall>
     }
 }
 
+/// Members of Activator: CreateInstance(Type), CreateInstance<T>().
+fn activator_call(params: CoreParams) -> Option<CoreCall>
+    ensures { result ≡ activator_call params }
+{
+    match params {
+        CoreParams::One(_) => Some(CoreCall::Create),
+        CoreParams::Zero
+        | CoreParams::Two(_, _)
+        | CoreParams::Three(_, _, _)
+        | CoreParams::Four(_, _, _, _) => Some(CoreCall::CreateOf),
+    }
+}
+
 /// What a member of a type does.
 pub(crate) fn call_by(owner: CoreName, name: CoreName, params: CoreParams) -> Option<CoreCall>
     ensures { result ≡ call_by owner name params }
@@ -1113,11 +1248,11 @@ pub(crate) fn call_by(owner: CoreName, name: CoreName, params: CoreParams) -> Op
         CoreName::Console => console_call(name, params),
         CoreName::Type => type_call(name, params),
         CoreName::MemberInfo => member_info_call(name),
-        CoreName::MethodBase => Some(CoreCall::Halts),
-        CoreName::MethodInfo => Some(CoreCall::Halts),
-        CoreName::FieldInfo => Some(CoreCall::Halts),
-        CoreName::PropertyInfo => Some(CoreCall::Halts),
-        CoreName::Activator => Some(CoreCall::Halts),
+        CoreName::MethodBase => info_call(name),
+        CoreName::MethodInfo => info_call(name),
+        CoreName::FieldInfo => info_call(name),
+        CoreName::PropertyInfo => info_call(name),
+        CoreName::Activator => activator_call(params),
         CoreName::RuntimeHelpers => Some(CoreCall::FillArray),
         CoreName::Attribute => Some(CoreCall::Idle),
         CoreName::IDisposable => None,

@@ -3,7 +3,7 @@
 ghost use Rattle.std.specs.Prelude.{◌≡◌, IfOk};
 ghost use Rattle.std.specs.Option.{option_copied};
 ghost use Rattle.mark_parts.specs.mark_tables.Assemblies.{IsMarker};
-ghost use Rattle.rules.specs.view_rules.Answers.{starts_query, encloser_query, queries_of};
+ghost use Rattle.rules.specs.view_rules.Answers.{starts_query, maker_of, encloser_query, queries_of};
 ghost use Rattle.rules.specs.view_rules.Methods.{method_query, field_query, head_query};
 ghost use Rattle.machine_words.specs.cil_queries.Bodies.{instruction_of};
 
@@ -89,6 +89,13 @@ impl<'w> Definitions<'w> {
         ensures { result ≡ starts_query self.now.recs ty }
     {
         self.types.starts(ty)
+    }
+
+    /// The constructor by which reflection makes objects of a type definition (II.10.5.1), both by their places in the world from 0.
+    pub fn maker(&self, ty: u32) -> Option<u32>
+        ensures { result ≡ maker_of self.now.recs ty }
+    {
+        self.types.maker(ty)
     }
 
     /// The type definition that another is nested in (II.22.32), both by their places in the world from 0.

@@ -3,12 +3,13 @@
 ghost use Rattle.std.specs.Prelude.{◌≡◌, IfOk};
 ghost use Rattle.mark_parts.specs.mark_tables.Assemblies.{all_of, IsMarker};
 ghost use Rattle.rules.specs.view_rules.Methods.{head_at};
-ghost use Rattle.cil_world.specs.world_definitions.Types.{AreParamsAt, around_at, starts_at};
+ghost use Rattle.cil_world.specs.world_definitions.Types.{AreParamsAt, around_at, maker_at, starts_at};
 
 use crate::world_methods::signatures::type_place;
 use il_base::NoMemory;
 use il_base::cil_values::Head;
 use mark_parts::mark_rows::initializers::initializer;
+use mark_parts::mark_rows::makers::maker;
 use mark_parts::mark_tables::marker::Marker;
 use rules::link_rules::RowAt;
 use rules::view_rules::seen_flags;
@@ -66,6 +67,25 @@ pub(crate) fn starts_at(
     ensures { IfOk result (λ m. m ≡ starts_at (all_of marker.now) at) }
 {
     match initializer(alloc, marker, at) {
+        Err(error) => Err(error),
+        Ok(None) => Ok(None),
+        Ok(Some(found)) => {
+            let id = method_id(marker.tables.world.recs.as_slice(), found)?;
+            Ok(Some(id.0))
+        }
+    }
+}
+
+/// The constructor by which reflection makes objects of a type in a row of an assembly, by its place in the world.
+pub(crate) fn maker_at(
+    alloc: Global,
+    marker: &Marker<'_>,
+    at: RowAt,
+) -> Result<Option<u32>, NoMemory>
+    requires { IsMarker marker.now }
+    ensures { IfOk result (λ m. m ≡ maker_at (all_of marker.now) at) }
+{
+    match maker(alloc, marker, at) {
         Err(error) => Err(error),
         Ok(None) => Ok(None),
         Ok(Some(found)) => {

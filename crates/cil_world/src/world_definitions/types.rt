@@ -4,11 +4,11 @@ ghost use Rattle.std.specs.Prelude.{◌≡◌, ◌++◌, IfOk, OnOk};
 ghost use Rattle.il_base.specs.world_model.Worlds.{types_in};
 ghost use Rattle.mark_parts.specs.mark_tables.Assemblies.{all_of, IsMarker};
 ghost use Rattle.rules.specs.view_rules.Methods.{head_at, head_query};
-ghost use Rattle.rules.specs.view_rules.Answers.{starts_query, encloser_query};
+ghost use Rattle.rules.specs.view_rules.Answers.{starts_query, maker_of, encloser_query};
 ghost use Rattle.cil_world.specs.world_methods.Rows.{rows_of, rows_from};
-ghost use Rattle.cil_world.specs.world_definitions.Types.{starts_at, around_at};
+ghost use Rattle.cil_world.specs.world_definitions.Types.{starts_at, maker_at, around_at};
 
-use crate::world_definitions::type_rows::{around_at, head_at, params_at, starts_at};
+use crate::world_definitions::type_rows::{around_at, head_at, maker_at, params_at, starts_at};
 use crate::world_methods::rows::in_place;
 use il_base::NoMemory;
 use il_base::cil_values::Head;
@@ -27,6 +27,8 @@ pub struct Types<'w> {
     heads: Vec<Option<Head>>,
     /// The initializer of each, by its place in the world.
     starts: Vec<Option<u32>>,
+    /// The constructor by which reflection makes objects of each, by its place in the world.
+    makers: Vec<Option<u32>>,
     /// The type that each is nested in, both by their places in the world.
     enclosers: Vec<Option<u32>>,
 }
@@ -36,7 +38,7 @@ impl<'w> Model for Types<'w> {
     ghost use Rattle.il_base.specs.declared.world_model.world.World.{World};
     ghost use Rattle.il_base.specs.contracts.world_model.world.World as of_world;
     ghost use Rattle.rules.specs.view_rules.Methods.{head_query};
-    ghost use Rattle.rules.specs.view_rules.Answers.{starts_query, encloser_query};
+    ghost use Rattle.rules.specs.view_rules.Answers.{starts_query, maker_of, encloser_query};
     ghost use Rattle.cil_world.specs.world_methods.Rows.{in_place};
 
     ghost Value = { World };
@@ -45,7 +47,7 @@ impl<'w> Model for Types<'w> {
 
     ghost view = { λ t. t.world.now };
 
-    ghost invariant = { λ t. ((n : ℕ) → in_place t.heads.items n ≡ head_query t.world.now.recs n) × ((n : ℕ) → in_place t.starts.items n ≡ starts_query t.world.now.recs n) × ((n : ℕ) → in_place t.enclosers.items n ≡ encloser_query t.world.now.recs n) };
+    ghost invariant = { λ t. ((n : ℕ) → in_place t.heads.items n ≡ head_query t.world.now.recs n) × ((n : ℕ) → in_place t.starts.items n ≡ starts_query t.world.now.recs n) × ((n : ℕ) → in_place t.makers.items n ≡ maker_of t.world.now.recs n) × ((n : ℕ) → in_place t.enclosers.items n ≡ encloser_query t.world.now.recs n) };
 }
 
 /// Puts the heads of the types of an assembly at the end.
@@ -121,6 +123,42 @@ fn starts_of(
     Ok(rows)
 }
 
+/// Puts the constructors by which reflection makes objects of the types of an assembly at the end.
+fn add_makers(
+    alloc: Global,
+    marker: &Marker<'_>,
+    a: usize,
+    count: usize,
+    rows: &mut Vec<Option<u32>>,
+) -> Result<(), NoMemory>
+    requires { IsMarker marker.now }
+    ensures { OnOk result (rows.new.items ≡ rows.old.items ++ rows_of (maker_at (all_of marker.now)) a count) }
+{
+    let asm = row_of(a)?;
+    for k in 0..count {
+        let row = row_of(k)?;
+        let one = maker_at(alloc, marker, RowAt { asm, row })?;
+        rows.push(one)?;
+    }
+    Ok(())
+}
+
+/// The same for the types of these assemblies, which are the first of a world.
+fn makers_of(
+    alloc: Global,
+    marker: &Marker<'_>,
+    all: &[AsmRec],
+) -> Result<Vec<Option<u32>>, NoMemory>
+    requires { IsMarker marker.now }
+    ensures { IfOk result (λ rows. rows.items ≡ rows_from types_in (maker_at (all_of marker.now)) 0 all.now) }
+{
+    let mut rows = Vec::new(alloc);
+    for (a, rec) in all.iter().enumerate() {
+        add_makers(alloc, marker, a, rec.type_def.len(), &mut rows)?;
+    }
+    Ok(rows)
+}
+
 /// Puts the types that those of an assembly are nested in at the end.
 fn add_enclosers(
     alloc: Global,
@@ -166,11 +204,13 @@ impl<'w> Types<'w> {
         let world = marker.tables.world;
         let heads = heads_of(alloc, marker, world.recs.as_slice())?;
         let starts = starts_of(alloc, marker, world.recs.as_slice())?;
+        let makers = makers_of(alloc, marker, world.recs.as_slice())?;
         let enclosers = enclosers_of(alloc, marker, world.recs.as_slice())?;
         Ok(Types {
             world,
             heads,
             starts,
+            makers,
             enclosers,
         })
     }
@@ -187,6 +227,14 @@ impl<'w> Types<'w> {
         ensures { result ≡ starts_query self.now.recs ty }
     {
         in_place(self.starts.as_slice(), ty).copied()
+    }
+
+    /// The constructor by which reflection makes objects of a type (II.10.5.1), both by their places in the world from 0. It takes no
+    /// memory.
+    pub fn maker(&self, ty: u32) -> Option<u32>
+        ensures { result ≡ maker_of self.now.recs ty }
+    {
+        in_place(self.makers.as_slice(), ty).copied()
     }
 
     /// The type definition that another is nested in (II.22.32), both by their places in the world from 0. It takes no memory.

@@ -8,18 +8,19 @@ ghost use Rattle.rules.specs.type_rules.Texts.{text};
 ghost use Rattle.rules.specs.type_rules.Labels.{label, space};
 ghost use Rattle.type_tables.specs.Tables.{IsTables};
 ghost use Rattle.rules.specs.view_rules.Members.{core_call};
-ghost use Rattle.rules.specs.view_rules.Answers.{core_type_id, core_method_id, answers_query, find_query, nearest_core};
+ghost use Rattle.rules.specs.view_rules.Answers.{core_type_id, core_method_id, answers_query, find_query, members_query, title_query, property_query, nearest_core};
 
 use crate::world_core::{core_call, core_type_row};
 use crate::world_types::answered::{
     Answered, all_answers, copied, find_answer, kept_answer, kept_led,
 };
 use crate::world_types::core_rows::CoreRows;
-use crate::world_types::{bases, kin, sought};
-use il_base::cil_values::{CoreCall, Sought};
+use crate::world_types::{bases, kin, reflected, sought};
+use il_base::cil_values::{CoreCall, MemberKind, Sought};
 use il_base::core_table::CoreName;
-use il_base::world_model::{AsmRec, MethodUse, TypeExpr, World};
-use il_base::{MethodId, NoMemory, Text};
+use il_base::world_model::{AsmRec, Known, MethodUse, TypeExpr, World};
+use il_base::{Item, MethodId, NoMemory, Seq, Text};
+use rules::type_rules::FoundMember;
 use std::alloc::Global;
 use std::marker::Model;
 use type_names::TypeNames;
@@ -171,6 +172,37 @@ impl<'w> ClosedTypes<'w> {
         ensures { IfOk result (λ sought. sought ≡ find_query self.now.recs method text.now) }
     {
         sought::find(alloc, self.recs(), &self.names, MethodId(method), text)
+    }
+
+    /// The members of a kind that reflection finds in a type: all, or those of a name in UTF-8.
+    pub fn members(
+        &self,
+        alloc: Global,
+        kind: MemberKind,
+        name: &Option<Text>,
+        ty: &TypeExpr,
+    ) -> Result<Seq<FoundMember>, NoMemory>
+        ensures { IfOk result (λ members. members ≡ members_query self.now.recs kind name.now ty.now) }
+    {
+        reflected::members(alloc, &self.tables, &self.slots, kind, name, ty)
+    }
+
+    /// The name of a method, a field or a property, in UTF-8.
+    pub fn title(&self, alloc: Global, item: Item) -> Result<Text, NoMemory>
+        ensures { IfOk result (λ text. text ≡ title_query self.now.recs item) }
+    {
+        reflected::title(alloc, self.recs(), item)
+    }
+
+    /// The type of a property (II.22.34). None for one that isn't there.
+    pub fn property(
+        &self,
+        alloc: Global,
+        property: u32,
+    ) -> Result<Option<Known<TypeExpr>>, NoMemory>
+        ensures { IfOk result (λ ty. ty ≡ property_query self.now.recs property) }
+    {
+        reflected::property(alloc, &self.tables, property)
     }
 
     /// The nearest type of the core library among a type and its bases.

@@ -11,11 +11,19 @@ pub enum Printed {
     OfObject,
 }
 
+/// A kind of members that reflection finds.
+#[derive(Clone, Copy, Debug, PartialEq, Eq)]
+pub enum MemberKind {
+    Method,
+    Field,
+    Property,
+}
+
 /// The members of the core library that a program can call, by what they do. Several members of the table can be one here.
 #[derive(Clone, Copy, Debug, PartialEq, Eq)]
 pub enum CoreCall {
     /// Ends the run as Stopped: GetHashCode; Equals of ValueType and Enum; ToString of Enum and Exception; members of
-    /// reflection that find, call or make what a type has.
+    /// reflection that call a method, or read or write a field or a property.
     Halts,
     /// Does nothing: the constructors of Object and Attribute, Finalize.
     Idle,
@@ -117,4 +125,20 @@ pub enum CoreCall {
     MemberName,
     /// MemberInfo.get_DeclaringType().
     MemberOwner,
+    /// Type.GetMethod(string), GetField(string) or GetProperty(string).
+    MemberFind(MemberKind),
+    /// Type.GetMethods(), GetFields() or GetProperties().
+    MemberList(MemberKind),
+    /// MethodBase.get_IsStatic().
+    MethodIsStatic,
+    /// MethodInfo.get_ReturnType(), FieldInfo.get_FieldType(), PropertyInfo.get_PropertyType().
+    MemberType(MemberKind),
+    /// op_Equality of MethodInfo, FieldInfo and PropertyInfo.
+    MemberSame,
+    /// op_Inequality of MethodInfo, FieldInfo and PropertyInfo.
+    MemberOther,
+    /// Activator.CreateInstance(Type).
+    Create,
+    /// Activator.CreateInstance<T>().
+    CreateOf,
 }

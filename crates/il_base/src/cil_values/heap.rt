@@ -52,6 +52,7 @@ impl Heap {
     }
 
     /// The object with a number. None exactly where there is no such object.
+    #[inline(always)]
     pub fn get(&self, at: u32) -> Option<&Obj>
         ensures value { option_copied result ≡ slice_get self.now at }
         ensures within { OnSome result (at < length self.now) }

@@ -32,6 +32,7 @@ impl<T> Stack<T> {
     }
 
     /// How many elements it has.
+    #[inline(always)]
     pub fn len(&self) -> usize
         ensures { result ≡ length self.now }
     {
@@ -54,6 +55,7 @@ impl<T> Stack<T> {
     }
 
     /// The elements, the top last.
+    #[inline(always)]
     pub fn as_slice(&self) -> &[T]
         ensures { result.now ≡ reverse self.now }
     {
@@ -61,6 +63,7 @@ impl<T> Stack<T> {
     }
 
     /// Takes the top off.
+    #[inline(always)]
     pub fn pop(&mut self) -> Option<T>
         ensures { MatchOption result ((self.old ≡ []) × (self.new ≡ [])) (λ top. self.old ≡ top ∷ self.new) }
     {
@@ -70,6 +73,7 @@ impl<T> Stack<T> {
 
 impl<T: Drop> Stack<T> {
     /// Puts an element on top.
+    #[inline(always)]
     pub fn push(&mut self, item: T) -> Result<(), NoMemory>
         ensures ok { OnOk result (self.new ≡ item ∷ self.old) }
         ensures err { OnErr result (self.new ≡ self.old) }

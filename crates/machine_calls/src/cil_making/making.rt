@@ -7,33 +7,26 @@ ghost use Rattle.il_base.specs.declared.cil_values.value.Value.TheVariants.{Obje
 ghost use Rattle.rules.specs.step_rules.Words.{given, made, object_at, taken};
 ghost use Rattle.rules.specs.step_rules.Places.{boxed_in};
 ghost use Rattle.rules.specs.step_rules.Stores.{is_value};
-ghost use Rattle.rules.specs.step_rules.Calls.{constructs, constructs_value, gives_made, is_abstract_type, makes, makes_with, may_make, new_instance, new_object};
+ghost use Rattle.rules.specs.step_rules.Objects.{new_instance};
+ghost use Rattle.rules.specs.step_rules.Calls.{constructs, constructs_value, gives_made, makes, makes_with, may_make, new_object};
 ghost use Rattle.machine_words.specs.cil_closing.Callees.{callee_by};
 ghost use Rattle.machine_words.specs.cil_words.Steps.{here_by, next_of};
 
 use crate::cil_invoking::{
-    Operand, begun_for, boxed_value, gives_made, invoke, method_operand, take_prefix, take_values,
-    with_first,
+    Operand, begun_for, gives_made, invoke, method_operand, take_prefix, take_values, with_first,
 };
 use cil_core::cil_members::CoreOut;
 use il_base::cil_values::{Instruction, Obj, State, Value, Waits};
-use il_base::world_model::TypeExpr;
-use il_base::{NoMemory, Seq, type_flags};
+use il_base::{NoMemory, Seq};
 use machine_frames::cil_dispatch::path_into_box;
-use machine_frames::cil_frames::{head_has, head_of};
+use machine_frames::cil_frames::is_abstract_type;
 use machine_words::cil_closing::Callee;
+use machine_words::cil_objects::new_instance;
+use machine_words::cil_places::boxed_value;
 use machine_words::cil_queries::Answers;
-use machine_words::cil_stores::{is_value, zero_cells, zero_of};
+use machine_words::cil_stores::{is_value, zero_of};
 use machine_words::cil_words::{Body, StepOut, stopped, stuck};
 use std::alloc::Global;
-
-/// Whether there are no objects of exactly this type (II.10.1.4).
-fn is_abstract_type<Q: Answers>(q: &Q, ty: &TypeExpr) -> bool
-    ensures { result ≡ is_abstract_type (Q.queries q.now) ty.now }
-{
-    let head = head_of(q, ty);
-    head_has(type_flags::ABSTRACT, head) || head_has(type_flags::INTERFACE, head)
-}
 
 /// Whether a method is an instance constructor of a type of which there are objects.
 fn may_make<Q: Answers>(q: &Q, c: &Callee) -> bool
@@ -122,15 +115,6 @@ fn constructs_value<Q: Answers>(
         CoreOut::Stepped(out) => Ok(out),
         CoreOut::Gave(returned) => gives_value(alloc, body, i, returned, a, st),
     }
-}
-
-/// An instance of a class, each cell as it is at first.
-fn new_instance<Q: Answers>(alloc: Global, q: &Q, ty: &TypeExpr) -> Result<Obj, NoMemory>
-    ensures { IfOk result (λ o. o ≡ new_instance (Q.queries q.now) ty.now) }
-{
-    let of = ty.copy(alloc)?;
-    let cells = zero_cells(alloc, q, ty)?;
-    Ok(Obj::Instance { of, cells })
 }
 
 /// What is to be made, with a value type's zero value, on the constructor's arguments. They are off the stack.

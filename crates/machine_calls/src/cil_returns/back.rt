@@ -18,7 +18,7 @@ ghost use Rattle.machine_words.specs.cil_closing.Callees.{callee_by};
 ghost use Rattle.machine_words.specs.declared.cil_words.step_out.StepOut.TheVariants.{Over};
 ghost use Rattle.machine_words.specs.cil_words.Steps.{next_of};
 
-use crate::cil_invoking::{boxed_value, push_result, resume};
+use crate::cil_invoking::{push_result, resume};
 use crate::cil_returns::copies::copy_waits;
 use crate::cil_returns::current::running;
 use crate::cil_returns::entry::entry_begins;
@@ -29,6 +29,7 @@ use il_base::{NoMemory, Seq};
 use machine_frames::cil_frames::zero_locals;
 use machine_frames::cil_raising::set_init;
 use machine_words::cil_closing::{Callee, callee_of};
+use machine_words::cil_places::boxed_value;
 use machine_words::cil_queries::Answers;
 use machine_words::cil_words::{StepOut, may_go, stopped, stuck};
 use std::alloc::Global;

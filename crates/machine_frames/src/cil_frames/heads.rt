@@ -1,11 +1,11 @@
 //! The definitions that types are of.
 
 ghost use Rattle.std.specs.Prelude.{◌≡◌, ◌<◌};
-ghost use Rattle.rules.specs.step_rules.Frames.{definition_of, head_has, head_of};
+ghost use Rattle.rules.specs.step_rules.Frames.{definition_of, head_has, head_of, is_abstract_type};
 
 use il_base::cil_values::Head;
-use il_base::has_type_flag;
 use il_base::world_model::TypeExpr;
+use il_base::{has_type_flag, type_flags};
 use machine_words::cil_queries::Answers;
 
 /// The definition that a type is of, alone or with arguments, by its place in the world.
@@ -49,4 +49,12 @@ pub fn head_has(flag: u32, head: Option<Head>) -> bool
         None => false,
         Some(head) => has_type_flag(head.flags, flag),
     }
+}
+
+/// Whether no object is of exactly this type (II.10.1.4).
+pub fn is_abstract_type<Q: Answers>(q: &Q, ty: &TypeExpr) -> bool
+    ensures { result ≡ is_abstract_type (Q.queries q.now) ty.now }
+{
+    let head = head_of(q, ty);
+    head_has(type_flags::ABSTRACT, head) || head_has(type_flags::INTERFACE, head)
 }

@@ -1,18 +1,20 @@
 //! The search for the clause that catches an exception.
 
-ghost use Rattle.std.specs.Prelude.{◌≡◌, ℕ, ◌&&◌, [], ◌∷◌, ◌++◌, length, slice_get, IfOk, OnOk};
+ghost use Rattle.std.specs.Prelude.{◌≡◌, ℕ, List, ◌&&◌, [], ◌∷◌, ◌++◌, length, slice_get, IfOk, OnOk};
 ghost use Rattle.std.specs.Option.{option_copied};
-ghost use Rattle.il_base.specs.declared.core_table.names.CoreName.TheVariants.{TypeInitializationException};
 ghost use Rattle.rules.specs.step_rules.Words.{here_in, in_try};
+ghost use Rattle.il_base.specs.declared.cil_values.state.State.{State};
 ghost use Rattle.il_base.specs.declared.cil_values.frame.Frame.{Frame};
+ghost use Rattle.rules.specs.step_rules.Next.{Next};
 ghost use Rattle.rules.specs.step_rules.Objects.{wrapping};
-ghost use Rattle.rules.specs.step_rules.Raising.{Found, is_catch, catches_by, caught_type, clause_for, found_in, is_initializer, unwinding_to, throw, raise};
+ghost use Rattle.rules.specs.step_rules.Raising.{Found, is_catch, catches_by, caught_type, clause_for, found_in, passed_on, unwinding_to, throw, raise};
 ghost use Rattle.machine_frames.specs.cil_raising.Searches.{found_by, look_by};
 ghost use Rattle.machine_words.specs.cil_words.Steps.{next_of};
 
 use crate::cil_raising::clauses::{is_catch, is_in_try};
 use crate::cil_raising::unwinding::{left_in, unwind};
-use il_base::cil_values::{Clause, Frame, Stack, State, Unwinding, Waits};
+use crate::cil_raising::wrapping::wrapper;
+use il_base::cil_values::{Clause, Frame, Stack, State, Unwinding};
 use il_base::core_table::CoreName;
 use il_base::world_model::{Known, TypeExpr};
 use il_base::{NoMemory, Seq};
@@ -133,20 +135,6 @@ fn found_in<Q: Answers>(
     clause_for(alloc, q, st, a, &body, f)
 }
 
-/// Whether what leaves a frame leaves an initializer.
-fn is_initializer(waits: &Waits) -> bool
-    ensures { result ≡ is_initializer waits.now }
-{
-    match waits {
-        Waits::Nothing => false,
-        Waits::Makes(_) => false,
-        Waits::MakesValue(_) => false,
-        Waits::Starts(_) => true,
-        Waits::Opens(_, _) => true,
-        Waits::Core(_, _) => false,
-    }
-}
-
 /// The frame with a number among those that wait, counted from the innermost.
 fn waiting_at(frames: &Stack<Frame>, k: usize) -> Option<&Frame>
     ensures { option_copied result ≡ slice_get frames.now k }
@@ -191,17 +179,43 @@ fn unwinding_to<Q: Answers>(
     })
 }
 
-/// A new TypeInitializationException with this exception as its inner one. Gives its number.
-fn passed_on<Q: Answers>(alloc: Global, q: &Q, a: u32, st: &mut State) -> Result<u32, NoMemory>
+/// A new exception of the core library with this one as its inner one. Gives its number.
+fn wrapped<Q: Answers>(
+    alloc: Global,
+    q: &Q,
+    name: CoreName,
+    a: u32,
+    st: &mut State,
+) -> Result<u32, NoMemory>
     ensures at { IfOk result (λ b. b ≡ length st.old.heap) }
-    ensures made { OnOk result (st.new ≡ record st.old { heap = st.old.heap ++ wrapping (Q.queries q.now) TypeInitializationException a ∷ [] }) }
+    ensures made { OnOk result (st.new ≡ record st.old { heap = st.old.heap ++ wrapping (Q.queries q.now) name a ∷ [] }) }
 {
-    let wrapped = wrapping(alloc, q, CoreName::TypeInitializationException, a)?;
+    let wrapped = wrapping(alloc, q, name, a)?;
     st.heap.add(wrapped)
 }
 
+/// The exception as it is outside of a frame, where it may be wrapped. Gives its number, and notes each new one.
+fn passed_on<Q: Answers>(
+    alloc: Global,
+    q: &Q,
+    outside: Option<CoreName>,
+    a: u32,
+    later: &mut Seq<u32>,
+    st: &mut State,
+) -> Result<u32, NoMemory>
+    ensures next { IfOk result (λ b. (f : ℕ → List ℕ → State → Next) → passed_on (Q.queries q.now) outside a later.old st.old f ≡ f b later.new st.new) }
+    ensures frames { OnOk result ((st.new.top ≡ st.old.top) × (st.new.below ≡ st.old.below)) }
+{
+    let Some(name) = outside else {
+        return Ok(a);
+    };
+    let b = wrapped(alloc, q, name, a, st)?;
+    later.push(b)?;
+    Ok(b)
+}
+
 /// The instruction of the top frame raises an exception, by its object. The search goes by what the exception is in each frame:
-/// where it leaves an initializer, it becomes the inner one of another.
+/// where it leaves an initializer or what reflection called, it becomes the inner one of another.
 pub fn throw<Q: Answers>(alloc: Global, q: &Q, a: u32, st: &mut State) -> Result<StepOut, NoMemory>
     ensures { IfOk result (λ out. next_of out st.new [] ≡ throw (Q.queries q.now) a st.old) }
 {
@@ -217,7 +231,7 @@ pub fn throw<Q: Answers>(alloc: Global, q: &Q, a: u32, st: &mut State) -> Result
             return Err(NoMemory);
         };
         let number = f.number;
-        let wraps = is_initializer(&f.waits);
+        let outside = wrapper(&f.waits);
         match found_in(alloc, q, st, thrown, f) {
             Err(error) => return Err(error),
             Ok(Hit::BadClause) => return Ok(stopped(st)),
@@ -227,10 +241,7 @@ pub fn throw<Q: Answers>(alloc: Global, q: &Q, a: u32, st: &mut State) -> Result
             }
             Ok(Hit::Nothing) => {}
         }
-        if wraps {
-            thrown = passed_on(alloc, q, thrown, st)?;
-            later.push(thrown)?;
-        }
+        thrown = passed_on(alloc, q, outside, thrown, &mut later, st)?;
     }
     threw(alloc, q, st, thrown)
 }

@@ -7,6 +7,7 @@ ghost use Rattle.machine_words.specs.cil_words.Steps.{next_of};
 use crate::cil_raising::clauses::unwound;
 use crate::cil_raising::handlers::handler_begins;
 use crate::cil_raising::inits::set_init;
+use crate::cil_raising::wrapping::wrapper;
 use il_base::cil_values::{Frame, Init, Reason, Stack, Started, State, Unwinding, Value, Waits};
 use il_base::{NoMemory, Seq};
 use machine_words::cil_closing::body_of;
@@ -47,17 +48,13 @@ fn first_of(alloc: Global, numbers: &[u32]) -> Result<Option<(u32, Seq<u32>)>, N
     Ok(Some((numbers[0], rest)))
 }
 
-/// What an exception becomes where it leaves a frame: where that is an initializer's, the next that was made for it.
+/// What an exception becomes where it leaves a frame: where it is wrapped there, the next that was made for it.
 fn further(alloc: Global, waits: &Waits, u: Unwinding) -> Result<Unwinding, NoMemory>
     ensures { IfOk result (λ v. v ≡ further waits.now u) }
 {
-    match waits {
-        Waits::Nothing => Ok(u),
-        Waits::Makes(_) => Ok(u),
-        Waits::MakesValue(_) => Ok(u),
-        Waits::Starts(_) => next_exception(alloc, u),
-        Waits::Opens(_, _) => Ok(u),
-        Waits::Core(_, _) => Ok(u),
+    match wrapper(waits) {
+        None => Ok(u),
+        Some(_) => next_exception(alloc, u),
     }
 }
 

@@ -41,8 +41,9 @@ pub(crate) fn is_whole<Q: Answers>(q: &Q, ty: &TypeExpr) -> bool
     }
 }
 
+/// Whether each of some types is so.
 #[cycle(whole)]
-fn are_whole<Q: Answers>(q: &Q, types: &[TypeExpr]) -> bool
+pub fn are_whole<Q: Answers>(q: &Q, types: &[TypeExpr]) -> bool
     ensures { result ≡ list_all (λ e. is_whole (standing (Q.queries q.now).head e)) types.now }
 {
     for one in types {

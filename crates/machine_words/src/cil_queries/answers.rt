@@ -3,11 +3,23 @@ ghost use Rattle.std.specs.Option.{option_copied};
 ghost use Rattle.rules.specs.step_rules.Queries.{Queries};
 ghost use Rattle.machine_words.specs.cil_queries.Bodies.{instruction_of};
 
-use il_base::cil_values::{CoreCall, FieldDef, Head, Instruction, Layout, Method, Shape, Sought};
+use il_base::cil_values::{
+    CoreCall, FieldDef, Head, Instruction, Layout, MemberKind, Method, Shape, Sought,
+};
 use il_base::core_table::CoreName;
-use il_base::world_model::{MethodUse, TypeExpr};
-use il_base::{NoMemory, Seq, Text};
+use il_base::world_model::{Known, MethodUse, TypeExpr};
+use il_base::{Item, NoMemory, Seq, Text};
+use rules::type_rules::FoundMember;
 use std::alloc::Global;
+
+/// Two methods of Object, by their places in the world, from 0.
+#[derive(Clone, Copy, Debug, PartialEq, Eq)]
+pub struct ObjectSlots {
+    /// Object.ToString().
+    pub to_string: u32,
+    /// Object.Equals(object).
+    pub equals: u32,
+}
 
 /// What a world tells the machine. Types, methods and fields go by their places in the world, from 0. `NoMemory` is the only
 /// answer without a stated cause.
@@ -55,6 +67,10 @@ pub trait Answers {
     fn starts(&self, ty: u32) -> Option<u32>
         ensures { result ≡ (queries self.now).starts ty };
 
+    /// The public constructor of a type that takes `this` alone (II.10.5.1).
+    fn maker(&self, ty: &TypeExpr) -> Result<Option<u32>, NoMemory>
+        ensures { IfOk result (λ method. method ≡ (queries self.now).maker ty.now) };
+
     /// Whether the first type can stand for the second (I.8.7).
     fn below(&self, alloc: Global, a: &TypeExpr, b: &TypeExpr) -> Result<bool, NoMemory>
         ensures { IfOk result (λ yes. yes ≡ (queries self.now).below a.now b.now) };
@@ -89,15 +105,30 @@ pub trait Answers {
     fn find(&self, alloc: Global, method: u32, text: &[u8]) -> Result<Sought, NoMemory>
         ensures { IfOk result (λ sought. sought ≡ (queries self.now).find method text.now) };
 
+    /// The members of a kind that reflection finds in a type: all, or those of a name in UTF-8.
+    fn members(
+        &self,
+        alloc: Global,
+        kind: MemberKind,
+        name: &Option<Text>,
+        ty: &TypeExpr,
+    ) -> Result<Seq<FoundMember>, NoMemory>
+        ensures { IfOk result (λ found. found ≡ (queries self.now).members kind name.now ty.now) };
+
+    /// The name of a method, a field or a property, in UTF-8.
+    fn title(&self, alloc: Global, item: Item) -> Result<Text, NoMemory>
+        ensures { IfOk result (λ text. text ≡ (queries self.now).title item) };
+
+    /// The type of a property (II.22.34). None for one that isn't there.
+    fn property(&self, alloc: Global, property: u32) -> Result<Option<Known<TypeExpr>>, NoMemory>
+        ensures { IfOk result (λ ty. ty ≡ (queries self.now).property property) };
+
     /// The nearest type of the core library among a type and its bases.
     fn kin(&self, alloc: Global, ty: &TypeExpr) -> Result<Option<CoreName>, NoMemory>
         ensures { IfOk result (λ name. name ≡ (queries self.now).kin ty.now) };
 
-    /// Object.ToString().
-    fn to_string(&self) -> u32
-        ensures { result ≡ (queries self.now).to_string };
-
-    /// Object.Equals(object).
-    fn equals(&self) -> u32
-        ensures { result ≡ (queries self.now).equals };
+    /// The slots of Object that members of the core library call.
+    fn object_slots(&self) -> ObjectSlots
+        ensures text { result.to_string ≡ (queries self.now).to_string }
+        ensures equality { result.equals ≡ (queries self.now).equals };
 }

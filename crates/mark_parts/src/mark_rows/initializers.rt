@@ -29,7 +29,7 @@ pub fn is_static(m: &MethodDefRow) -> bool
 
 /// Whether a type is void, modifiers aside.
 #[tactic(auto, using(crate::proofs::lemmas::mark_rows::VoidLayers::voids))]
-fn is_void(ty: &TypeExpr) -> bool
+pub(crate) fn is_void(ty: &TypeExpr) -> bool
     ensures { result ≡ is_void ty.now }
 {
     match ty {
@@ -86,7 +86,7 @@ fn is_initializer(alloc: Global, asm: &Assembly<'_>, m: &MethodDefRow) -> Result
 }
 
 /// The methods of a run, which begins and ends at rows from 1.
-fn run_of(rows: &[MethodDefRow], first: u32, end: u32) -> &[MethodDefRow]
+pub(crate) fn run_of(rows: &[MethodDefRow], first: u32, end: u32) -> &[MethodDefRow]
     ensures { result.now ≡ run_of first end rows.now }
 {
     let begin = first.saturating_sub(1) as usize;

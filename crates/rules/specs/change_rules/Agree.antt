@@ -31,6 +31,7 @@ is_asked name.ArithmeticException = true
 is_asked name.DivideByZeroException = true
 is_asked name.OverflowException = true
 is_asked name.TypeInitializationException = true
+is_asked name.TargetInvocationException = true
 is_asked name.ArgumentException = true
 is_asked name.ArgumentNullException = true
 is_asked name.ArgumentOutOfRangeException = true

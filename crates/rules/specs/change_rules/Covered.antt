@@ -1,8 +1,6 @@
 -- When all that a state names is kept. A cell of a field that isn't kept may hold anything.
-use Rattle.std.specs.Prelude.{List, [], ◌∷◌, Bool, true, ◌&&◌, IsTrue}
+use Rattle.std.specs.Prelude.{List, [], ◌∷◌, Bool, true, false, ◌&&◌, IsTrue}
 use Rattle.std.specs.List.{list_all}
-use Rattle.il_base.specs.declared.ids.Item.{Item}
-use Rattle.il_base.specs.declared.ids.Item.TheVariants as item
 use Rattle.il_base.specs.declared.cil_values.object.Obj.{Obj}
 use Rattle.il_base.specs.declared.cil_values.object.Obj.TheVariants as object
 use Rattle.rules.specs.step_rules.Queries.{Queries}
@@ -22,19 +20,14 @@ use Rattle.rules.specs.change_rules.Keeps.{keeps_expr, shows_expr, keeps_made, k
 
 -- ---- objects, fields and initializers
 
-abbrev pub keeps_item : Keep → Item → Bool
-keeps_item k (item.Typ t) = k.typ t.0
-keeps_item k (item.Method m) = k.method m.0
-keeps_item k (item.Field f) = k.field f.0
-keeps_item k _ = true
-
+-- No object of a member is in such a state: there is none before a search, and no step that is kept searches.
 abbrev pub keeps_obj : Keep → Queries → Obj → Bool
 keeps_obj k q (object.Instance of cells) = keeps_made k of && keeps_values k (keep (mask k (q.cells of)) cells)
 keeps_obj k q (object.Boxed of v) = keeps_made k of && keeps_value k v
 keeps_obj k q (object.Array of cells) = shows_expr k of && keeps_values k cells
 keeps_obj k q (object.Str units) = true
 keeps_obj k q (object.TypeOf e) = shows_expr k e
-keeps_obj k q (object.Member i e) = keeps_item k i && shows_expr k e
+keeps_obj k q (object.Member i e) = false
 
 abbrev pub keeps_global : Keep → Global → Bool
 keeps_global k g = k.field g.field && keeps_expr k g.owner && keeps_value k g.value

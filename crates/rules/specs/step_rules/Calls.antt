@@ -2,13 +2,11 @@
 use Rattle.std.specs.Prelude.{ℕ, nat_eq, List, [], ◌∷◌, length, ◌==◌, Bool, false, not, ◌&&◌, ◌||◌, Option, Some, None, if◌then◌else◌}
 use Rattle.std.specs.Option.{option_map, option_and_then}
 use Rattle.il_base.specs.declared.opcode.TheConstants.{CALL, CONSTRAINED, READONLY}
-use Rattle.il_base.specs.declared.type_flags.TheConstants as type_flags
 use Rattle.il_base.specs.declared.world_model.expr.TypeExpr.{TypeExpr}
 use Rattle.il_base.specs.world_model.Exprs.{same_expr}
 use Rattle.il_base.specs.declared.core_table.names.CoreName.TheVariants.{NullReferenceException}
 use Rattle.il_base.specs.declared.cil_values.value.Value.{Value}
 use Rattle.il_base.specs.declared.cil_values.value.Value.TheVariants as value
-use Rattle.il_base.specs.declared.cil_values.object.Obj.{Obj}
 use Rattle.il_base.specs.declared.cil_values.object.Obj.TheVariants as object
 use Rattle.il_base.specs.declared.cil_values.path.Path.{Path}
 use Rattle.il_base.specs.declared.cil_values.resolved.Instruction.{Instruction}
@@ -24,11 +22,11 @@ use Rattle.il_base.specs.declared.cil_values.frame.Waits.TheVariants as waits
 use Rattle.il_base.specs.declared.cil_values.core_call.CoreCall.{CoreCall}
 use Rattle.rules.specs.step_rules.Words.{Form, Here, stuck, given, had, required, taken, moved, may_go, goes_with, made, object_at}
 use Rattle.rules.specs.step_rules.Closing.{Callee, closed, closed_use}
-use Rattle.rules.specs.step_rules.Stores.{all_fit, is_value, zero_of, zeros_of}
+use Rattle.rules.specs.step_rules.Stores.{all_fit, is_value, zero_of}
 use Rattle.rules.specs.step_rules.Places.{at_place, alive, boxed_in}
-use Rattle.rules.specs.step_rules.Objects.{type_of}
+use Rattle.rules.specs.step_rules.Objects.{type_of, new_instance}
 use Rattle.rules.specs.step_rules.Raising.{raise}
-use Rattle.rules.specs.step_rules.Frames.{enter, started, definition_of, head_of, head_has}
+use Rattle.rules.specs.step_rules.Frames.{enter, started, definition_of, is_abstract_type}
 use Rattle.rules.specs.step_rules.Dispatch.{is_abstract, is_virtual, slots_of, dispatched, path_into_box, this_for}
 use Rattle.rules.specs.step_rules.CoreWords.{Gives}
 use Rattle.rules.specs.step_rules.Core.{core_call}
@@ -159,9 +157,6 @@ call q here i s = elim i.operand [ method m ↦ closed_use q here m s (calls q h
 
 -- ---- `newobj`
 
-abbrev pub is_abstract_type : Queries → TypeExpr → Bool
-is_abstract_type q e = let h = head_of q e in head_has type_flags.ABSTRACT h || head_has type_flags.INTERFACE h
-
 -- an instance constructor of a type of which there are objects
 abbrev pub may_make : Queries → Callee → Bool
 may_make q c = c.method.constructor && c.signature.this && not (is_abstract_type q c.called.owner)
@@ -178,9 +173,6 @@ abbrev pub constructs_value : Queries → Here → Instruction → Callee → Li
 constructs_value q here i c vs a s =
     invoke q c (value.Pointer (path_into_box a c.called.owner) ∷ vs) (waits.MakesValue a) s
     (λ t result bytes. given (option_and_then boxed_in (object_at t a)) t (λ v. gives_made here i v t result bytes))
-
-abbrev pub new_instance : Queries → TypeExpr → Obj
-new_instance q e = object.Instance e (zeros_of (q.cells e))
 
 abbrev pub makes_with : Queries → Here → Instruction → Callee → State → Value → List Value × List Value → Next
 makes_with q here i c s zero t =

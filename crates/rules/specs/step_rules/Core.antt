@@ -1,6 +1,8 @@
 -- Calls of members of the core library: each is whole in its step, but for one that calls a method of the program.
-use Rattle.std.specs.Prelude.{ℕ, List, [], ◌∷◌, Bool, true, false, Option, Some, None}
+use Rattle.std.specs.Prelude.{ℕ, List, [], ◌∷◌, Bool, true, false, Option, Some, None, unwrap_or}
+use Rattle.std.specs.Option.{option_and_then}
 use Rattle.il_base.specs.declared.element.TheConstants.{BOOLEAN, OBJECT}
+use Rattle.il_base.specs.declared.world_model.expr.TypeExpr.{TypeExpr}
 use Rattle.il_base.specs.declared.world_model.expr.TypeExpr as expr
 use Rattle.il_base.specs.declared.world_model.expr.MethodUse.{MethodUse}
 use Rattle.il_base.specs.declared.cil_values.value.Value.{Value}
@@ -16,6 +18,7 @@ use Rattle.rules.specs.step_rules.Words.{stuck, given, had, object_at}
 use Rattle.rules.specs.step_rules.Closing.{Callee, callee_of, front}
 use Rattle.rules.specs.step_rules.Integers.{narrowed}
 use Rattle.rules.specs.step_rules.Stores.{all_fit}
+use Rattle.rules.specs.step_rules.Places.{boxed_in}
 use Rattle.rules.specs.step_rules.Objects.{type_of}
 use Rattle.rules.specs.step_rules.Frames.{enter}
 use Rattle.rules.specs.step_rules.Dispatch.{dispatched, this_for}
@@ -24,8 +27,10 @@ use Rattle.rules.specs.step_rules.CoreObjects.{halt, idle_form, type_name_form, 
 use Rattle.rules.specs.step_rules.CoreTexts.{string_length_form, string_unit_form, string_index_form, string_concat_form, string_from_form, string_part_form, string_itself_form, string_same_form, string_other_form, string_is_form, string_is_empty_form, string_compare_form, int_parse_form}
 use Rattle.rules.specs.step_rules.CoreConsole.{print_form, line_end_form, read_unit_form, read_line_form}
 use Rattle.rules.specs.step_rules.CoreArrays.{array_length_form, fill_array_form}
-use Rattle.rules.specs.step_rules.CoreSearches.{find_form}
-use Rattle.rules.specs.step_rules.CoreTypes.{type_from_handle_form, object_type_form, type_encloser_form, type_text_form, type_full_name_form, type_namespace_form, type_name_alone_form, type_other_form, type_fits_form, type_has_form, type_is_value_form, type_is_interface_form, type_is_array_form}
+use Rattle.rules.specs.step_rules.CoreSearches.{find_form, member_find_form, member_list_form}
+use Rattle.rules.specs.step_rules.CoreMaking.{create_with, create_of_with}
+use Rattle.rules.specs.step_rules.CoreTypes.{type_from_handle_form, object_type_form, type_text_form, type_full_name_form, type_namespace_form, type_other_form, type_fits_form, type_has_form, type_is_value_form, type_is_interface_form, type_is_array_form}
+use Rattle.rules.specs.step_rules.CoreMembers.{member_name_form, member_owner_form, member_type_form, method_is_static_form, member_same_form, member_other_form}
 
 -- ---- members that call nothing; a member that searches isn't virtual, so no slot leads to it
 
@@ -69,8 +74,8 @@ simple core.TypeOf = object_type_form
 simple core.TypeText = type_text_form
 simple core.TypeFullName = type_full_name_form
 simple core.TypeNamespace = type_namespace_form
-simple core.MemberName = type_name_alone_form
-simple core.MemberOwner = type_encloser_form
+simple core.MemberName = member_name_form
+simple core.MemberOwner = member_owner_form
 simple core.TypeSame = same_form
 simple core.TypeOther = type_other_form
 simple core.TypeIs = same_form
@@ -80,6 +85,14 @@ simple core.TypeIsValue = type_is_value_form
 simple core.TypeIsInterface = type_is_interface_form
 simple core.TypeIsArray = type_is_array_form
 simple (core.TypeFind throws) = λ q args s give. stuck s
+simple (core.MemberFind k) = λ q args s give. stuck s
+simple (core.MemberList k) = λ q args s give. stuck s
+simple core.MethodIsStatic = λ q args s give. stuck s
+simple (core.MemberType k) = λ q args s give. stuck s
+simple core.MemberSame = λ q args s give. stuck s
+simple core.MemberOther = λ q args s give. stuck s
+simple core.Create = λ q args s give. stuck s
+simple core.CreateOf = λ q args s give. stuck s
 simple core.AreEqual = λ q args s give. stuck s
 
 -- ---- members that call
@@ -90,8 +103,24 @@ with_result (core.Prints line of_object) q args v s give = print_form line of_ob
 with_result core.AreEqual q args v s give = given (narrowed BOOLEAN v) s (λ b. gives_value b s give)
 with_result _ q args v s give = stuck s
 
+-- the first argument: the object that a constructor made
+abbrev pub gives_first : List Value → State → Gives → Next
+gives_first [] s give = stuck s
+gives_first (v ∷ vs) s give = gives_value v s give
+
+-- the value in the box, or the object that is none
+abbrev pub gives_unboxed : List Value → State → Gives → Next
+gives_unboxed (value.Object a ∷ vs) s give = gives_value (unwrap_or (option_and_then boxed_in (object_at s a)) (value.Object a)) s give
+gives_unboxed _ s give = stuck s
+
+-- the method that it called returned nothing
+abbrev pub without_result : CoreCall → Queries → List Value → State → Gives → Next
+without_result core.Create q args s give = gives_first args s give
+without_result core.CreateOf q args s give = gives_unboxed args s give
+without_result _ q args s give = stuck s
+
 abbrev pub with_option : CoreCall → Queries → List Value → State → Gives → Option Value → Next
-with_option k q args s give None = stuck s
+with_option k q args s give None = without_result k q args s give
 with_option k q args s give (Some v) = with_result k q args v s give
 
 abbrev pub resumed : CoreCall → Queries → List Value → Gives → Gives
@@ -133,14 +162,38 @@ unfoldable pub equal_form : CoreForm
 equal_form q (v ∷ w ∷ []) s give = given (is_same v w) s (equal_by q s give v w)
 equal_form q _ s give = stuck s
 
+-- the constructor of a new object runs, whose number the waiting member keeps
+abbrev pub constructs : Queries → CoreCall → Gives → Callee → ℕ → Value → State → Next
+constructs q k give c a this s = run_found q k (value.Object a ∷ []) c (this ∷ []) s give (q.core c.called.method.0)
+
+-- Activator.CreateInstance(Type)
+unfoldable pub create_form : CoreForm
+create_form q args s give = create_with q args s give (constructs q core.Create give)
+
+-- Activator.CreateInstance<T>(), with T
+unfoldable pub create_of_form : List TypeExpr → CoreForm
+create_of_form targs q args s give = create_of_with targs q args s give (constructs q core.CreateOf give)
+
 -- ---- all members
 
 unfoldable pub member : CoreCall → CoreForm
 member (core.Prints line of_object) = print_object line
 member core.AreEqual = equal_form
 member (core.TypeFind throws) = find_form throws
+member core.Create = create_form
+member (core.MemberFind k) = member_find_form k
+member (core.MemberList k) = member_list_form k
+member core.MethodIsStatic = method_is_static_form
+member (core.MemberType k) = member_type_form
+member core.MemberSame = member_same_form
+member core.MemberOther = member_other_form
 member k = simple k
+
+-- a member with the type arguments of its call
+unfoldable pub member_of : List TypeExpr → CoreCall → CoreForm
+member_of targs core.CreateOf = create_of_form targs
+member_of targs k = member k
 
 -- a call, with all its arguments
 unfoldable pub core_call : Queries → Callee → CoreCall → List Value → State → Gives → Next
-core_call q c k vs s give = checked q c vs s (λ args. member k q args s give)
+core_call q c k vs s give = checked q c vs s (λ args. member_of c.called.args k q args s give)

@@ -1,4 +1,4 @@
--- Members that look at types alone: Object.GetType, and of Type and MemberInfo those that neither search for members nor call them.
+-- Members that look at types alone: Object.GetType, and of Type those that neither search for members nor call them.
 use Rattle.std.specs.Prelude.{ℕ, List, [], ◌∷◌, ◌++◌, Bool, true, false, not, ◌&&◌, Option, Some, None, find, if◌then◌else◌}
 use Rattle.std.specs.Option.{option_and_then}
 use Rattle.il_base.specs.declared.type_flags.TheConstants.{INTERFACE}
@@ -16,7 +16,7 @@ use Rattle.il_base.specs.declared.cil_values.state.State.{State}
 use Rattle.rules.specs.step_rules.Next.{Next}
 use Rattle.rules.specs.step_rules.Words.{stuck, stopped, given, made, object_at}
 use Rattle.rules.specs.step_rules.Objects.{type_of, is_a, core_type, units_of_bytes}
-use Rattle.rules.specs.step_rules.Frames.{definition_of, head_of, head_has}
+use Rattle.rules.specs.step_rules.Frames.{head_of, head_has}
 use Rattle.rules.specs.step_rules.Raising.{raise}
 use Rattle.rules.specs.step_rules.CoreWords.{Gives, CoreForm, gives_value, gives_truth, gives_text}
 use Rattle.rules.specs.step_rules.CoreObjects.{is_same}
@@ -74,14 +74,10 @@ unfoldable pub object_type_form : CoreForm
 object_type_form q (v ∷ []) s give = object_type q s give v
 object_type_form q _ s give = stuck s
 
--- MemberInfo.get_DeclaringType() of a type: the definition that it is nested in, null for an array and a type that isn't nested
+-- the definition that a type is nested in: null for an array and a type that isn't nested
 abbrev pub gives_encloser : State → Gives → Option ℕ → Next
 gives_encloser s give None = gives_value value.Null s give
 gives_encloser s give (Some t) = gives_type (expr.Def (record { 0 = t })) s give
-
-unfoldable pub type_encloser_form : CoreForm
-type_encloser_form q (v ∷ []) s give = given (typed_by s v) s (λ e. gives_encloser s give (option_and_then q.encloser (definition_of e)))
-type_encloser_form q _ s give = stuck s
 
 -- ---- texts
 
@@ -117,11 +113,6 @@ gives_space s give (c ∷ cs) = gives_text (units_of_bytes (c ∷ cs)) s give
 unfoldable pub type_namespace_form : CoreForm
 type_namespace_form q (v ∷ []) s give = given (typed_by s v) s (λ e. gives_space s give (q.space e))
 type_namespace_form q _ s give = stuck s
-
--- MemberInfo.get_Name() of a type
-unfoldable pub type_name_alone_form : CoreForm
-type_name_alone_form q (v ∷ []) s give = given (typed_by s v) s (λ e. gives_text (units_of_bytes (q.label e)) s give)
-type_name_alone_form q _ s give = stuck s
 
 -- ---- tests
 

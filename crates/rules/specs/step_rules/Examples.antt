@@ -88,6 +88,22 @@ instance_of_c n = object.Instance (def 2) (value.I4 n ∷ [])
 abbrev pub Makes : Type 0
 Makes = Steps (one_ins (make_c 0)) (state_at [] (frame_at 0 [] [] [])) (went (state_at (instance_of_c (pos 0) ∷ []) (frame_at 1 [] (value.Object 0 ∷ []) [])) [])
 
+-- Activator.CreateInstance(Type): of C by its constructor; of int32, which has none; of D, which has none
+abbrev pub creates : ℕ → Instruction
+creates at = ins at form.Call opcode.CALL (used.Method (Good (at_first 4)))
+
+abbrev pub Creates : Type 0
+Creates = Steps (one_ins (creates 0)) (state_at (object.TypeOf (def 2) ∷ []) (frame_at 0 [] (value.Object 0 ∷ []) []))
+    (went (state_at (object.TypeOf (def 2) ∷ instance_of_c (pos 0) ∷ []) (frame_at 1 [] (value.Object 1 ∷ []) [])) [])
+
+abbrev pub CreatesZero : Type 0
+CreatesZero = Steps (one_ins (creates 0)) (state_at (object.TypeOf int32 ∷ []) (frame_at 0 [] (value.Object 0 ∷ []) []))
+    (went (state_at (object.TypeOf int32 ∷ object.Boxed int32 (value.I4 (pos 0)) ∷ []) (frame_at 1 [] (value.Object 1 ∷ []) [])) [])
+
+abbrev pub CreatesNothing : Type 0
+CreatesNothing = Steps (one_ins (creates 0)) (state_at (object.TypeOf (def 3) ∷ []) (frame_at 0 [] (value.Object 0 ∷ []) []))
+    (over (Threw (codes "T") (codes "No parameterless constructor defined.")))
+
 abbrev pub StoresField : Type 0
 StoresField = Steps (one_ins (ins 3 form.Field opcode.STFLD field_of_c)) (state_at (instance_of_c (pos 0) ∷ []) (frame_at 3 [] (value.I4 (pos 9) ∷ value.Object 0 ∷ []) []))
     (went (state_at (instance_of_c (pos 9) ∷ []) (frame_at 4 [] [] [])) [])

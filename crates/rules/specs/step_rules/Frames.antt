@@ -1,7 +1,7 @@
 -- Methods are entered (I.12.4.1), and initializers begin (II.10.5.3).
 use Rattle.std.specs.Prelude.{ℕ, ◌+◌, List, [], ◌∷◌, ◌++◌, length, nat_lt, Bool, false, not, ◌||◌, Option, Some, None, find, if◌then◌else◌}
 use Rattle.std.specs.Option.{option_map, option_and_then}
-use Rattle.il_base.specs.declared.type_flags.TheConstants.{BEFORE_FIELD_INIT}
+use Rattle.il_base.specs.declared.type_flags.TheConstants.{ABSTRACT, INTERFACE, BEFORE_FIELD_INIT}
 use Rattle.il_base.specs.Flags.{has_flag}
 use Rattle.il_base.specs.declared.world_model.expr.TypeExpr.{TypeExpr, out-TypeExpr}
 use Rattle.il_base.specs.declared.world_model.expr.TypeExpr.TheOpen.{TypeExpr-F}
@@ -72,6 +72,10 @@ head_of q e = option_and_then q.head (definition_of e)
 abbrev pub head_has : ℕ → Option Head → Bool
 head_has flag None = false
 head_has flag (Some h) = has_flag h.flags flag
+
+-- whether no object is of exactly this type (II.10.1.4)
+abbrev pub is_abstract_type : Queries → TypeExpr → Bool
+is_abstract_type q e = let h = head_of q e in head_has ABSTRACT h || head_has INTERFACE h
 
 -- whether an access begins a type's initializer: with beforefieldinit only an access to a static field does
 abbrev pub begins_by : Queries → Bool → TypeExpr → Bool

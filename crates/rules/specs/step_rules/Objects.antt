@@ -94,6 +94,12 @@ with_text units s f None = made_text units s (λ a s. f a (record s { texts = s.
 unfoldable pub interned : List ℕ → State → (ℕ → State → Next) → Next
 interned units s f = with_text units s f (text_object s units)
 
+-- ---- new objects
+
+-- an instance of a class, each cell as it is at first
+abbrev pub new_instance : Queries → TypeExpr → Obj
+new_instance q e = object.Instance e (zeros_of (q.cells e))
+
 -- ---- exceptions
 
 -- the message of an exception that was given none
@@ -140,7 +146,7 @@ message_of q s o = unwrap_or (message_cell q s o) (default_message q (type_of q 
 
 -- a new exception of the core library, without message and inner exception
 unfoldable pub new_exception : Queries → CoreName → Obj
-new_exception q n = object.Instance (core_type q n) (zeros_of (q.cells (core_type q n)))
+new_exception q n = new_instance q (core_type q n)
 
 -- a new exception of the core library with an inner exception
 unfoldable pub wrapping : Queries → CoreName → ℕ → Obj

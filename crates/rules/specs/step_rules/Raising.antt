@@ -24,7 +24,9 @@ use Rattle.il_base.specs.declared.cil_values.state.Init.{Init}
 use Rattle.il_base.specs.declared.cil_values.state.Started.{Started}
 use Rattle.il_base.specs.declared.cil_values.frame.Prefix.TheVariants.{None as none}
 use Rattle.il_base.specs.declared.cil_values.frame.Reason.TheVariants.{Caught as caught, Unwinding as unwinding}
-use Rattle.il_base.specs.declared.cil_values.frame.Waits.TheVariants.{Starts as starts, Opens as opens}
+use Rattle.il_base.specs.declared.cil_values.frame.Waits.TheVariants.{Starts as starts, Opens as opens, Core as calls}
+use Rattle.il_base.specs.declared.cil_values.core_call.CoreCall.{CoreCall}
+use Rattle.il_base.specs.declared.cil_values.core_call.CoreCall.TheVariants as core
 use Rattle.il_base.specs.declared.cil_values.state.Init.TheVariants.{Failed as failed}
 use Rattle.rules.specs.step_rules.Next.{Next, went}
 use Rattle.rules.specs.step_rules.Words.{Here, here_of, given, stopped, stuck, good, in_try, in_handler, made, object_at}
@@ -105,10 +107,26 @@ abbrev pub failing : Waits → List ℕ → List Started → List Started
 failing (starts e) (a ∷ later) inits = set_init e (failed a) inits
 failing _ _ inits = inits
 
+-- The exception of the core library that another becomes, as its inner one, where it leaves a frame: what leaves an initializer
+-- (II.10.5.3), and what leaves a method that reflection calls.
+abbrev pub wrapper_of : CoreCall → Option CoreName
+wrapper_of core.Create = Some name.TargetInvocationException
+wrapper_of core.CreateOf = Some name.TargetInvocationException
+wrapper_of _ = None
+
+unfoldable pub wrapper : Waits → Option CoreName
+wrapper (starts e) = Some name.TypeInitializationException
+wrapper (opens e m) = Some name.TypeInitializationException
+wrapper (calls k args) = wrapper_of k
+wrapper _ = None
+
 -- the exception in the next frame
+abbrev pub further_by : Option CoreName → Unwinding → Unwinding
+further_by None u = u
+further_by (Some n) u = elim u.later [ [] ↦ u | a ∷ later ↦ record u { object = a; later = later } ]
+
 abbrev pub further : Waits → Unwinding → Unwinding
-further (starts e) u = elim u.later [ [] ↦ u | a ∷ later ↦ record u { object = a; later = later } ]
-further _ u = u
+further w u = further_by (wrapper w) u
 
 abbrev pub outside : State → Unwinding → Frame → List Frame → State
 outside s u f fs = record s { top = f; below = fs; inits = failing s.top.waits u.later s.inits }
@@ -164,15 +182,10 @@ found_here q s a f (Some here) = clause_for q here s a f.at 0 here.code.clauses
 unfoldable pub found_in : Queries → State → ℕ → Frame → Found
 found_in q s a f = found_here q s a f (here_of q f)
 
-abbrev pub is_initializer : Waits → Bool
-is_initializer (starts e) = true
-is_initializer (opens e m) = true
-is_initializer _ = false
-
--- an exception that leaves an initializer becomes the inner one of a new TypeInitializationException
-abbrev pub passed_on : Queries → Bool → ℕ → List ℕ → State → (ℕ → List ℕ → State → Next) → Next
-passed_on q true a later s f = made (wrapping q name.TypeInitializationException a) s (λ b s. f b (later ++ b ∷ []) s)
-passed_on q false a later s f = f a later s
+-- the exception as it is outside of a frame
+abbrev pub passed_on : Queries → Option CoreName → ℕ → List ℕ → State → (ℕ → List ℕ → State → Next) → Next
+passed_on q None a later s f = f a later s
+passed_on q (Some n) a later s f = made (wrapping q n a) s (λ b s. f b (later ++ b ∷ []) s)
 
 abbrev pub unwinding_to : Queries → ℕ → List ℕ → State → Frame → ℕ → Unwinding
 unwinding_to q first later s f n =
@@ -187,9 +200,9 @@ caught_or q first later s f (by_clause n) out = unwind q (unwinding_to q first l
 -- that it became on the way.
 unfoldable pub search : Queries → ℕ → ℕ → List ℕ → State → Frame → List Frame → Next
 search q first a later s f [] =
-    caught_or q first later s f (found_in q s a f) (passed_on q (is_initializer f.waits) a later s (λ b all s. threw q s (object_at s b)))
+    caught_or q first later s f (found_in q s a f) (passed_on q (wrapper f.waits) a later s (λ b all s. threw q s (object_at s b)))
 search q first a later s f (g ∷ fs) =
-    caught_or q first later s f (found_in q s a f) (passed_on q (is_initializer f.waits) a later s (λ b all s. search q first b all s g fs))
+    caught_or q first later s f (found_in q s a f) (passed_on q (wrapper f.waits) a later s (λ b all s. search q first b all s g fs))
 
 -- an exception is raised by the instruction of the top frame
 unfoldable pub throw : Queries → ℕ → State → Next

@@ -30,7 +30,7 @@ use Rattle.il_base.specs.declared.cil_values.definition.First.TheVariants.{Blank
 use Rattle.il_base.specs.declared.cil_values.sought.Sought.TheVariants.{Missing as missing}
 use Rattle.rules.specs.step_rules.Queries.{Queries}
 use Rattle.il_base.specs.declared.cil_values.core_call.CoreCall.{CoreCall}
-use Rattle.il_base.specs.declared.cil_values.core_call.CoreCall.TheVariants.{Idle as idle, Prints as prints}
+use Rattle.il_base.specs.declared.cil_values.core_call.CoreCall.TheVariants.{Idle as idle, Prints as prints, Create as create}
 use Rattle.il_base.specs.declared.cil_values.core_call.Printed.TheVariants.{OfString as of_string}
 use Rattle.il_base.specs.declared.cil_values.value.Value.{Value}
 use Rattle.il_base.specs.declared.cil_values.object.Obj.{Obj}
@@ -60,14 +60,16 @@ known_in name.InvalidCastException = 14
 known_in name.ArrayTypeMismatchException = 15
 known_in name.IndexOutOfRangeException = 16
 known_in name.TypeInitializationException = 17
-known_in _ = 18
+known_in name.Type = 18
+known_in name.MissingMethodException = 19
+known_in _ = 20
 
 abbrev pub kin_in : ℕ → CoreName
 kin_in t =
     if t == 11 then name.DivideByZeroException else if t == 12 then name.OverflowException
     else if t == 13 then name.NullReferenceException else if t == 14 then name.InvalidCastException
     else if t == 15 then name.ArrayTypeMismatchException else if t == 16 then name.IndexOutOfRangeException
-    else if t == 17 then name.TypeInitializationException else name.Exception
+    else if t == 17 then name.TypeInitializationException else if t == 19 then name.MissingMethodException else name.Exception
 
 abbrev pub number_of : TypeExpr-F TypeExpr → Option ℕ
 number_of (TypeExpr-F.Def t) = Some t.0
@@ -93,7 +95,7 @@ below_in _ _ = false
 abbrev pub is_below : TypeExpr → TypeExpr → Bool
 is_below a b = same_expr a b || same_expr b (expr.Prim element.OBJECT) || below_in (number_of (out-TypeExpr a)) (number_of (out-TypeExpr b))
 
--- ---- methods: 0 the example, 1 adds, 2 the constructor of C, 3 Console.WriteLine(string)
+-- ---- methods: 0 the example, 1 adds, 2 the constructor of C, 3 Console.WriteLine(string), 4 Activator.CreateInstance(Type)
 
 abbrev pub static_method : List TypeExpr → TypeExpr → Option (Known Code) → Method
 static_method params ret body =
@@ -109,10 +111,15 @@ abbrev pub constructor_of_c : Method
 constructor_of_c = record { flags = 0; owner = 2; constructor = true; signature = Good (record { this = true; own = 0; params = []; ret = expr.Prim element.VOID }); body = None }
 
 abbrev pub methods : Code → List Method
-methods code = static_method [] int32 (Some (Good code)) ∷ static_method (int32 ∷ int32 ∷ []) int32 (Some (Good adds)) ∷ constructor_of_c ∷ static_method (expr.Prim element.STRING ∷ []) (expr.Prim element.VOID) None ∷ []
+methods code = static_method [] int32 (Some (Good code)) ∷ static_method (int32 ∷ int32 ∷ []) int32 (Some (Good adds)) ∷ constructor_of_c ∷ static_method (expr.Prim element.STRING ∷ []) (expr.Prim element.VOID) None
+    ∷ static_method (def 18 ∷ []) (expr.Prim element.OBJECT) None ∷ []
 
 abbrev pub core_in : ℕ → Option CoreCall
-core_in m = if m == 2 then Some idle else if m == 3 then Some (prints true of_string) else None
+core_in m = if m == 2 then Some idle else if m == 3 then Some (prints true of_string) else if m == 4 then Some create else None
+
+abbrev pub maker_in : Option ℕ → Option ℕ
+maker_in None = None
+maker_in (Some t) = if t == 2 then Some 2 else None
 
 abbrev pub world : Code → Queries
 world code = record {
@@ -125,9 +132,13 @@ world code = record {
   space = λ e. [];
   encloser = λ t. None;
   find = λ m text. missing;
+  members = λ kind name e. [];
+  title = λ i. [];
+  property = λ p. None;
   shape = λ e. shape_in (out-TypeExpr e);
   cells = λ e. cells_in (number_of (out-TypeExpr e));
   starts = λ t. None;
+  maker = λ e. maker_in (number_of (out-TypeExpr e));
   below = is_below;
   answers = λ t o m. None;
   text = λ e. codes "T";

@@ -1,5 +1,5 @@
--- Searches by name: a type by the name that a text gives it, the members of a type that reflection finds under a name.
-use Rattle.std.specs.Prelude.{ℕ, suc, ◌+◌, ◌-◌, List, [], ◌∷◌, ◌++◌, length, map, codes, Option, Some, None, slice_get, ◌==◌, ◌&&◌, ◌||◌, Bool, false, not, if◌then◌else◌}
+-- Searches: a type by the name that a text gives it, the members of a type that reflection finds, all or those of a name.
+use Rattle.std.specs.Prelude.{ℕ, suc, ◌+◌, ◌-◌, List, [], ◌∷◌, ◌++◌, length, map, codes, Option, Some, None, slice_get, ◌==◌, ◌&&◌, ◌||◌, Bool, true, false, not, if◌then◌else◌}
 use Rattle.std.specs.List.{list_any, flat_map, filter, range_with_len}
 use Rattle.std.specs.Option.{option_map, option_and_then}
 use Rattle.il_base.specs.declared.table.TheConstants.{TYPE_DEF, METHOD_DEF, EVENT, PROPERTY}
@@ -25,6 +25,7 @@ use Rattle.il_base.specs.world_model.Core.{same_name}
 use Rattle.il_base.specs.world_model.Worlds.{rows_before, type_id}
 use Rattle.attr_blobs.specs.declared.name.TypeName.{TypeName}
 use Rattle.rules.specs.declared.link_rules.row_at.RowAt.{RowAt}
+use Rattle.rules.specs.declared.type_rules.found_member.FoundMember.{FoundMember}
 use Rattle.rules.specs.link_rules.Types.{at_row, listed_at, or_else, assembly_named, encloser, same_place}
 use Rattle.rules.specs.link_rules.Signatures.{definition_expr}
 use Rattle.rules.specs.link_rules.Members.{methods_in, fields_in, owns_method, run_of, type_home, generic_method, with_bases}
@@ -72,7 +73,12 @@ find_by recs from path (Some name) = option_and_then (type_along_at recs path) (
 unfoldable pub find_type : List AsmRec → ℕ → TypeName → Option TypeId
 find_type recs from n = find_by recs from n.path n.asm
 
--- ---- members by name
+-- ---- members
+
+-- whether a search wants a name: any, or this one
+abbrev pub is_wanted : Option (List ℕ) → List ℕ → Bool
+is_wanted None name = true
+is_wanted (Some wanted) name = same_name name wanted
 
 -- the places of a run's rows, from 0
 abbrev pub places : {A : Type 0} → ℕ → ℕ → List A → List ℕ
@@ -84,15 +90,23 @@ rows_of recs members e =
     flat_map (λ (at : RowAt). flat_map (λ (rec : AsmRec). flat_map (λ (t : TypeDefRow). map (at_row at.asm) (members rec t at.row)) (listed (slice_get rec.type_def at.row))) (listed (slice_get recs at.asm)))
     (listed (home_of recs e))
 
--- the rows of the first type, then those of each base that pass a test and that no row before hides
-abbrev pub collect : (RowAt → RowAt → Bool) → (TypeExpr → List RowAt) → (RowAt → Bool) → List RowAt → List TypeExpr → List RowAt
-collect hides rows test found [] = found
-collect hides rows test found (e ∷ es) =
-    collect hides rows test (found ++ filter (λ x. test x && not (list_any (λ y. hides y x) found)) (rows e)) es
+-- those of a type's rows that pass a test and that no row before hides
+abbrev pub visible : (RowAt → RowAt → Bool) → (RowAt → Bool) → List RowAt → List RowAt → List RowAt
+visible hides test before rows = filter (λ x. test x && not (list_any (λ y. hides y x) before)) rows
 
-abbrev pub collected : (RowAt → RowAt → Bool) → (TypeExpr → List RowAt) → (RowAt → Bool) → (RowAt → Bool) → List TypeExpr → List RowAt
-collected hides rows first later [] = []
-collected hides rows first later (e ∷ es) = collect hides rows later (filter first (rows e)) es
+-- Of a type and its bases the rows that pass and that no row before hides, as members. The test is told whether a type is a base.
+abbrev pub collect : (TypeExpr → RowAt → FoundMember) → (RowAt → RowAt → Bool) → (TypeExpr → List RowAt) → (Bool → RowAt → Bool) → Bool → List RowAt → List TypeExpr → List FoundMember
+collect make hides rows test inherited before [] = []
+collect make hides rows test inherited before (e ∷ es) =
+    map (make e) (visible hides (test inherited) before (rows e)) ++ collect make hides rows test true (before ++ visible hides (test inherited) before (rows e)) es
+
+-- a row as a member of a type
+abbrev pub member_at : List AsmRec → (AsmRec → ℕ) → (ℕ → Item) → TypeExpr → RowAt → FoundMember
+member_at recs count item e at = record { item = item (rows_before count recs at.asm + at.row); owner = e }
+
+-- the members that a test lets pass, in the first of some types and then in its bases
+abbrev pub collected : (TypeExpr → RowAt → FoundMember) → (RowAt → RowAt → Bool) → (TypeExpr → List RowAt) → (Bool → RowAt → Bool) → List TypeExpr → List FoundMember
+collected make hides rows test es = collect make hides rows test false [] es
 
 -- ---- fields
 
@@ -102,19 +116,20 @@ field_places rec t k = places t.field_list_first t.field_list_end rec.field
 abbrev pub field_test : List AsmRec → (FieldRow → Bool) → RowAt → Bool
 field_test recs test at = list_any (λ (rec : AsmRec). list_any test (listed (slice_get rec.field at.row))) (listed (slice_get recs at.asm))
 
--- whether a field is public, by its flags (II.23.1.5), and has this name
-abbrev pub is_public_field : List ℕ → FieldRow → Bool
-is_public_field name f = same_name f.name name && access_of f.flags == field_flags.PUBLIC
-
-abbrev pub is_public_instance_field : List ℕ → FieldRow → Bool
-is_public_instance_field name f = is_public_field name f && not (has_flag f.flags field_flags.STATIC)
+-- whether a field is public, and of instances where it is inherited, by its flags (II.23.1.5)
+abbrev pub is_public_field : Option (List ℕ) → Bool → FieldRow → Bool
+is_public_field wanted inherited f =
+    is_wanted wanted f.name && access_of f.flags == field_flags.PUBLIC && (not inherited || not (has_flag f.flags field_flags.STATIC))
 
 abbrev pub hides_nothing : RowAt → RowAt → Bool
 hides_nothing x y = false
 
-unfoldable pub fields_named : List AsmRec → List ℕ → List TypeExpr → List RowAt
-fields_named recs name es =
-    collected hides_nothing (rows_of recs field_places) (field_test recs (is_public_field name)) (field_test recs (is_public_instance_field name)) es
+abbrev pub field_of : ℕ → Item
+field_of n = item.Field (record { 0 = n })
+
+unfoldable pub fields_found : List AsmRec → Option (List ℕ) → List TypeExpr → List FoundMember
+fields_found recs wanted es =
+    collected (member_at recs fields_in field_of) hides_nothing (rows_of recs field_places) (λ inherited. field_test recs (is_public_field wanted inherited)) es
 
 -- ---- methods
 
@@ -128,11 +143,9 @@ method_test recs test at = list_any test (listed (method_row_at recs at))
 abbrev pub is_constructor : MethodDefRow → Bool
 is_constructor m = same_name m.name (codes ".ctor") || same_name m.name (codes ".cctor")
 
-abbrev pub is_public_method : List ℕ → MethodDefRow → Bool
-is_public_method name m = same_name m.name name && is_public m && not (is_constructor m)
-
-abbrev pub is_public_instance : List ℕ → MethodDefRow → Bool
-is_public_instance name m = is_public_method name m && not (is_static m)
+-- whether a method is public and no constructor, and of instances where it is inherited
+abbrev pub is_public_method : Option (List ℕ) → Bool → MethodDefRow → Bool
+is_public_method wanted inherited m = is_wanted wanted m.name && is_public m && not (is_constructor m) && (not inherited || not (is_static m))
 
 abbrev pub same_slot : Option RowAt → Option RowAt → Bool
 same_slot None y = false
@@ -156,9 +169,12 @@ has_impl recs body slot e =
 unfoldable pub overrides : List AsmRec → List TypeExpr → RowAt → RowAt → Bool
 overrides recs es m b = same_slot (slot_of recs m) (slot_of recs b) || list_any (has_impl recs m (slot_of recs b)) es
 
-unfoldable pub methods_named : List AsmRec → List ℕ → List TypeExpr → List RowAt
-methods_named recs name es =
-    collected (overrides recs es) (rows_of recs method_places) (method_test recs (is_public_method name)) (method_test recs (is_public_instance name)) es
+abbrev pub method_of : ℕ → Item
+method_of n = item.Method (record { 0 = n })
+
+unfoldable pub methods_found : List AsmRec → Option (List ℕ) → List TypeExpr → List FoundMember
+methods_found recs wanted es =
+    collected (member_at recs methods_in method_of) (overrides recs es) (rows_of recs method_places) (λ inherited. method_test recs (is_public_method wanted inherited)) es
 
 -- ---- properties and events: they are public, of instances, or override, where an accessor is or does (II.22.28)
 
@@ -199,30 +215,45 @@ event_run rec token row = if row.parent == token then places row.event_list_firs
 abbrev pub event_places : AsmRec → TypeDefRow → ℕ → List ℕ
 event_places rec t k = flat_map (event_run rec (token_of TYPE_DEF (suc k))) rec.event_map
 
-abbrev pub is_property_named : List AsmRec → List ℕ → RowAt → Bool
-is_property_named recs name at =
-    list_any (λ (rec : AsmRec). list_any (λ (p : PropertyRow). same_name p.name name) (listed (slice_get rec.property at.row))) (listed (slice_get recs at.asm))
+abbrev pub is_property_wanted : List AsmRec → Option (List ℕ) → RowAt → Bool
+is_property_wanted recs wanted at =
+    list_any (λ (rec : AsmRec). list_any (λ (p : PropertyRow). is_wanted wanted p.name) (listed (slice_get rec.property at.row))) (listed (slice_get recs at.asm))
 
-abbrev pub is_event_named : List AsmRec → List ℕ → RowAt → Bool
-is_event_named recs name at =
-    list_any (λ (rec : AsmRec). list_any (λ (p : EventRow). same_name p.name name) (listed (slice_get rec.event at.row))) (listed (slice_get recs at.asm))
+abbrev pub is_event_wanted : List AsmRec → Option (List ℕ) → RowAt → Bool
+is_event_wanted recs wanted at =
+    list_any (λ (rec : AsmRec). list_any (λ (p : EventRow). is_wanted wanted p.name) (listed (slice_get rec.event at.row))) (listed (slice_get recs at.asm))
 
-unfoldable pub properties_named : List AsmRec → List ℕ → List TypeExpr → List RowAt
-properties_named recs name es =
-    collected (accessors_override recs es PROPERTY) (rows_of recs property_places)
-    (λ at. is_property_named recs name at && accessor_test recs PROPERTY is_public_accessor at)
-    (λ at. is_property_named recs name at && accessor_test recs PROPERTY is_public_accessor at && accessor_test recs PROPERTY is_instance_accessor at) es
+-- whether an accessor of a row is public, and one of instances where it is inherited
+abbrev pub is_public_mapped : List AsmRec → ℕ → Bool → RowAt → Bool
+is_public_mapped recs table inherited at =
+    accessor_test recs table is_public_accessor at && (not inherited || accessor_test recs table is_instance_accessor at)
 
-unfoldable pub events_named : List AsmRec → List ℕ → List TypeExpr → List RowAt
-events_named recs name es =
-    collected (accessors_override recs es EVENT) (rows_of recs event_places)
-    (λ at. is_event_named recs name at && accessor_test recs EVENT is_public_accessor at)
-    (λ at. is_event_named recs name at && accessor_test recs EVENT is_public_accessor at && accessor_test recs EVENT is_instance_accessor at) es
+abbrev pub properties_in : AsmRec → ℕ
+properties_in rec = length rec.property
+
+abbrev pub events_in : AsmRec → ℕ
+events_in rec = length rec.event
+
+abbrev pub property_of : ℕ → Item
+property_of n = item.Prop (record { 0 = n })
+
+abbrev pub event_of : ℕ → Item
+event_of n = item.Event (record { 0 = n })
+
+unfoldable pub properties_found : List AsmRec → Option (List ℕ) → List TypeExpr → List FoundMember
+properties_found recs wanted es =
+    collected (member_at recs properties_in property_of) (accessors_override recs es PROPERTY) (rows_of recs property_places)
+    (λ inherited at. is_property_wanted recs wanted at && is_public_mapped recs PROPERTY inherited at) es
+
+unfoldable pub events_found : List AsmRec → Option (List ℕ) → List TypeExpr → List FoundMember
+events_found recs wanted es =
+    collected (member_at recs events_in event_of) (accessors_override recs es EVENT) (rows_of recs event_places)
+    (λ inherited at. is_event_wanted recs wanted at && is_public_mapped recs EVENT inherited at) es
 
 -- ---- all kinds
 
-abbrev pub ids_of : List AsmRec → (AsmRec → ℕ) → (ℕ → Item) → List RowAt → List Item
-ids_of recs count item rows = map (λ (at : RowAt). item (rows_before count recs at.asm + at.row)) rows
+abbrev pub items_of : List FoundMember → List Item
+items_of members = map (λ (m : FoundMember). m.item) members
 
 abbrev pub along : List AsmRec → Option RowAt → List TypeExpr
 along recs None = []
@@ -230,10 +261,8 @@ along recs (Some at) = with_bases recs (definition_expr recs at)
 
 abbrev pub members_along : List AsmRec → List ℕ → List TypeExpr → List Item
 members_along recs name es =
-    ids_of recs fields_in (λ n. item.Field (record { 0 = n })) (fields_named recs name es)
-    ++ ids_of recs methods_in (λ n. item.Method (record { 0 = n })) (methods_named recs name es)
-    ++ ids_of recs (λ (rec : AsmRec). length rec.property) (λ n. item.Prop (record { 0 = n })) (properties_named recs name es)
-    ++ ids_of recs (λ (rec : AsmRec). length rec.event) (λ n. item.Event (record { 0 = n })) (events_named recs name es)
+    items_of (fields_found recs (Some name) es) ++ items_of (methods_found recs (Some name) es)
+    ++ items_of (properties_found recs (Some name) es) ++ items_of (events_found recs (Some name) es)
 
 -- The public members of a type that have a name, in the order of their rows, then the public instance members of each base;
 -- a method, property or event that one before overrides is left out. Fields come first, then methods, properties, events.

@@ -4,30 +4,44 @@ use Rattle.std.specs.List.{list_any}
 use Rattle.std.specs.Option.{option_and_then, option_map}
 use Rattle.il_base.specs.declared.ids.TypeId.{TypeId}
 use Rattle.il_base.specs.declared.ids.MethodId.{MethodId}
-use Rattle.il_base.specs.declared.world_model.expr.TypeExpr.{TypeExpr}
+use Rattle.il_base.specs.declared.ids.Item.{Item}
+use Rattle.il_base.specs.declared.ids.Item.TheVariants as item
+use Rattle.il_base.specs.declared.world_model.known.Known.{Known}
+use Rattle.il_base.specs.declared.world_model.expr.TypeExpr.{TypeExpr, out-TypeExpr}
+use Rattle.il_base.specs.declared.world_model.expr.TypeExpr.TheOpen.{TypeExpr-F}
+use Rattle.il_base.specs.declared.world_model.expr.TypeExpr as expr
 use Rattle.il_base.specs.declared.world_model.expr.MethodUse.{MethodUse}
+use Rattle.il_base.specs.declared.world_model.members.FieldRow.{FieldRow}
+use Rattle.il_base.specs.declared.world_model.members.MethodDefRow.{MethodDefRow}
+use Rattle.il_base.specs.declared.world_model.members.PropertyRow.{PropertyRow}
 use Rattle.il_base.specs.declared.world_model.record.AsmRec.{AsmRec}
-use Rattle.il_base.specs.world_model.Worlds.{rows_before, type_id}
+use Rattle.il_base.specs.world_model.Worlds.{rows_before, type_id, known_map, known_then}
 use Rattle.il_base.specs.declared.core_table.names.CoreName.{CoreName}
 use Rattle.il_base.specs.declared.core_table.names.CoreName.TheVariants as core
 use Rattle.il_base.specs.declared.core_table.shape.CoreType.{CoreType}
 use Rattle.il_base.specs.declared.core_table.types.TheConstants.{TYPES}
+use Rattle.il_base.specs.declared.cil_values.core_call.MemberKind.{MemberKind}
+use Rattle.il_base.specs.declared.cil_values.core_call.MemberKind.TheVariants as kind
 use Rattle.rules.specs.declared.link_rules.row_at.RowAt.{RowAt}
+use Rattle.rules.specs.declared.link_rules.member_type.MethodType.{MethodType}
+use Rattle.rules.specs.declared.type_rules.found_member.FoundMember.{FoundMember}
 use Rattle.il_base.specs.declared.cil_values.sought.Sought.{Sought}
 use Rattle.il_base.specs.declared.cil_values.sought.Sought.TheVariants as sought
 use Rattle.attr_blobs.specs.declared.name.NameRead.{NameRead}
 use Rattle.attr_blobs.specs.declared.name.NameRead.TheVariants as read
 use Rattle.attr_blobs.specs.Values.{name_of_text}
-use Rattle.rules.specs.link_rules.Signatures.{definition_expr}
-use Rattle.rules.specs.link_rules.Members.{type_home, methods_in, with_bases}
+use Rattle.rules.specs.link_rules.Signatures.{definition_expr, names_at, method_type}
+use Rattle.rules.specs.link_rules.Members.{home_from, type_home, owner_of, array_type, methods_in, fields_in, with_bases}
 use Rattle.rules.specs.link_rules.Cycles.{listed, same_row, home_of}
 use Rattle.rules.specs.type_rules.Subtypes.{is_subtype}
-use Rattle.rules.specs.type_rules.Slots.{method_home, type_of_method}
+use Rattle.rules.specs.type_rules.Rows.{rec_at, field_row_at}
+use Rattle.rules.specs.type_rules.Slots.{method_home, method_row_at, type_of_method}
 use Rattle.rules.specs.type_rules.Dispatch.{dispatch, method_id}
 use Rattle.rules.specs.type_rules.Texts.{text}
-use Rattle.rules.specs.type_rules.Searches.{find_type}
+use Rattle.rules.specs.type_rules.Searches.{find_type, fields_found, methods_found, properties_found, properties_in}
 use Rattle.rules.specs.type_rules.Labels.{label, space, encloser_at}
 use Rattle.rules.specs.type_rules.Initializers.{initializer}
+use Rattle.rules.specs.type_rules.Makers.{maker}
 use Rattle.rules.specs.step_rules.Queries.{Queries}
 use Rattle.rules.specs.view_rules.Members.{core_call, core_type_row, object_method}
 use Rattle.rules.specs.view_rules.Methods.{method_query, field_query, head_query}
@@ -46,6 +60,16 @@ core_method_id recs name = rows_before methods_in recs (length recs - 1) + objec
 
 abbrev pub starts_query : List AsmRec → ℕ → Option ℕ
 starts_query recs t = option_map (λ at. (method_id recs at).0) (option_and_then (initializer recs) (type_home recs (record { 0 = t })))
+
+-- ---- constructors
+
+-- of a type definition
+abbrev pub maker_of : List AsmRec → ℕ → Option ℕ
+maker_of recs t = option_map (λ at. (method_id recs at).0) (option_and_then (maker recs) (type_home recs (record { 0 = t })))
+
+-- of a type by its definition; that of an array has none
+unfoldable pub maker_query : List AsmRec → TypeExpr → Option ℕ
+maker_query recs e = option_and_then (λ (t : TypeId). maker_of recs t.0) (owner_of recs e)
 
 -- ---- enclosers
 
@@ -68,6 +92,58 @@ sought_from recs from read.Other = sought.Unread
 unfoldable pub find_query : List AsmRec → ℕ → List ℕ → Sought
 find_query recs m text =
     elim (method_home recs (record { 0 = m })) [ None ↦ sought.Missing | Some at ↦ sought_from recs at.asm (name_of_text text) ]
+
+-- ---- members that reflection finds
+
+-- a type whose members are looked for: an array has those of System.Array (I.8.9.1)
+abbrev pub searched_in : List AsmRec → TypeExpr → TypeExpr-F TypeExpr → TypeExpr
+searched_in recs e (TypeExpr-F.Array x) = elim (array_type recs) [ Some t ↦ expr.Def t | None ↦ e ]
+searched_in recs e _ = e
+
+unfoldable pub searched : List AsmRec → TypeExpr → TypeExpr
+searched recs e = searched_in recs e (out-TypeExpr e)
+
+abbrev pub found_along : List AsmRec → MemberKind → Option (List ℕ) → List TypeExpr → List FoundMember
+found_along recs kind.Method name es = methods_found recs name es
+found_along recs kind.Field name es = fields_found recs name es
+found_along recs kind.Property name es = properties_found recs name es
+
+-- the members of a kind that a type has for reflection, all or those of a name
+unfoldable pub members_query : List AsmRec → MemberKind → Option (List ℕ) → TypeExpr → List FoundMember
+members_query recs k name e = found_along recs k name (with_bases recs (searched recs e))
+
+abbrev pub property_row_at : List AsmRec → RowAt → Option PropertyRow
+property_row_at recs at = option_and_then (λ (rec : AsmRec). slice_get rec.property at.row) (rec_at recs at)
+
+abbrev pub method_title : Option MethodDefRow → List ℕ
+method_title None = []
+method_title (Some row) = row.name
+
+abbrev pub field_title : Option FieldRow → List ℕ
+field_title None = []
+field_title (Some row) = row.name
+
+abbrev pub property_title : Option PropertyRow → List ℕ
+property_title None = []
+property_title (Some row) = row.name
+
+-- a member's name
+unfoldable pub title_query : List AsmRec → Item → List ℕ
+title_query recs (item.Method m) = method_title (option_and_then (method_row_at recs) (method_home recs m))
+title_query recs (item.Field f) = field_title (option_and_then (field_row_at recs) (home_from fields_in 0 recs f.0))
+title_query recs (item.Prop p) = property_title (option_and_then (property_row_at recs) (home_from properties_in 0 recs p.0))
+title_query recs _ = []
+
+-- a property's signature has its type where a method's has the type that is returned (II.23.2.5)
+abbrev pub property_type : List AsmRec → ℕ → AsmRec → PropertyRow → Known TypeExpr
+property_type recs a rec p = known_map (λ (m : MethodType). m.ret) (known_then (method_type (names_at recs a rec)) p.signature)
+
+abbrev pub property_type_at : List AsmRec → RowAt → Option (Known TypeExpr)
+property_type_at recs at =
+    option_and_then (λ (rec : AsmRec). option_map (property_type recs at.asm rec) (slice_get rec.property at.row)) (rec_at recs at)
+
+unfoldable pub property_query : List AsmRec → ℕ → Option (Known TypeExpr)
+property_query recs p = option_and_then (property_type_at recs) (home_from properties_in 0 recs p)
 
 -- ---- virtual calls
 
@@ -112,6 +188,7 @@ queries_of recs = record {
   shape = shape_query recs;
   cells = cells_query recs;
   starts = starts_query recs;
+  maker = maker_query recs;
   below = is_subtype recs;
   answers = answers_query recs;
   text = text recs;
@@ -119,6 +196,9 @@ queries_of recs = record {
   space = space recs;
   encloser = encloser_query recs;
   find = find_query recs;
+  members = members_query recs;
+  title = title_query recs;
+  property = property_query recs;
   kin = λ e. nearest_core recs (with_bases recs e);
   to_string = core_method_id recs core.ToString;
   equals = core_method_id recs core.Equals;

@@ -22,6 +22,7 @@ use Rattle.il_base.specs.declared.cil_values.core_call.CoreCall.{CoreCall}
 use Rattle.il_base.specs.declared.cil_values.core_call.Printed.{Printed}
 use Rattle.il_base.specs.declared.cil_values.core_call.CoreCall.TheVariants as call
 use Rattle.il_base.specs.declared.cil_values.core_call.Printed.TheVariants as printed
+use Rattle.il_base.specs.declared.cil_values.core_call.MemberKind.TheVariants as kind
 use Rattle.il_base.specs.declared.cil_values.core_call.CoreCall.{CoreCall}
 
 -- ---- by parameters
@@ -111,7 +112,6 @@ exception_call owner core.GetInnerException ps = Some call.GetInner
 exception_call owner core.ToString ps = Some call.Halts
 exception_call owner _ ps = None
 
--- a search for members ends the run
 abbrev pub type_call : CoreName → CoreParams → Option CoreCall
 type_call core.GetTypeFromHandle ps = Some call.TypeFromHandle
 type_call core.GetType (One s) = Some (call.TypeFind false)
@@ -127,12 +127,33 @@ type_call core.IsInstanceOfType ps = Some call.TypeHas
 type_call core.GetIsValueType ps = Some call.TypeIsValue
 type_call core.GetIsInterface ps = Some call.TypeIsInterface
 type_call core.GetIsArray ps = Some call.TypeIsArray
+type_call core.GetMethod ps = Some (call.MemberFind kind.Method)
+type_call core.GetMethods ps = Some (call.MemberList kind.Method)
+type_call core.GetField ps = Some (call.MemberFind kind.Field)
+type_call core.GetFields ps = Some (call.MemberList kind.Field)
+type_call core.GetProperty ps = Some (call.MemberFind kind.Property)
+type_call core.GetProperties ps = Some (call.MemberList kind.Property)
 type_call _ ps = Some call.Halts
 
 abbrev pub member_info_call : CoreName → Option CoreCall
 member_info_call core.GetName = Some call.MemberName
 member_info_call core.GetDeclaringType = Some call.MemberOwner
 member_info_call _ = None
+
+-- of MethodBase, MethodInfo, FieldInfo and PropertyInfo; a call of what was found, and reading or setting it, ends the run
+abbrev pub info_call : CoreName → Option CoreCall
+info_call core.GetIsStatic = Some call.MethodIsStatic
+info_call core.GetReturnType = Some (call.MemberType kind.Method)
+info_call core.GetFieldType = Some (call.MemberType kind.Field)
+info_call core.GetPropertyType = Some (call.MemberType kind.Property)
+info_call core.OpEquality = Some call.MemberSame
+info_call core.OpInequality = Some call.MemberOther
+info_call _ = Some call.Halts
+
+-- CreateInstance(Type), CreateInstance<T>()
+abbrev pub activator_call : CoreParams → Option CoreCall
+activator_call (One s) = Some call.Create
+activator_call ps = Some call.CreateOf
 
 abbrev pub call_by : CoreName → CoreName → CoreParams → Option CoreCall
 call_by core.Object name ps = object_call name ps
@@ -153,11 +174,11 @@ call_by core.Array name ps = Some call.ArrayLength
 call_by core.Console name ps = console_call name ps
 call_by core.Type name ps = type_call name ps
 call_by core.MemberInfo name ps = member_info_call name
-call_by core.MethodBase name ps = Some call.Halts
-call_by core.MethodInfo name ps = Some call.Halts
-call_by core.FieldInfo name ps = Some call.Halts
-call_by core.PropertyInfo name ps = Some call.Halts
-call_by core.Activator name ps = Some call.Halts
+call_by core.MethodBase name ps = info_call name
+call_by core.MethodInfo name ps = info_call name
+call_by core.FieldInfo name ps = info_call name
+call_by core.PropertyInfo name ps = info_call name
+call_by core.Activator name ps = activator_call ps
 call_by core.RuntimeHelpers name ps = Some call.FillArray
 call_by core.Attribute name ps = Some call.Idle
 call_by core.IDisposable name ps = None

@@ -8,7 +8,6 @@ use Rattle.il_base.specs.declared.world_model.members.PropertyMapRow.{PropertyMa
 use Rattle.il_base.specs.declared.world_model.members.EventRow.{EventRow}
 use Rattle.il_base.specs.declared.world_model.members.EventMapRow.{EventMapRow}
 use Rattle.il_base.specs.declared.world_model.record.AsmRec.{AsmRec}
-use Rattle.il_base.specs.world_model.Core.{same_name}
 use Rattle.il_base.specs.world_model.Tokens.{token_of}
 use Rattle.rules.specs.declared.link_rules.row_at.RowAt.{RowAt}
 use Rattle.rules.specs.link_rules.Types.{at_row}
@@ -42,30 +41,30 @@ abbrev pub run_at : Mapped → AsmRec → ℕ → Option Run
 run_at Property rec k = option_map property_run (slice_get rec.property_map k)
 run_at Event rec k = option_map event_run (slice_get rec.event_map k)
 
-abbrev pub has_name : Mapped → AsmRec → List ℕ → ℕ → Bool
-has_name Property rec name k = list_any (λ (p : PropertyRow). same_name p.name name) (listed (slice_get rec.property k))
-has_name Event rec name k = list_any (λ (p : EventRow). same_name p.name name) (listed (slice_get rec.event k))
+abbrev pub has_name : Mapped → AsmRec → Option (List ℕ) → ℕ → Bool
+has_name Property rec wanted k = list_any (λ (p : PropertyRow). searches.is_wanted wanted p.name) (listed (slice_get rec.property k))
+has_name Event rec wanted k = list_any (λ (p : EventRow). searches.is_wanted wanted p.name) (listed (slice_get rec.event k))
 
--- the rows of some numbers from a start on that have a name
-abbrev pub named_from : Mapped → AsmRec → ℕ → List ℕ → ℕ → ℕ → List RowAt
-named_from m rec asm name start n = map (at_row asm) (filter (has_name m rec name) (range_with_len start n))
+-- the rows of some numbers from a start on that have a wanted name
+abbrev pub named_from : Mapped → AsmRec → ℕ → Option (List ℕ) → ℕ → ℕ → List RowAt
+named_from m rec asm wanted start n = map (at_row asm) (filter (has_name m rec wanted) (range_with_len start n))
 
 -- how many rows of a run there are
 abbrev pub run_length : Mapped → AsmRec → Run → ℕ
 run_length Property rec run = length (run_of run.first run.end rec.property)
 run_length Event rec run = length (run_of run.first run.end rec.event)
 
-abbrev pub named_in_run : Mapped → AsmRec → ℕ → List ℕ → Run → List RowAt
-named_in_run m rec asm name run = named_from m rec asm name (run.first - 1) (run_length m rec run)
+abbrev pub named_in_run : Mapped → AsmRec → ℕ → Option (List ℕ) → Run → List RowAt
+named_in_run m rec asm wanted run = named_from m rec asm wanted (run.first - 1) (run_length m rec run)
 
-abbrev pub named_under : Mapped → AsmRec → ℕ → List ℕ → ℕ → List RowAt
-named_under m rec asm name k = option_map_or (named_in_run m rec asm name) (run_at m rec k) []
+abbrev pub named_under : Mapped → AsmRec → ℕ → Option (List ℕ) → ℕ → List RowAt
+named_under m rec asm wanted k = option_map_or (named_in_run m rec asm wanted) (run_at m rec k) []
 
 -- those of a type, by its row from 0
 abbrev pub places_of : Mapped → AsmRec → ℕ → List ℕ
 places_of Property rec k = flat_map (searches.property_run rec (token_of TYPE_DEF (suc k))) rec.property_map
 places_of Event rec k = flat_map (searches.event_run rec (token_of TYPE_DEF (suc k))) rec.event_map
 
--- those of a type that have a name
-abbrev pub named_places : Mapped → AsmRec → List ℕ → RowAt → List RowAt
-named_places m rec name at = map (at_row at.asm) (filter (has_name m rec name) (places_of m rec at.row))
+-- those of a type that have a wanted wanted
+abbrev pub named_places : Mapped → AsmRec → Option (List ℕ) → RowAt → List RowAt
+named_places m rec wanted at = map (at_row at.asm) (filter (has_name m rec wanted) (places_of m rec at.row))

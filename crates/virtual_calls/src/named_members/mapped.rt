@@ -1,13 +1,13 @@
-//! Properties and events of a type: the rows with a name of its runs, by the rows of PropertyMap or EventMap that belong to it.
+//! Properties and events of a type: the rows with a wanted name of its runs, by the rows of PropertyMap or EventMap that belong to it.
 
 ghost use Rattle.std.specs.Prelude.{◌≡◌, ℕ, ◌-◌, ◌++◌, ◌≤◌, slice_get, IfOk, OnOk};
 ghost use Rattle.std.specs.List.{flat_map};
 ghost use Rattle.type_tables.specs.Tables.{AreRowTables};
 ghost use Rattle.virtual_calls.specs.named_members.Mapped.{count_in, map_rows, run_at, has_name, named_from, run_length, named_in_run, named_under, named_places};
 
-use crate::named_members::kinds::Mapped;
+use crate::named_members::kinds::{Mapped, is_wanted};
 use il_base::world_model::{AsmRec, token_of};
-use il_base::{NoMemory, table};
+use il_base::{NoMemory, Text, table};
 use rules::link_rules::RowAt;
 use std::alloc::Global;
 use type_tables::member_search::owners::Run;
@@ -55,94 +55,94 @@ fn run_at(rec: &AsmRec, mapped: Mapped, k: u32) -> Option<Run>
     }
 }
 
-/// Whether a row, from 0, has a name.
-pub fn has_name(rec: &AsmRec, mapped: Mapped, name: &[u8], k: u32) -> bool
-    ensures { result ≡ has_name mapped rec.now name.now k }
+/// Whether a row, from 0, has a wanted name.
+pub fn has_name(rec: &AsmRec, mapped: Mapped, wanted: &Option<Text>, k: u32) -> bool
+    ensures { result ≡ has_name mapped rec.now wanted.now k }
 {
     match mapped {
         Mapped::Property => match rec.property.get(k as usize) {
-            Some(property) => property.name.as_slice() == name,
+            Some(property) => is_wanted(wanted, property.name.as_slice()),
             None => false,
         },
         Mapped::Event => match rec.event.get(k as usize) {
-            Some(event) => event.name.as_slice() == name,
+            Some(event) => is_wanted(wanted, event.name.as_slice()),
             None => false,
         },
     }
 }
 
-/// Appends the rows with a name to those found, of the rows from `start` to before `end`.
+/// Appends the rows with a wanted name to those found, of the rows from `start` to before `end`.
 fn add_named(
     rec: &AsmRec,
     mapped: Mapped,
     asm: u32,
-    name: &[u8],
+    wanted: &Option<Text>,
     start: u32,
     end: u32,
     found: &mut Vec<RowAt>,
 ) -> Result<(), NoMemory>
-    ensures { OnOk result (found.new.items ≡ found.old.items ++ named_from mapped rec.now asm name.now start (end - start)) }
+    ensures { OnOk result (found.new.items ≡ found.old.items ++ named_from mapped rec.now asm wanted.now start (end - start)) }
 {
     for row in start..end {
-        if has_name(rec, mapped, name, row) {
+        if has_name(rec, mapped, wanted, row) {
             found.push(RowAt { asm, row })?;
         }
     }
     Ok(())
 }
 
-/// Appends the rows of a run that have a name to those found.
+/// Appends the rows of a run that have a wanted name to those found.
 fn add_in_run(
     rec: &AsmRec,
     mapped: Mapped,
     asm: u32,
-    name: &[u8],
+    wanted: &Option<Text>,
     run: Run,
     found: &mut Vec<RowAt>,
 ) -> Result<(), NoMemory>
-    ensures { OnOk result (found.new.items ≡ found.old.items ++ named_in_run mapped rec.now asm name.now run) }
+    ensures { OnOk result (found.new.items ≡ found.old.items ++ named_in_run mapped rec.now asm wanted.now run) }
 {
     let start = run.first.saturating_sub(1);
     let end = start + run.end.saturating_sub(run.first);
     let count = u32::try_from(count_in(rec, mapped)).unwrap_or(u32::MAX);
-    add_named(rec, mapped, asm, name, start, end.min(count), found)?;
+    add_named(rec, mapped, asm, wanted, start, end.min(count), found)?;
     Ok(())
 }
 
-/// The rows of a run that have a name, of each of these rows of the map.
+/// The rows of a run that have a wanted name, of each of these rows of the map.
 fn named_under(
     alloc: Global,
     rec: &AsmRec,
     mapped: Mapped,
     asm: u32,
-    name: &[u8],
+    wanted: &Option<Text>,
     rows: &[u32],
 ) -> Result<Vec<RowAt>, NoMemory>
-    ensures { IfOk result (λ found. found.items ≡ flat_map (named_under mapped rec.now asm name.now) rows.now) }
+    ensures { IfOk result (λ found. found.items ≡ flat_map (named_under mapped rec.now asm wanted.now) rows.now) }
 {
     let mut found = Vec::new(alloc);
     for k in rows {
         if let Some(run) = run_at(rec, mapped, *k) {
-            add_in_run(rec, mapped, asm, name, run, &mut found)?;
+            add_in_run(rec, mapped, asm, wanted, run, &mut found)?;
         }
     }
     Ok(found)
 }
 
-/// The properties or events with a name of the type in a row, from 0.
+/// The properties or events with a wanted name of the type in a row, from 0.
 pub fn named_places(
     alloc: Global,
     rec: &AsmRec,
     tables: &RowTables,
     mapped: Mapped,
     at: RowAt,
-    name: &[u8],
+    wanted: &Option<Text>,
 ) -> Result<Vec<RowAt>, NoMemory>
     requires { AreRowTables rec.now tables.now }
-    ensures { IfOk result (λ found. found.items ≡ named_places mapped rec.now name.now at) }
+    ensures { IfOk result (λ found. found.items ≡ named_places mapped rec.now wanted.now at) }
 {
     let token = token_of(table::TYPE_DEF, at.row as usize)?;
     let rows = map_rows(tables, mapped, token);
-    let found = named_under(alloc, rec, mapped, at.asm, name, rows)?;
+    let found = named_under(alloc, rec, mapped, at.asm, wanted, rows)?;
     Ok(found)
 }

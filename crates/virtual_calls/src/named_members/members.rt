@@ -1,21 +1,21 @@
 //! All members of a type under a name, as ids.
 
-ghost use Rattle.std.specs.Prelude.{◌≡◌, ◌++◌, map, IfOk, OnOk};
+ghost use Rattle.std.specs.Prelude.{◌≡◌, ◌++◌, IfOk, OnOk};
 ghost use Rattle.rules.specs.link_rules.Members.{with_bases};
-ghost use Rattle.rules.specs.type_rules.Searches.{along, members_along, members_named};
+ghost use Rattle.rules.specs.type_rules.Searches.{items_of, along, members_along, members_named};
 ghost use Rattle.type_tables.specs.Tables.{IsTables};
 ghost use Rattle.virtual_calls.specs.Slots.{AreSlots};
-ghost use Rattle.virtual_calls.specs.named_members.Named.{counted, item_of, id_of, ids_named};
+ghost use Rattle.virtual_calls.specs.named_members.Named.{found};
 
 use crate::named_members::kinds::Kind;
-use crate::named_members::named::named;
+use crate::named_members::named::found;
 use crate::nearest::{base_of, type_count};
 use crate::slots::Slots;
-use il_base::world_model::{AsmRec, TypeExpr};
-use il_base::{EventId, FieldId, Item, MethodId, NoMemory, PropId, Seq, TypeId};
+use il_base::world_model::TypeExpr;
+use il_base::{Item, NoMemory, Seq, Text, TypeId};
 use rules::link_rules::RowAt;
+use rules::type_rules::FoundMember;
 use std::alloc::Global;
-use type_tables::member_search::counted::{Counted, rows_before, sum};
 use type_tables::member_search::homes::type_home;
 use type_tables::member_search::own_types::definition_expr;
 use type_tables::tables::Tables;
@@ -57,70 +57,32 @@ fn along(alloc: Global, tables: &Tables<'_>, home: Option<RowAt>) -> Result<Vec<
     }
 }
 
-/// The table whose rows count for the ids of a kind.
-fn counted(kind: Kind) -> Counted
-    ensures { result ≡ counted kind }
-{
-    match kind {
-        Kind::Field => Counted::Fields,
-        Kind::Method => Counted::Methods,
-        Kind::Property => Counted::Properties,
-        Kind::Event => Counted::Events,
-    }
-}
-
-fn item_of(kind: Kind, n: u32) -> Item
-    ensures { result ≡ item_of kind n }
-{
-    match kind {
-        Kind::Field => Item::Field(FieldId(n)),
-        Kind::Method => Item::Method(MethodId(n)),
-        Kind::Property => Item::Prop(PropId(n)),
-        Kind::Event => Item::Event(EventId(n)),
-    }
-}
-
-/// The id of a member: the rows of all assemblies before it count first.
-fn id_of(all: &[AsmRec], kind: Kind, at: RowAt) -> Result<Item, NoMemory>
-    ensures { IfOk result (λ id. id ≡ id_of all.now kind at) }
-{
-    let before = rows_before(all, counted(kind), at.asm as usize)?;
-    let n = sum(before, at.row as usize)?;
-    Ok(item_of(kind, n))
-}
-
 /// Appends the ids of members to others.
-fn add_ids(
-    all: &[AsmRec],
-    kind: Kind,
-    rows: &[RowAt],
-    items: &mut Seq<Item>,
-) -> Result<(), NoMemory>
-    ensures { OnOk result (items.new ≡ items.old ++ map (id_of all.now kind) rows.now) }
+fn add_items(members: &[FoundMember], items: &mut Seq<Item>) -> Result<(), NoMemory>
+    ensures { OnOk result (items.new ≡ items.old ++ items_of members.now) }
 {
-    for at in rows {
-        let id = id_of(all, kind, *at)?;
-        items.push(id)?;
+    for m in members {
+        items.push(m.item)?;
     }
     Ok(())
 }
 
-/// Appends the ids of the members of a kind that types have under a name to others.
-fn add_named(
+/// Appends the ids of the members of a kind that types have, all or those of a name, to others.
+fn add_found(
     alloc: Global,
     tables: &Tables<'_>,
     slots: &Slots,
     types: &[TypeExpr],
     kind: Kind,
-    name: &[u8],
+    wanted: &Option<Text>,
     items: &mut Seq<Item>,
 ) -> Result<(), NoMemory>
     requires tables { IsTables tables.now }
     requires slots { AreSlots tables.now.world.now.recs slots.now }
-    ensures { OnOk result (items.new ≡ items.old ++ ids_named tables.now.world.now.recs name.now types.now kind) }
+    ensures { OnOk result (items.new ≡ items.old ++ items_of (found tables.now.world.now.recs wanted.now types.now kind)) }
 {
-    let rows = named(alloc, tables, slots, types, kind, name)?;
-    add_ids(tables.world.recs.as_slice(), kind, rows.as_slice(), items)
+    let members = found(alloc, tables, slots, types, kind, wanted)?;
+    add_items(members.as_slice(), items)
 }
 
 /// The members that a type and its bases have under a name: fields, then methods, properties and events.
@@ -135,19 +97,21 @@ fn members_along(
     requires slots { AreSlots tables.now.world.now.recs slots.now }
     ensures { IfOk result (λ items. items ≡ members_along tables.now.world.now.recs name.now types.now) }
 {
+    let name = Seq::from_slice(alloc, name)?;
+    let one = Some(name);
     let mut items = Seq::new(alloc);
-    add_named(alloc, tables, slots, types, Kind::Field, name, &mut items)?;
-    add_named(alloc, tables, slots, types, Kind::Method, name, &mut items)?;
-    add_named(
+    add_found(alloc, tables, slots, types, Kind::Field, &one, &mut items)?;
+    add_found(alloc, tables, slots, types, Kind::Method, &one, &mut items)?;
+    add_found(
         alloc,
         tables,
         slots,
         types,
         Kind::Property,
-        name,
+        &one,
         &mut items,
     )?;
-    add_named(alloc, tables, slots, types, Kind::Event, name, &mut items)?;
+    add_found(alloc, tables, slots, types, Kind::Event, &one, &mut items)?;
     Ok(items)
 }
 

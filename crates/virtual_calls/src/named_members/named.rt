@@ -1,24 +1,26 @@
-//! The members of a kind that types have under a name: all of the first type that are public, then the public ones of
-//! instances of each base that none before hides.
+//! The members of a kind that types have, all or those of a name: those of the first type that are public, then the public ones
+//! of instances of each base that none before hides.
 
-ghost use Rattle.std.specs.Prelude.{◌≡◌, ◌&&◌, not, IfOk};
+ghost use Rattle.std.specs.Prelude.{◌≡◌, ◌&&◌, ◌++◌, [], map, false, not, IfOk, OnOk};
 ghost use Rattle.std.specs.List.{list_any};
 ghost use Rattle.type_tables.specs.Tables.{IsTables};
 ghost use Rattle.virtual_calls.specs.Slots.{AreSlots};
 ghost use Rattle.virtual_calls.specs.named_members.Kinds.{named_rows};
 ghost use Rattle.virtual_calls.specs.named_members.Counts.{counts};
 ghost use Rattle.virtual_calls.specs.named_members.Hiding.{hides};
-ghost use Rattle.virtual_calls.specs.named_members.Named.{kept, gather, named};
+ghost use Rattle.virtual_calls.specs.named_members.Named.{kept, counted, item_of, id_of, member_of, gather, found};
 
 use crate::named_members::counts::counts;
 use crate::named_members::kinds::Kind;
 use crate::named_members::overrides::is_hidden;
 use crate::named_members::rows::named_rows;
 use crate::slots::Slots;
-use il_base::NoMemory;
-use il_base::world_model::TypeExpr;
+use il_base::world_model::{AsmRec, TypeExpr};
+use il_base::{EventId, FieldId, Item, MethodId, NoMemory, PropId, Seq, Text};
 use rules::link_rules::RowAt;
+use rules::type_rules::FoundMember;
 use std::alloc::Global;
+use type_tables::member_search::counted::{Counted, rows_before, sum};
 use type_tables::tables::Tables;
 
 /// Whether a row counts, and none found before hides it.
@@ -67,23 +69,23 @@ fn kept(
     Ok(more)
 }
 
-/// Those with a name of a type or of a base that none found before hides.
+/// Those with a wanted name of a type or of a base that none found before hides.
 fn of_type(
     alloc: Global,
     tables: &Tables<'_>,
     slots: &Slots,
     types: &[TypeExpr],
     kind: Kind,
-    name: &[u8],
+    wanted: &Option<Text>,
     inherited: bool,
-    found: &[RowAt],
+    before: &[RowAt],
     ty: &TypeExpr,
 ) -> Result<Vec<RowAt>, NoMemory>
     requires tables { IsTables tables.now }
     requires slots { AreSlots tables.now.world.now.recs slots.now }
-    ensures { IfOk result (λ more. more.items ≡ kept tables.now.world.now.recs types.now kind inherited found.now (named_rows tables.now.world.now.recs name.now kind ty.now)) }
+    ensures { IfOk result (λ more. more.items ≡ kept tables.now.world.now.recs types.now kind inherited before.now (named_rows tables.now.world.now.recs wanted.now kind ty.now)) }
 {
-    let rows = named_rows(alloc, tables, kind, name, ty)?;
+    let rows = named_rows(alloc, tables, kind, wanted, ty)?;
     kept(
         alloc,
         tables,
@@ -91,61 +93,111 @@ fn of_type(
         types,
         kind,
         inherited,
-        found,
+        before,
         rows.as_slice(),
     )
 }
 
-/// Those found, and those of more bases.
+/// The table whose rows count for the ids of a kind.
+fn counted(kind: Kind) -> Counted
+    ensures { result ≡ counted kind }
+{
+    match kind {
+        Kind::Field => Counted::Fields,
+        Kind::Method => Counted::Methods,
+        Kind::Property => Counted::Properties,
+        Kind::Event => Counted::Events,
+    }
+}
+
+fn item_of(kind: Kind, n: u32) -> Item
+    ensures { result ≡ item_of kind n }
+{
+    match kind {
+        Kind::Field => Item::Field(FieldId(n)),
+        Kind::Method => Item::Method(MethodId(n)),
+        Kind::Property => Item::Prop(PropId(n)),
+        Kind::Event => Item::Event(EventId(n)),
+    }
+}
+
+/// The id of a member: the rows of all assemblies before it count first.
+fn id_of(all: &[AsmRec], kind: Kind, at: RowAt) -> Result<Item, NoMemory>
+    ensures { IfOk result (λ id. id ≡ id_of all.now kind at) }
+{
+    let before = rows_before(all, counted(kind), at.asm as usize)?;
+    let n = sum(before, at.row as usize)?;
+    Ok(item_of(kind, n))
+}
+
+/// Appends the rows of a type as members to others.
+fn add_members(
+    alloc: Global,
+    all: &[AsmRec],
+    kind: Kind,
+    ty: &TypeExpr,
+    rows: &[RowAt],
+    members: &mut Seq<FoundMember>,
+) -> Result<(), NoMemory>
+    ensures { OnOk result (members.new ≡ members.old ++ map (member_of all.now kind ty.now) rows.now) }
+{
+    for at in rows {
+        let item = id_of(all, kind, *at)?;
+        let owner = ty.copy(alloc)?;
+        members.push(FoundMember { item, owner })?;
+    }
+    Ok(())
+}
+
+/// The members of a type and its bases, one type after the other.
 fn gather(
     alloc: Global,
     tables: &Tables<'_>,
     slots: &Slots,
     types: &[TypeExpr],
     kind: Kind,
-    name: &[u8],
-    own: Vec<RowAt>,
-    bases: &[TypeExpr],
-) -> Result<Vec<RowAt>, NoMemory>
+    wanted: &Option<Text>,
+) -> Result<Seq<FoundMember>, NoMemory>
     requires tables { IsTables tables.now }
     requires slots { AreSlots tables.now.world.now.recs slots.now }
-    ensures { IfOk result (λ found. found.items ≡ gather tables.now.world.now.recs name.now types.now kind own.items bases.now) }
+    ensures { IfOk result (λ members. members ≡ gather tables.now.world.now.recs wanted.now types.now kind false [] types.now) }
 {
-    let mut found = own;
-    for base in bases {
+    let all = tables.world.recs.as_slice();
+    let mut before = Vec::new(alloc);
+    let mut members = Seq::new(alloc);
+    let mut inherited = false;
+    for ty in types {
         let more = of_type(
             alloc,
             tables,
             slots,
             types,
             kind,
-            name,
-            true,
-            found.as_slice(),
-            base,
+            wanted,
+            inherited,
+            before.as_slice(),
+            ty,
         )?;
-        found.extend_from_slice(more.as_slice())?;
+        add_members(alloc, all, kind, ty, more.as_slice(), &mut members)?;
+        before.extend_from_slice(more.as_slice())?;
+        inherited = true;
     }
-    Ok(found)
+    Ok(members)
 }
 
-/// The members of a kind that a type and its bases, the nearest first, have under a name.
-pub fn named(
+/// The members of a kind that a type and its bases, the nearest first, have, all or those of a name.
+pub fn found(
     alloc: Global,
     tables: &Tables<'_>,
     slots: &Slots,
     types: &[TypeExpr],
     kind: Kind,
-    name: &[u8],
-) -> Result<Vec<RowAt>, NoMemory>
+    wanted: &Option<Text>,
+) -> Result<Seq<FoundMember>, NoMemory>
     requires tables { IsTables tables.now }
     requires slots { AreSlots tables.now.world.now.recs slots.now }
-    ensures { IfOk result (λ found. found.items ≡ named tables.now.world.now.recs name.now types.now kind) }
+    ensures { IfOk result (λ members. members ≡ found tables.now.world.now.recs wanted.now types.now kind) }
 {
-    let [first, bases @ ..] = types else {
-        return Ok(Vec::new(alloc));
-    };
-    let own = of_type(alloc, tables, slots, types, kind, name, false, &[], first)?;
-    let found = gather(alloc, tables, slots, types, kind, name, own, bases)?;
-    Ok(found)
+    let members = gather(alloc, tables, slots, types, kind, wanted)?;
+    Ok(members)
 }

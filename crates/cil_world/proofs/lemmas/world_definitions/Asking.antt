@@ -6,15 +6,16 @@ use Rattle.il_base.specs.world_model.Worlds.{types_in, type_id}
 use Rattle.rules.specs.declared.link_rules.row_at.RowAt.{RowAt}
 use Rattle.rules.specs.link_rules.Members.{home_from, fields_in}
 use Rattle.rules.specs.type_rules.Initializers.{initializer}
+use Rattle.rules.specs.type_rules.Makers.{maker}
 use Rattle.rules.specs.type_rules.Labels.{encloser_at}
 use Rattle.rules.specs.type_rules.Dispatch.{method_id}
 use Rattle.il_base.specs.declared.cil_values.definition.FieldDef.{FieldDef}
 use Rattle.il_base.specs.declared.cil_values.definition.Head.{Head}
 use Rattle.rules.specs.view_rules.Methods.{field_at, field_query, head_at, head_query}
-use Rattle.rules.specs.view_rules.Answers.{starts_query, encloser_query}
+use Rattle.rules.specs.view_rules.Answers.{starts_query, maker_of, encloser_query}
 use Rattle.cil_world.specs.world_methods.Rows.{rows_from, in_place}
 use Rattle.cil_world.proofs.lemmas.world_methods.Placed.{placed}
-use Rattle.cil_world.specs.world_definitions.Types.{starts_at, around_at}
+use Rattle.cil_world.specs.world_definitions.Types.{starts_at, maker_at, around_at}
 
 mapped_then : {A B C : Type 0} (g : B → C) (h : A → Option B) (o : Option A) → option_and_then (λ x. option_map g (h x)) o ≡ option_map g (option_and_then h o)
 mapped_then g h None = refl
@@ -37,6 +38,10 @@ module _ (recs all : List AsmRec) (same : all ≡ recs) (n : ℕ) where
   pub starts_placed : (rows : List (Option ℕ)) → rows ≡ rows_from types_in (starts_at recs) 0 all → in_place rows n ≡ starts_query recs n
   starts_placed rows are =
       in_table types_in (starts_at recs) rows are ∙ mapped_then (λ (m : RowAt). (method_id recs m).0) (initializer recs) (home_from types_in 0 recs n)
+
+  pub makers_placed : (rows : List (Option ℕ)) → rows ≡ rows_from types_in (maker_at recs) 0 all → in_place rows n ≡ maker_of recs n
+  makers_placed rows are =
+      in_table types_in (maker_at recs) rows are ∙ mapped_then (λ (m : RowAt). (method_id recs m).0) (maker recs) (home_from types_in 0 recs n)
 
   pub enclosers_placed : (rows : List (Option ℕ)) → rows ≡ rows_from types_in (around_at recs) 0 all → in_place rows n ≡ encloser_query recs n
   unfolding encloser_query

@@ -1,16 +1,15 @@
 -- The search for a handler, frame by frame.
-use Rattle.std.proofs.Common.{◌≡◌, ℕ, suc, ◌+◌, ◌-◌, ◌<◌, ◌≤◌, true, false, List, [], ◌∷◌, ◌++◌, length, drop, reverse, Some, get_or, refl, sym, ap, ◌∙◌, arith, inl, inr, add-one}
+use Rattle.std.proofs.Common.{◌≡◌, ℕ, suc, ◌+◌, ◌-◌, ◌<◌, ◌≤◌, List, [], ◌∷◌, ◌++◌, length, drop, reverse, Some, get_or, refl, sym, ap, ◌∙◌, arith, inl, inr, add-one}
 use Rattle.std.specs.Prelude.{slice_get}
 use Rattle.std.proofs.Math.Seq.{drop-cons}
 use Rattle.std.proofs.lemmas.List.{get_or-reverse, length-reverse, drop_all}
 use Rattle.std.proofs.lemmas.Option.{slice_get_cases, slice_get_read, slice_get_within, get_or_from_slice_get}
-use Rattle.il_base.specs.declared.core_table.names.CoreName.TheVariants.{TypeInitializationException}
 use Rattle.il_base.specs.declared.cil_values.state.State.{State}
 use Rattle.il_base.specs.declared.cil_values.frame.Frame.{Frame}
 use Rattle.rules.specs.step_rules.Queries.{Queries}
 use Rattle.rules.specs.step_rules.Words.{object_at, stopped}
-use Rattle.rules.specs.step_rules.Objects.{threw, wrapping}
-use Rattle.rules.specs.step_rules.Raising.{nothing_found, bad_clause, by_clause, search, throw, unwind, unwinding_to, caught_or, found_in, passed_on, is_initializer}
+use Rattle.rules.specs.step_rules.Objects.{threw}
+use Rattle.rules.specs.step_rules.Raising.{nothing_found, bad_clause, by_clause, search, throw, unwind, unwinding_to, caught_or, found_in, passed_on, wrapper}
 use Rattle.machine_frames.specs.cil_raising.Searches.{search_on}
 
 -- a list of which the last element is looked up first
@@ -42,13 +41,13 @@ unfolding search_on
 search_ends q first a later s k frames past = ap (search_on q first a later s) (drop_all k frames past)
 
 -- a frame is looked into, and then those below it
-search_next : (q : Queries) (first a : ℕ) (later : List ℕ) (s : State) (f : Frame) (fs : List Frame) → search_on q first a later s (f ∷ fs) ≡ caught_or q first later s f (found_in q s a f) (passed_on q (is_initializer f.waits) a later s (λ b all s. search_on q first b all s fs))
+search_next : (q : Queries) (first a : ℕ) (later : List ℕ) (s : State) (f : Frame) (fs : List Frame) → search_on q first a later s (f ∷ fs) ≡ caught_or q first later s f (found_in q s a f) (passed_on q (wrapper f.waits) a later s (λ b all s. search_on q first b all s fs))
 unfolding search_on search
 search_next q first a later s f [] = refl
 search_next q first a later s f (g ∷ fs) = refl
 
 module _ (q : Queries) (first a : ℕ) (later : List ℕ) (s : State) (k : ℕ) (frames : List Frame) (f : Frame) (there : Some f ≡ slice_get frames k) where
-  looked : search_on q first a later s (drop k frames) ≡ caught_or q first later s f (found_in q s a f) (passed_on q (is_initializer f.waits) a later s (λ b all s. search_on q first b all s (drop (k + 1) frames)))
+  looked : search_on q first a later s (drop k frames) ≡ caught_or q first later s f (found_in q s a f) (passed_on q (wrapper f.waits) a later s (λ b all s. search_on q first b all s (drop (k + 1) frames)))
   looked = ap (search_on q first a later s) (drop_next frames k f there) ∙ search_next q first a later s f (drop (k + 1) frames)
 
   pub at_bad : bad_clause ≡ found_in q s a f → search_on q first a later s (drop k frames) ≡ stopped s
@@ -57,8 +56,5 @@ module _ (q : Queries) (first a : ℕ) (later : List ℕ) (s : State) (k : ℕ) 
   pub at_clause : (n : ℕ) → by_clause n ≡ found_in q s a f → search_on q first a later s (drop k frames) ≡ unwind q (unwinding_to q first later s f n) s
   at_clause n is = looked ∙ rw (← is) refl
 
-  pub at_initializer : nothing_found ≡ found_in q s a f → is_initializer f.waits ≡ true → search_on q first a later s (drop k frames) ≡ search_on q first (length s.heap) (later ++ length s.heap ∷ []) (record s { heap = s.heap ++ wrapping q TypeInitializationException a ∷ [] }) (drop (k + 1) frames)
-  at_initializer is wraps = looked ∙ rw (← is, wraps) refl
-
-  pub at_other : nothing_found ≡ found_in q s a f → is_initializer f.waits ≡ false → search_on q first a later s (drop k frames) ≡ search_on q first a later s (drop (k + 1) frames)
-  at_other is passes = looked ∙ rw (← is, passes) refl
+  pub at_none : nothing_found ≡ found_in q s a f → search_on q first a later s (drop k frames) ≡ passed_on q (wrapper f.waits) a later s (λ b all t. search_on q first b all t (drop (k + 1) frames))
+  at_none is = looked ∙ rw (← is) refl

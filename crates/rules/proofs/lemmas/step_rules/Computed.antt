@@ -48,6 +48,18 @@ pub makes : example.Makes
 unfolding opened
 makes = simp laying refl
 
+pub creates : example.Creates
+unfolding opened
+creates = simp laying refl
+
+pub creates_zero : example.CreatesZero
+unfolding opened
+creates_zero = simp laying refl
+
+pub creates_nothing : example.CreatesNothing
+unfolding opened
+creates_nothing = simp laying refl
+
 pub stores_field : example.StoresField
 unfolding opened
 stores_field = simp laying refl

@@ -33,10 +33,11 @@ use Rattle.rules.specs.step_rules.Words.{Here, stuck, given, taken, made, goes_w
 use Rattle.rules.specs.step_rules.Closing.{plain, Callee, closed, closed_use}
 use Rattle.rules.specs.step_rules.Stores.{is_value, zero_of}
 use Rattle.rules.specs.step_rules.Places.{boxed_in}
+use Rattle.rules.specs.step_rules.Objects.{new_instance}
 use Rattle.rules.specs.step_rules.Frames.{head_has}
 use Rattle.rules.specs.step_rules.Dispatch.{slots_of, path_into_box}
 use Rattle.rules.specs.step_rules.CoreWords.{Gives}
-use Rattle.rules.specs.step_rules.Calls.{invoke, waiting, with_args, begins, begun_for, may_call, calls, call, may_make, gives_made, constructs, constructs_value, new_instance, makes_with, makes, new_object, goes_under, other_prefix, prefix}
+use Rattle.rules.specs.step_rules.Calls.{invoke, waiting, with_args, begins, begun_for, may_call, calls, call, may_make, gives_made, constructs, constructs_value, makes_with, makes, new_object, goes_under, other_prefix, prefix}
 use Rattle.rules.specs.change_rules.Change.{Change}
 use Rattle.rules.specs.change_rules.Moves.{move_expr, move_value, move_values}
 use Rattle.rules.specs.change_rules.Answers.{move_here, move_operand, move_instruction, move_callee}

@@ -180,7 +180,7 @@ module _ (k : Change) (after before : Queries) (a : Agree k after before) where
   back_by_lock s t c ct v hv (waits.Starts e) hw = starts_ended e t ct
   back_by_lock s t c ct v hv (waits.Opens e m) hw = stuck_lock k before s
   back_by_lock s t c ct v hv (waits.Core m args) hw =
-      with_option_lock k after before a m args s (core_back after (move_state k before s) (move_state k before t)) (core_back before s t) c (core_back_lock s t ct) v hv
+      with_option_lock k after before a m args s (core_back after (move_state k before s) (move_state k before t)) (core_back before s t) hw c (core_back_lock s t ct) v hv
 
   -- ---- the entry method begins
 

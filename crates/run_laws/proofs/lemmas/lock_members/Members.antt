@@ -1,7 +1,7 @@
 -- All members of the core library, those that call a method of the program too.
 use Rattle.std.proofs.Common.{◌≡◌, ℕ, Bool, true, false, List, [], ◌∷◌, Option, Some, None, refl, sym, ap, subst, ◌∙◌}
-use Rattle.std.specs.Prelude.{IsTrue, nat_eq}
-use Rattle.std.specs.Option.{option_map}
+use Rattle.std.specs.Prelude.{IsTrue, nat_eq, unwrap_or}
+use Rattle.std.specs.Option.{option_map, option_and_then}
 use Rattle.std.specs.Cmp.{first_so}
 use Rattle.std.proofs.lemmas.Bool.{and_from}
 use Rattle.il_base.specs.declared.element.TheConstants.{BOOLEAN, OBJECT}
@@ -23,15 +23,16 @@ use Rattle.rules.specs.step_rules.Words.{stuck, given, object_at}
 use Rattle.rules.specs.step_rules.Closing.{Callee, callee_of}
 use Rattle.rules.specs.step_rules.Integers.{narrowed}
 use Rattle.rules.specs.step_rules.Stores.{all_fit}
+use Rattle.rules.specs.step_rules.Places.{boxed_in}
 use Rattle.rules.specs.step_rules.Objects.{type_of}
 use Rattle.rules.specs.step_rules.Dispatch.{dispatched, this_for}
 use Rattle.rules.specs.step_rules.CoreWords.{Gives, gives_value, gives_truth}
 use Rattle.rules.specs.step_rules.CoreConsole.{print_form}
 use Rattle.rules.specs.step_rules.CoreObjects.{is_same}
-use Rattle.rules.specs.step_rules.Core.{simple, with_result, with_option, resumed, run_found, found_args, object_slot, calls_slot, print_object, equal_by, equal_form, member, core_call}
+use Rattle.rules.specs.step_rules.Core.{simple, gives_first, gives_unboxed, without_result, with_result, with_option, resumed, run_found, found_args, object_slot, calls_slot, print_object, equal_by, equal_form, member, member_of, core_call}
 use Rattle.rules.specs.step_rules.CoreSearches.{searches}
 use Rattle.rules.specs.change_rules.Change.{Change}
-use Rattle.rules.specs.change_rules.Moves.{move_use, move_value, move_values}
+use Rattle.rules.specs.change_rules.Moves.{move_exprs, move_use, move_value, move_values}
 use Rattle.rules.specs.change_rules.Answers.{move_callee}
 use Rattle.rules.specs.change_rules.States.{move_obj, move_state}
 use Rattle.rules.specs.change_rules.Keeps.{Names, can_call, keeps_use, is_of_owner, calls_own, keeps_value, keeps_values}
@@ -47,13 +48,14 @@ use Rattle.run_laws.proofs.lemmas.lock_words.Cases.{kept_cases}
 use Rattle.run_laws.proofs.lemmas.lock_throwing.Objects.{type_of_moved, type_of_made, object_moved, object_kept}
 use Rattle.run_laws.proofs.lemmas.lock_places.Options.{front_moved_by, front_kept}
 use Rattle.run_laws.proofs.lemmas.lock_places.Closing.{use_method, use_from, KeptCallee, callee_moved, callee_kept}
+use Rattle.run_laws.proofs.lemmas.lock_places.Places.{boxed_at, boxed_kept}
 use Rattle.run_laws.proofs.lemmas.lock_places.Stores.{narrowed_kept, all_fit_moved, all_fit_kept}
 use Rattle.run_laws.proofs.lemmas.lock_frames.Entering.{enter_lock}
 use Rattle.run_laws.proofs.lemmas.lock_frames.Dispatching.{dispatched_lock, this_moved, this_kept}
 use Rattle.run_laws.proofs.lemmas.lock_members.Giving.{value_lock, truth_lock, checked_lock}
 use Rattle.run_laws.proofs.lemmas.lock_members.Objects.{head_kept, tail_kept, is_same_moved, halt_lock, idle_lock, type_name_lock, same_lock, number_text_lock, number_is_lock, int_equals_lock, int_compare_lock, exception_text_lock, exception_inner_lock, exception_parameter_lock, get_message_lock, get_inner_lock, array_length_lock, fill_array_lock}
 use Rattle.run_laws.proofs.lemmas.lock_members.Texts.{string_length_lock, string_unit_lock, string_index_lock, string_concat_lock, string_from_lock, string_part_lock, string_itself_lock, string_same_lock, string_other_lock, string_is_lock, string_is_empty_lock, string_compare_lock, int_parse_lock}
-use Rattle.run_laws.proofs.lemmas.lock_members.Types.{type_from_handle_lock, object_type_lock, type_text_lock, type_full_name_lock, type_namespace_lock, type_name_alone_lock, type_encloser_lock, type_other_lock, type_fits_lock, type_has_lock, type_is_value_lock, type_is_interface_lock, type_is_array_lock}
+use Rattle.run_laws.proofs.lemmas.lock_members.Types.{type_from_handle_lock, object_type_lock, type_text_lock, type_full_name_lock, type_namespace_lock, member_name_lock, member_owner_lock, type_other_lock, type_fits_lock, type_has_lock, type_is_value_lock, type_is_interface_lock, type_is_array_lock}
 use Rattle.run_laws.proofs.lemmas.lock_members.Console.{print_lock, line_end_lock, read_unit_lock, read_line_lock}
 
 module _ (k : Change) (after before : Queries) (a : Agree k after before) where
@@ -101,8 +103,8 @@ module _ (k : Change) (after before : Queries) (a : Agree k after before) where
   simple_lock core.TypeText args s f g h c gl = type_text_lock k after before a s c f g gl args h
   simple_lock core.TypeFullName args s f g h c gl = type_full_name_lock k after before a s c f g gl args h
   simple_lock core.TypeNamespace args s f g h c gl = type_namespace_lock k after before a s c f g gl args h
-  simple_lock core.MemberName args s f g h c gl = type_name_alone_lock k after before a s c f g gl args h
-  simple_lock core.MemberOwner args s f g h c gl = type_encloser_lock k after before a s c f g gl args h
+  simple_lock core.MemberName args s f g h c gl = member_name_lock k after before a s c f g gl args h
+  simple_lock core.MemberOwner args s f g h c gl = member_owner_lock k after before a s c f g gl args h
   simple_lock core.TypeSame args s f g h c gl = same_lock k after before a s c f g gl args h
   simple_lock core.TypeOther args s f g h c gl = type_other_lock k after before a s c f g gl args h
   simple_lock core.TypeIs args s f g h c gl = same_lock k after before a s c f g gl args h
@@ -112,6 +114,14 @@ module _ (k : Change) (after before : Queries) (a : Agree k after before) where
   simple_lock core.TypeIsInterface args s f g h c gl = type_is_interface_lock k after before a s c f g gl args h
   simple_lock core.TypeIsArray args s f g h c gl = type_is_array_lock k after before a s c f g gl args h
   simple_lock (core.TypeFind throws) args s f g h c gl = stuck_lock k before s
+  simple_lock (core.MemberFind w) args s f g h c gl = stuck_lock k before s
+  simple_lock (core.MemberList w) args s f g h c gl = stuck_lock k before s
+  simple_lock core.MethodIsStatic args s f g h c gl = stuck_lock k before s
+  simple_lock (core.MemberType w) args s f g h c gl = stuck_lock k before s
+  simple_lock core.MemberSame args s f g h c gl = stuck_lock k before s
+  simple_lock core.MemberOther args s f g h c gl = stuck_lock k before s
+  simple_lock core.Create args s f g h c gl = stuck_lock k before s
+  simple_lock core.CreateOf args s f g h c gl = stuck_lock k before s
   simple_lock core.AreEqual args s f g h c gl = stuck_lock k before s
 
   -- ---- what a member does with a result
@@ -123,13 +133,47 @@ module _ (k : Change) (after before : Queries) (a : Agree k after before) where
       given_moved k before (move_value k.rho) (narrowed BOOLEAN v) _ s (λ b. gives_value b (move_state k before s) f) (λ b. gives_value b s g) (narrowed_moved k.rho BOOLEAN v) (λ b e. value_lock k after before a f g gl b s c (narrowed_kept k BOOLEAN v b e))
   with_result_lock _ args v s f g h c gl = stuck_lock k before s
 
-  pub with_option_lock : (m : CoreCall) (args : List Value) (s : State) (f g : Gives) → Covered k.keep before s → GivesLock k before f g → (o : Option Value) → IsTrue (keeps_result k.keep o)
-      → Lock k before (with_option m after (move_values k.rho args) (move_state k before s) f (option_map (move_value k.rho) o)) (with_option m before args s g o)
-  with_option_lock m args s f g c gl None h = stuck_lock k before s
-  with_option_lock m args s f g c gl (Some v) h = with_result_lock m args v s f g h c gl
+  first_lock : (args : List Value) (s : State) (f g : Gives) → IsTrue (keeps_values k.keep args) → Covered k.keep before s → GivesLock k before f g
+      → Lock k before (gives_first (move_values k.rho args) (move_state k before s) f) (gives_first args s g)
+  first_lock [] s f g ha c gl = stuck_lock k before s
+  first_lock (v ∷ vs) s f g ha c gl = value_lock k after before a f g gl v s c (head_kept k after before a v vs ha)
 
-  resumed_lock : (m : CoreCall) (args : List Value) (f g : Gives) → GivesLock k before f g → GivesLock k before (resumed m after (move_values k.rho args) f) (resumed m before args g)
-  resumed_lock m args f g gl s v bytes c h = with_option_lock m args s f g c gl v h
+  unboxed_by : (s : State) (f g : Gives) → Covered k.keep before s → GivesLock k before f g → (n : ℕ) (o : Option Value) → ((w : Value) → o ≡ Some w → IsTrue (keeps_value k.keep w))
+      → Lock k before (gives_value (unwrap_or (option_map (move_value k.rho) o) (value.Object n)) (move_state k before s) f) (gives_value (unwrap_or o (value.Object n)) s g)
+  unboxed_by s f g c gl n None h =
+      subst (λ (v : Value). Lock k before (gives_value v (move_state k before s) f) (gives_value (value.Object n) s g)) (move_object k.rho n)
+      (value_lock k after before a f g gl (value.Object n) s c (keeps_object k.keep n))
+  unboxed_by s f g c gl n (Some w) h = value_lock k after before a f g gl w s c (h w refl)
+
+  unboxed_at : (s : State) (f g : Gives) → Covered k.keep before s → GivesLock k before f g → (n : ℕ)
+      → Lock k before (gives_value (unwrap_or (option_and_then boxed_in (object_at (move_state k before s) n)) (value.Object n)) (move_state k before s) f) (gives_value (unwrap_or (option_and_then boxed_in (object_at s n)) (value.Object n)) s g)
+  unboxed_at s f g c gl n =
+      subst (λ (o : Option Value). Lock k before (gives_value (unwrap_or o (value.Object n)) (move_state k before s) f) (gives_value (unwrap_or (option_and_then boxed_in (object_at s n)) (value.Object n)) s g)) (sym (boxed_at k after before a s n))
+      (unboxed_by s f g c gl n (option_and_then boxed_in (object_at s n)) (λ w is. boxed_kept k after before a s n w c is))
+
+  unboxed_lock : (args : List Value) (s : State) (f g : Gives) → IsTrue (keeps_values k.keep args) → Covered k.keep before s → GivesLock k before f g
+      → Lock k before (gives_unboxed (move_values k.rho args) (move_state k before s) f) (gives_unboxed args s g)
+  unfolding roll-Value denote.Hole.Carrier.roll out-Value denote.Hole.Carrier.out
+  unboxed_lock [] s f g ha c gl = stuck_lock k before s
+  unboxed_lock (v ∷ vs) s f g ha c gl =
+      let out : Lock k before (stuck (move_state k before s)) (stuck s) = stuck_lock k before s in
+      kept_cases k (λ w v. Lock k before (gives_unboxed (w ∷ move_values k.rho vs) (move_state k before s) f) (gives_unboxed (v ∷ vs) s g))
+      out (λ n. out) (λ n. out) (λ n. out) (λ n. unboxed_at s f g c gl n) (λ p h. out) (λ d cells h q. out) (λ d h. out) (λ d h. out) v (head_kept k after before a v vs ha)
+
+  -- the method that a member called returned nothing
+  without_result_lock : (m : CoreCall) (args : List Value) (s : State) (f g : Gives) → IsTrue (keeps_values k.keep args) → Covered k.keep before s → GivesLock k before f g
+      → Lock k before (without_result m after (move_values k.rho args) (move_state k before s) f) (without_result m before args s g)
+  without_result_lock core.Create args s f g ha c gl = first_lock args s f g ha c gl
+  without_result_lock core.CreateOf args s f g ha c gl = unboxed_lock args s f g ha c gl
+  without_result_lock _ args s f g ha c gl = stuck_lock k before s
+
+  pub with_option_lock : (m : CoreCall) (args : List Value) (s : State) (f g : Gives) → IsTrue (keeps_values k.keep args) → Covered k.keep before s → GivesLock k before f g → (o : Option Value) → IsTrue (keeps_result k.keep o)
+      → Lock k before (with_option m after (move_values k.rho args) (move_state k before s) f (option_map (move_value k.rho) o)) (with_option m before args s g o)
+  with_option_lock m args s f g ha c gl None h = without_result_lock m args s f g ha c gl
+  with_option_lock m args s f g ha c gl (Some v) h = with_result_lock m args v s f g h c gl
+
+  resumed_lock : (m : CoreCall) (args : List Value) (f g : Gives) → IsTrue (keeps_values k.keep args) → GivesLock k before f g → GivesLock k before (resumed m after (move_values k.rho args) f) (resumed m before args g)
+  resumed_lock m args f g ha gl s v bytes c h = with_option_lock m args s f g ha c gl v h
 
   -- ---- a virtual call of a slot of Object
 
@@ -138,7 +182,7 @@ module _ (k : Change) (after before : Queries) (a : Agree k after before) where
       → Lock k before (run_found after m (move_values k.rho args) (move_callee k.rho d) (move_values k.rho vs) (move_state k before s) f o) (run_found before m args d vs s g o)
   run_lock m args d vs s f g ha hd hv c gl (Some found) =
       checked_lock k after before a s c d hd vs (λ ws. simple found after ws (move_state k before s) (resumed m after (move_values k.rho args) f)) (λ ws. simple found before ws s (resumed m before args g)) hv
-      (λ ws hw. simple_lock found ws s (resumed m after (move_values k.rho args) f) (resumed m before args g) hw c (resumed_lock m args f g gl))
+      (λ ws hw. simple_lock found ws s (resumed m after (move_values k.rho args) f) (resumed m before args g) hw c (resumed_lock m args f g ha gl))
   run_lock m args d vs s f g ha hd hv c gl None = enter_lock k after before a d vs (waits.Core m args) s hd hv ha c
 
   found_args_moved : (s : State) (d : Callee) (this : Value) (vs : List Value) → KeptCallee k.keep before d
@@ -260,12 +304,25 @@ module _ (k : Change) (after before : Queries) (a : Agree k after before) where
       → Lock k before (member m after (move_values k.rho args) (move_state k before s) f) (member m before args s g)
   unfolding member searches
   member_lock (core.TypeFind throws) plain args s f g h c gl = absurd (let f : true ≡ false = plain in cc)
+  member_lock core.Create plain args s f g h c gl = absurd (let f : true ≡ false = plain in cc)
+  member_lock (core.MemberFind w) plain args s f g h c gl = absurd (let f : true ≡ false = plain in cc)
+  member_lock (core.MemberList w) plain args s f g h c gl = absurd (let f : true ≡ false = plain in cc)
+  member_lock core.MethodIsStatic plain args s f g h c gl = absurd (let f : true ≡ false = plain in cc)
+  member_lock (core.MemberType w) plain args s f g h c gl = absurd (let f : true ≡ false = plain in cc)
+  member_lock core.MemberSame plain args s f g h c gl = absurd (let f : true ≡ false = plain in cc)
+  member_lock core.MemberOther plain args s f g h c gl = absurd (let f : true ≡ false = plain in cc)
   member_lock (core.Prints line printed.OfObject) plain args s f g h c gl = print_object_lock line args s f g h c gl
   member_lock core.AreEqual plain args s f g h c gl = equal_form_lock args s f g h c gl
   member_lock m plain args s f g h c gl = simple_lock m args s f g h c gl
+
+  member_of_lock : (targs : List TypeExpr) (m : CoreCall) → searches m ≡ false → (args : List Value) (s : State) (f g : Gives) → IsTrue (keeps_values k.keep args) → Covered k.keep before s → GivesLock k before f g
+      → Lock k before (member_of (move_exprs k.rho targs) m after (move_values k.rho args) (move_state k before s) f) (member_of targs m before args s g)
+  unfolding member_of searches
+  member_of_lock targs core.CreateOf plain args s f g h c gl = absurd (let f : true ≡ false = plain in cc)
+  member_of_lock targs m plain args s f g h c gl = member_lock m plain args s f g h c gl
 
   pub core_call_lock : (d : Callee) (m : CoreCall) → searches m ≡ false → (vs : List Value) (s : State) (f g : Gives) → KeptCallee k.keep before d → IsTrue (keeps_values k.keep vs) → Covered k.keep before s → GivesLock k before f g
       → Lock k before (core_call after (move_callee k.rho d) m (move_values k.rho vs) (move_state k before s) f) (core_call before d m vs s g)
   unfolding core_call
   core_call_lock d m plain vs s f g hd hv c gl =
-      checked_lock k after before a s c d hd vs (λ args. member m after args (move_state k before s) f) (λ args. member m before args s g) hv (λ ws hw. member_lock m plain ws s f g hw c gl)
+      checked_lock k after before a s c d hd vs (λ args. member_of (move_exprs k.rho d.called.args) m after args (move_state k before s) f) (λ args. member_of d.called.args m before args s g) hv (λ ws hw. member_of_lock d.called.args m plain ws s f g hw c gl)

@@ -1,5 +1,5 @@
--- Members that look at types alone: in both worlds the same object stands for a type.
-use Rattle.std.proofs.Common.{◌≡◌, ℕ, Bool, ◌&&◌, not, List, [], ◌∷◌, ◌++◌, Option, Some, None, refl, sym, ap, subst, ◌∙◌}
+-- Members that look at types alone: in both worlds the same object stands for a type. No object of a member is there.
+use Rattle.std.proofs.Common.{◌≡◌, ℕ, Bool, true, false, ◌&&◌, not, List, [], ◌∷◌, ◌++◌, Option, Some, None, refl, sym, ap, subst, ◌∙◌}
 use Rattle.std.specs.Prelude.{IsTrue, find}
 use Rattle.std.specs.Option.{option_map, option_and_then}
 use Rattle.il_base.specs.declared.type_flags.TheConstants.{INTERFACE}
@@ -15,6 +15,7 @@ use Rattle.il_base.specs.declared.cil_values.value.Value.TheVariants as value
 use Rattle.il_base.specs.declared.cil_values.object.Obj.{Obj}
 use Rattle.il_base.specs.declared.cil_values.object.Obj.TheVariants as object
 use Rattle.il_base.specs.declared.cil_values.state.State.{State}
+use Rattle.rules.specs.declared.type_rules.found_member.FoundMember.{FoundMember}
 use Rattle.rules.specs.step_rules.Queries.{Queries}
 use Rattle.rules.specs.step_rules.Next.{Next}
 use Rattle.rules.specs.step_rules.Words.{stuck, given, object_at}
@@ -22,7 +23,8 @@ use Rattle.rules.specs.step_rules.Objects.{type_of, core_type, units_of_bytes}
 use Rattle.rules.specs.step_rules.Frames.{definition_of, head_of, head_has}
 use Rattle.rules.specs.step_rules.CoreWords.{Gives, gives_value, gives_truth, gives_text}
 use Rattle.rules.specs.step_rules.CoreObjects.{is_same}
-use Rattle.rules.specs.step_rules.CoreTypes.{typed_in, typed_at, typed_by, is_type, type_object, with_type, typed, gives_type, handle_type, type_from_handle_form, object_type, object_type_form, gives_encloser, type_encloser_form, type_text_form, constructed_layer, is_constructed, full_name, type_full_name_form, gives_space, type_namespace_form, type_name_alone_form, type_other_form, fits_type, type_fits_form, is_object_of, type_has_form, is_value_type, type_is_value_form, type_is_interface_form, is_array_in, type_is_array_form}
+use Rattle.rules.specs.step_rules.CoreTypes.{typed_in, typed_at, typed_by, is_type, type_object, with_type, typed, gives_type, handle_type, type_from_handle_form, object_type, object_type_form, gives_encloser, type_text_form, constructed_layer, is_constructed, full_name, type_full_name_form, gives_space, type_namespace_form, type_other_form, fits_type, type_fits_form, is_object_of, type_has_form, is_value_type, type_is_value_form, type_is_interface_form, is_array_in, type_is_array_form}
+use Rattle.rules.specs.step_rules.CoreMembers.{member_in, member_by, name_of, member_name_form, owner_by, member_owner_form}
 use Rattle.rules.specs.change_rules.Change.{Rho, Change}
 use Rattle.rules.specs.change_rules.Moves.{move_expr, move_value, move_values}
 use Rattle.rules.specs.change_rules.States.{move_obj, move_state}
@@ -142,6 +144,51 @@ module _ (k : Change) (after before : Queries) (a : Agree k after before) where
   typed_shown s c (value.FieldHandle f) e is = cc
   typed_shown s c v e is = cc
 
+  -- ---- no value names the object of a member
+
+  none_in : (o : Obj) → IsTrue (keeps_obj k.keep before o) → member_in o ≡ None
+  none_in (object.Instance of cells) h = refl
+  none_in (object.Boxed of v) h = refl
+  none_in (object.Array of cells) h = refl
+  none_in (object.Str units) h = refl
+  none_in (object.TypeOf e) h = refl
+  none_in (object.Member m e) h = absurd (let f : false ≡ true = h in cc)
+
+  none_moved : (o : Obj) → IsTrue (keeps_obj k.keep before o) → member_in (move_obj k before o) ≡ None
+  none_moved (object.Instance of cells) h = refl
+  none_moved (object.Boxed of v) h = refl
+  none_moved (object.Array of cells) h = refl
+  none_moved (object.Str units) h = refl
+  none_moved (object.TypeOf e) h = refl
+  none_moved (object.Member m e) h = absurd (let f : false ≡ true = h in cc)
+
+  none_by : (o : Option Obj) → ((x : Obj) → o ≡ Some x → IsTrue (keeps_obj k.keep before x)) → option_and_then member_in o ≡ None
+  none_by None h = refl
+  none_by (Some x) h = none_in x (h x refl)
+
+  none_moved_by : (o : Option Obj) → ((x : Obj) → o ≡ Some x → IsTrue (keeps_obj k.keep before x)) → option_and_then member_in (option_map (move_obj k before) o) ≡ None
+  none_moved_by None h = refl
+  none_moved_by (Some x) h = none_moved x (h x refl)
+
+  none_named : (s : State) → Covered k.keep before s → (v : Value) → member_by s v ≡ None
+  unfolding member_by
+  none_named s c value.Null = refl
+  none_named s c (value.I4 n) = refl
+  none_named s c (value.I8 n) = refl
+  none_named s c (value.Native n) = refl
+  none_named s c (value.Object n) = none_by (object_at s n) (λ x is. object_kept k after before a s c n x is)
+  none_named s c (value.Pointer p) = refl
+  none_named s c (value.Handle d) = refl
+  none_named s c (value.FieldHandle f) = refl
+  none_named s c v = refl
+
+  none_there : (s : State) → Covered k.keep before s → (v : Value) → member_by (move_state k before s) (move_value k.rho v) ≡ None
+  unfolding member_by roll-Value denote.Hole.Carrier.roll out-Value denote.Hole.Carrier.out
+  none_there s c =
+      moved_cases k.rho (λ w v. member_by (move_state k before s) w ≡ None) refl (λ n. refl) (λ n. refl) (λ n. refl)
+      (λ n. ap (option_and_then member_in) (object_moved k after before a s n) ∙ none_moved_by (object_at s n) (λ x is. object_kept k after before a s c n x is))
+      (λ p. refl) (λ e cells. refl) (λ e. refl) (λ f. refl)
+
   -- ---- the object of a type
 
   is_type_moved : (e : TypeExpr) (o : Option TypeExpr) → is_type (move_expr k.rho e) (option_map (move_expr k.rho) o) ≡ is_type e o
@@ -251,11 +298,21 @@ module _ (k : Change) (after before : Queries) (a : Agree k after before) where
         subst (λ (n : Option ℕ). Lock k before (gives_encloser (move_state k before s) f n) (gives_encloser s g o)) (sym (around_moved e h))
         (around_lock o (λ u is. let t : Through before.encloser (definition_of e) u = through_is _ _ _ is in a.keeps_encloser t.x u (definition_shown k.keep e t.x h t.there) t.is))
 
-    pub type_encloser_lock : (args : List Value) → IsTrue (keeps_values k.keep args) → Lock k before (type_encloser_form after (move_values k.rho args) (move_state k before s) f) (type_encloser_form before args s g)
-    unfolding type_encloser_form
-    type_encloser_lock (v ∷ []) h =
-        on_type_lock v (λ e. gives_encloser (move_state k before s) f (option_and_then after.encloser (definition_of e))) (λ e. gives_encloser s g (option_and_then before.encloser (definition_of e))) encloser_lock
-    type_encloser_lock _ h = out
+    -- what takes a type or a member takes a type
+    owner_path : (q : Queries) (t : State) (h : Gives) (o : Option TypeExpr) (m : Option FoundMember) → m ≡ None
+        → owner_by q t h o m ≡ given o t (λ e. gives_encloser t h (option_and_then q.encloser (definition_of e)))
+    owner_path q t h None m is = rw is refl
+    owner_path q t h (Some e) m is = refl
+
+    pub member_owner_lock : (args : List Value) → IsTrue (keeps_values k.keep args) → Lock k before (member_owner_form after (move_values k.rho args) (move_state k before s) f) (member_owner_form before args s g)
+    unfolding member_owner_form
+    member_owner_lock (v ∷ []) h =
+        subst (λ (x : Next). Lock k before x (owner_by before s g (typed_by s v) (member_by s v)))
+        (sym (owner_path after (move_state k before s) f (typed_by (move_state k before s) (move_value k.rho v)) (member_by (move_state k before s) (move_value k.rho v)) (none_there s c v)))
+        (subst (λ (y : Next). Lock k before (given (typed_by (move_state k before s) (move_value k.rho v)) (move_state k before s) (λ e. gives_encloser (move_state k before s) f (option_and_then after.encloser (definition_of e)))) y)
+        (sym (owner_path before s g (typed_by s v) (member_by s v) (none_named s c v)))
+        (on_type_lock v (λ e. gives_encloser (move_state k before s) f (option_and_then after.encloser (definition_of e))) (λ e. gives_encloser s g (option_and_then before.encloser (definition_of e))) encloser_lock))
+    member_owner_lock _ h = out
 
     -- ---- texts
 
@@ -287,12 +344,21 @@ module _ (k : Change) (after before : Queries) (a : Agree k after before) where
     type_namespace_lock (v ∷ []) h = on_type_lock v (λ e. gives_space (move_state k before s) f (after.space e)) (λ e. gives_space s g (before.space e)) space_lock
     type_namespace_lock _ h = out
 
-    pub type_name_alone_lock : (args : List Value) → IsTrue (keeps_values k.keep args) → Lock k before (type_name_alone_form after (move_values k.rho args) (move_state k before s) f) (type_name_alone_form before args s g)
-    unfolding type_name_alone_form
-    type_name_alone_lock (v ∷ []) h =
-        on_type_lock v (λ e. gives_text (units_of_bytes (after.label e)) (move_state k before s) f) (λ e. gives_text (units_of_bytes (before.label e)) s g)
-        (λ e shown. bytes_lock (after.label (move_expr k.rho e)) (before.label e) (a.label e shown))
-    type_name_alone_lock _ h = out
+    name_path : (q : Queries) (t : State) (h : Gives) (o : Option TypeExpr) (m : Option FoundMember) → m ≡ None
+        → given (name_of q o m) t (λ bytes. gives_text (units_of_bytes bytes) t h) ≡ given o t (λ e. gives_text (units_of_bytes (q.label e)) t h)
+    name_path q t h None m is = rw is refl
+    name_path q t h (Some e) m is = refl
+
+    pub member_name_lock : (args : List Value) → IsTrue (keeps_values k.keep args) → Lock k before (member_name_form after (move_values k.rho args) (move_state k before s) f) (member_name_form before args s g)
+    unfolding member_name_form
+    member_name_lock (v ∷ []) h =
+        subst (λ (x : Next). Lock k before x (given (name_of before (typed_by s v) (member_by s v)) s (λ bytes. gives_text (units_of_bytes bytes) s g)))
+        (sym (name_path after (move_state k before s) f (typed_by (move_state k before s) (move_value k.rho v)) (member_by (move_state k before s) (move_value k.rho v)) (none_there s c v)))
+        (subst (λ (y : Next). Lock k before (given (typed_by (move_state k before s) (move_value k.rho v)) (move_state k before s) (λ e. gives_text (units_of_bytes (after.label e)) (move_state k before s) f)) y)
+        (sym (name_path before s g (typed_by s v) (member_by s v) (none_named s c v)))
+        (on_type_lock v (λ e. gives_text (units_of_bytes (after.label e)) (move_state k before s) f) (λ e. gives_text (units_of_bytes (before.label e)) s g)
+        (λ e shown. bytes_lock (after.label (move_expr k.rho e)) (before.label e) (a.label e shown))))
+    member_name_lock _ h = out
 
     -- ---- tests
 

@@ -27,14 +27,16 @@ use Rattle.il_base.specs.declared.cil_values.frame.Reason.{Reason}
 use Rattle.il_base.specs.declared.cil_values.frame.Reason.TheVariants.{Caught as caught, Unwinding as unwinding}
 use Rattle.il_base.specs.declared.cil_values.frame.Unwinding.{Unwinding}
 use Rattle.il_base.specs.declared.cil_values.frame.Waits.{Waits}
-use Rattle.il_base.specs.declared.cil_values.frame.Waits.TheVariants.{Starts as starts, Opens as opens}
+use Rattle.il_base.specs.declared.cil_values.frame.Waits.TheVariants.{Starts as starts, Opens as opens, Core as calls}
+use Rattle.il_base.specs.declared.cil_values.core_call.CoreCall.{CoreCall}
+use Rattle.il_base.specs.declared.cil_values.core_call.CoreCall.TheVariants as core
 use Rattle.il_base.specs.declared.cil_values.frame.Prefix.TheVariants.{None as none}
 use Rattle.rules.specs.step_rules.Queries.{Queries}
 use Rattle.rules.specs.step_rules.Next.{Next, went}
 use Rattle.rules.specs.step_rules.Words.{Here, good, in_try, here_of, made}
 use Rattle.rules.specs.step_rules.Closing.{closed_slot}
 use Rattle.rules.specs.step_rules.Objects.{wrapping, new_exception}
-use Rattle.rules.specs.step_rules.Raising.{is_catch, handler_begins, change_init, set_init, failing, further, outside, outer, next_handler, unwind_here, unwind_to, unwind, Found, nothing_found, bad_clause, by_clause, catches_by, caught_type, clause_for, found_here, found_in, is_initializer, passed_on, unwinding_to, caught_or, search, throw, raise}
+use Rattle.rules.specs.step_rules.Raising.{is_catch, handler_begins, change_init, set_init, failing, wrapper_of, wrapper, further_by, further, outside, outer, next_handler, unwind_here, unwind_to, unwind, Found, nothing_found, bad_clause, by_clause, catches_by, caught_type, clause_for, found_here, found_in, passed_on, unwinding_to, caught_or, search, throw, raise}
 use Rattle.rules.specs.change_rules.Change.{Change}
 use Rattle.rules.specs.change_rules.Moves.{move_expr, move_values}
 use Rattle.rules.specs.change_rules.Answers.{move_clause, move_code, move_here}
@@ -53,9 +55,23 @@ use Rattle.run_laws.proofs.lemmas.lock_throwing.Here.{KeptHere, here_moved, here
 
 -- ---- initializers
 
-wrapped_asked : IsTrue (is_asked name.TypeInitializationException)
+-- the names of exceptions that wrap others are asked for
+abbrev IsWrapper : Option CoreName → Type 0
+IsWrapper None = Unit {0}
+IsWrapper (Some n) = IsTrue (is_asked n)
+
+member_wrapper : (c : CoreCall) → IsWrapper (wrapper_of c)
 unfolding is_asked
-wrapped_asked = refl
+member_wrapper core.Create = refl
+member_wrapper core.CreateOf = refl
+member_wrapper _ = tt
+
+wrapper_asked : (w : Waits) → IsWrapper (wrapper w)
+unfolding is_asked wrapper
+wrapper_asked (starts e) = refl
+wrapper_asked (opens e m) = refl
+wrapper_asked (calls c args) = member_wrapper c
+wrapper_asked _ = tt
 
 pub all_changed : {A : Type 0} (p : A → Bool) (g : A → A) → ((x : A) → IsTrue (p x) → IsTrue (p (g x))) → (xs : List A) → IsTrue (list_all p xs) → IsTrue (list_all p (map g xs))
 all_changed p g f [] h = refl
@@ -92,15 +108,15 @@ module _ (k : Change) where
   failing_kept (opens e u) later inits h = h
   failing_kept _ later inits h = h
 
-  further_moved : (w : Waits) (u : Unwinding) → further (move_waits k.rho w) u ≡ further w u
-  further_moved (starts e) u = refl
-  further_moved (opens e m) u = refl
-  further_moved _ u = refl
+  wrapper_moved : (w : Waits) → wrapper (move_waits k.rho w) ≡ wrapper w
+  unfolding wrapper
+  wrapper_moved (starts e) = refl
+  wrapper_moved (opens e m) = refl
+  wrapper_moved (calls c args) = refl
+  wrapper_moved _ = refl
 
-  is_initializer_moved : (w : Waits) → is_initializer (move_waits k.rho w) ≡ is_initializer w
-  is_initializer_moved (starts e) = refl
-  is_initializer_moved (opens e m) = refl
-  is_initializer_moved _ = refl
+  further_moved : (w : Waits) (u : Unwinding) → further (move_waits k.rho w) u ≡ further w u
+  further_moved w u = ap (λ (o : Option CoreName). further_by o u) (wrapper_moved w)
 
 module _ (k : Change) (after before : Queries) (a : Agree k after before) where
   -- ---- a handler begins
@@ -199,14 +215,14 @@ module _ (k : Change) (after before : Queries) (a : Agree k after before) where
   found_moved s c x f h =
       ap (found_here after (move_state k before s) x (move_frame k.rho f)) (here_moved k after before a f h) ∙ found_by s c x f h (here_of before f) refl
 
-  passed_lock : (b : Bool) (x : ℕ) (later : List ℕ) (s : State) → Covered k.keep before s → (f g : ℕ → List ℕ → State → Next)
+  passed_lock : (o : Option CoreName) → IsWrapper o → (x : ℕ) (later : List ℕ) (s : State) → Covered k.keep before s → (f g : ℕ → List ℕ → State → Next)
       → ((y : ℕ) (all : List ℕ) (t : State) → Covered k.keep before t → Lock k before (f y all (move_state k before t)) (g y all t))
-      → Lock k before (passed_on after b x later (move_state k before s) f) (passed_on before b x later s g)
-  passed_lock true x later s c f g h =
-      subst (λ (o : Obj). Lock k before (made o (move_state k before s) (λ y t. f y (later ++ y ∷ []) t)) (made (wrapping before name.TypeInitializationException x) s (λ y t. g y (later ++ y ∷ []) t))) (sym (wrapping_moved k after before a name.TypeInitializationException wrapped_asked x))
-      (made_lock k before (wrapping before name.TypeInitializationException x) s (λ y t. f y (later ++ y ∷ []) t) (λ y t. g y (later ++ y ∷ []) t) c (wrapping_kept k after before a name.TypeInitializationException wrapped_asked x)
+      → Lock k before (passed_on after o x later (move_state k before s) f) (passed_on before o x later s g)
+  passed_lock None asked x later s c f g h = h x later s c
+  passed_lock (Some n) asked x later s c f g h =
+      subst (λ (o : Obj). Lock k before (made o (move_state k before s) (λ y t. f y (later ++ y ∷ []) t)) (made (wrapping before n x) s (λ y t. g y (later ++ y ∷ []) t))) (sym (wrapping_moved k after before a n asked x))
+      (made_lock k before (wrapping before n x) s (λ y t. f y (later ++ y ∷ []) t) (λ y t. g y (later ++ y ∷ []) t) c (wrapping_kept k after before a n asked x)
       (λ y t ct. h y (later ++ y ∷ []) t ct))
-  passed_lock false x later s c f g h = h x later s c
 
   unwinding_moved : (first : ℕ) (later : List ℕ) (s : State) (f : Frame) (n : ℕ) → IsTrue (keeps_use k.keep s.top.method)
       → unwinding_to after first later (move_state k before s) (move_frame k.rho f) n ≡ unwinding_to before first later s f n
@@ -230,10 +246,10 @@ module _ (k : Change) (after before : Queries) (a : Agree k after before) where
 
   goes_out_lock : (f : Frame) (x : ℕ) (later : List ℕ) (s : State) → Covered k.keep before s → (g h : ℕ → List ℕ → State → Next)
       → ((y : ℕ) (all : List ℕ) (t : State) → Covered k.keep before t → Lock k before (g y all (move_state k before t)) (h y all t))
-      → Lock k before (passed_on after (is_initializer (move_frame k.rho f).waits) x later (move_state k before s) g) (passed_on before (is_initializer f.waits) x later s h)
+      → Lock k before (passed_on after (wrapper (move_frame k.rho f).waits) x later (move_state k before s) g) (passed_on before (wrapper f.waits) x later s h)
   goes_out_lock f x later s c g h l =
-      subst (λ (b : Bool). Lock k before (passed_on after b x later (move_state k before s) g) (passed_on before (is_initializer f.waits) x later s h)) (sym (is_initializer_moved k f.waits))
-      (passed_lock (is_initializer f.waits) x later s c g h l)
+      subst (λ (o : Option CoreName). Lock k before (passed_on after o x later (move_state k before s) g) (passed_on before (wrapper f.waits) x later s h)) (sym (wrapper_moved k f.waits))
+      (passed_lock (wrapper f.waits) (wrapper_asked f.waits) x later s c g h l)
 
   search_lock : (first x : ℕ) (later : List ℕ) (s : State) (f : Frame) (fs : List Frame) → Covered k.keep before s → IsTrue (keeps_use k.keep f.method) → CoveredFrames k.keep fs
       → Lock k before (search after first x later (move_state k before s) (move_frame k.rho f) (map (move_frame k.rho) fs)) (search before first x later s f fs)

@@ -1,4 +1,4 @@
--- The members of a type that have a name: those of its definition in its assembly.
+-- The members of a type that have a wanted name: those of its definition in its assembly.
 use Rattle.std.proofs.Common.{◌≡◌, ℕ, List, [], ◌∷◌, map, Bool, true, false, cond, Option, Some, None, refl, ap, ◌∙◌, append-nil}
 use Rattle.std.specs.Prelude.{slice_get, ◌||◌}
 use Rattle.std.specs.List.{filter, flat_map}
@@ -16,12 +16,12 @@ one : (b : Bool) → (b || false) ≡ b
 one true = refl
 one false = refl
 
--- whether one of an assembly has the name
-named_there : (recs : List AsmRec) (name : List ℕ) (kind : Kind) (asm : ℕ) (rec : AsmRec) (k : ℕ) → slice_get recs asm ≡ Some rec → is_named recs name kind (at_row asm k) ≡ has_name kind rec name k
-named_there recs name Field asm rec k e = rw e (one (has_name Field rec name k))
-named_there recs name Method asm rec k e = rw e refl
-named_there recs name Property asm rec k e = rw e (one (has_name Property rec name k))
-named_there recs name Event asm rec k e = rw e (one (has_name Event rec name k))
+-- whether one of an assembly has a wanted name
+named_there : (recs : List AsmRec) (wanted : Option (List ℕ)) (kind : Kind) (asm : ℕ) (rec : AsmRec) (k : ℕ) → slice_get recs asm ≡ Some rec → is_named recs wanted kind (at_row asm k) ≡ has_name kind rec wanted k
+named_there recs wanted Field asm rec k e = rw e (one (has_name Field rec wanted k))
+named_there recs wanted Method asm rec k e = rw e refl
+named_there recs wanted Property asm rec k e = rw e (one (has_name Property rec wanted k))
+named_there recs wanted Event asm rec k e = rw e (one (has_name Event rec wanted k))
 
 filter_next : {A B : Type 0} (f : A → B) (p : B → Bool) (q : A → Bool) (x : A) (xs : List A) (b : Bool) → p (f x) ≡ b → q x ≡ b → filter p (map f xs) ≡ map f (filter q xs)
     → cond (p (f x)) (f x ∷ filter p (map f xs)) (filter p (map f xs)) ≡ map f (cond (q x) (x ∷ filter q xs) (filter q xs))
@@ -38,16 +38,16 @@ flat_one g o x e = ap (λ (p : Option _). flat_map g (listed p)) e ∙ append-ni
 flat_none : {A B : Type 0} (g : A → List B) (o : Option A) → o ≡ None → flat_map g (listed o) ≡ []
 flat_none g o e = ap (λ (p : Option _). flat_map g (listed p)) e
 
-module _ (recs : List AsmRec) (name : List ℕ) (kind : Kind) where
+module _ (recs : List AsmRec) (wanted : Option (List ℕ)) (kind : Kind) where
   members_at : RowAt → AsmRec → TypeDefRow → List RowAt
   members_at at rec t = map (at_row at.asm) (members_of kind rec t at.row)
 
-  pub named_of_row : (at : RowAt) (rec : AsmRec) (t : TypeDefRow) → slice_get recs at.asm ≡ Some rec → slice_get rec.type_def at.row ≡ Some t → named_at recs name kind at ≡ named_in kind rec name at t
+  pub named_of_row : (at : RowAt) (rec : AsmRec) (t : TypeDefRow) → slice_get recs at.asm ≡ Some rec → slice_get rec.type_def at.row ≡ Some t → named_at recs wanted kind at ≡ named_in kind rec wanted at t
   named_of_row at rec t e h =
-      ap (filter (is_named recs name kind))
+      ap (filter (is_named recs wanted kind))
       (flat_one (λ (r : AsmRec). flat_map (λ (u : TypeDefRow). map (at_row at.asm) (members_of kind r u at.row)) (listed (slice_get r.type_def at.row))) (slice_get recs at.asm) rec e
       ∙ flat_one (λ (u : TypeDefRow). map (at_row at.asm) (members_of kind rec u at.row)) (slice_get rec.type_def at.row) t h)
-      ∙ filter_map (at_row at.asm) (is_named recs name kind) (has_name kind rec name) (λ k. named_there recs name kind at.asm rec k e) (members_of kind rec t at.row)
+      ∙ filter_map (at_row at.asm) (is_named recs wanted kind) (has_name kind rec wanted) (λ k. named_there recs wanted kind at.asm rec k e) (members_of kind rec t at.row)
 
-  pub named_of_type : (e : TypeExpr) (at : RowAt) → home_of recs e ≡ Some at → named_rows recs name kind e ≡ named_at recs name kind at
-  named_of_type e at h = ap (filter (is_named recs name kind)) (flat_one (rows_at recs kind) (home_of recs e) at h)
+  pub named_of_type : (e : TypeExpr) (at : RowAt) → home_of recs e ≡ Some at → named_rows recs wanted kind e ≡ named_at recs wanted kind at
+  named_of_type e at h = ap (filter (is_named recs wanted kind)) (flat_one (rows_at recs kind) (home_of recs e) at h)

@@ -1,16 +1,15 @@
-use Rattle.std.proofs.Common.{◌≡◌, ℕ, ◌+◌, ◌≤◌, List, [], ◌∷◌, ◌++◌, length, drop, refl, sym, ap, subst, ◌∙◌, arith}
+use Rattle.std.proofs.Common.{◌≡◌, ℕ, ◌+◌, ◌≤◌, List, [], ◌∷◌, Option, length, drop, refl, sym, ap, subst, ◌∙◌, arith}
 use Rattle.std.specs.Prelude.{IfOk}
-use Rattle.il_base.specs.declared.core_table.names.CoreName.TheVariants.{TypeInitializationException}
+use Rattle.il_base.specs.declared.core_table.names.CoreName.{CoreName}
 use Rattle.il_base.specs.declared.cil_values.state.State.{State}
+use Rattle.il_base.specs.declared.cil_values.frame.Frame.{Frame}
 use Rattle.rules.specs.step_rules.Next.{Next}
-use Rattle.rules.specs.step_rules.Objects.{wrapping}
-use Rattle.rules.specs.step_rules.Raising.{unwind}
+use Rattle.rules.specs.step_rules.Raising.{passed_on, unwind}
 use Rattle.machine_words.specs.cil_words.Steps.{next_of}
 use Rattle.machine_frames.specs.cil_raising.Searches.{search_on}
 use Rattle.machine_frames.proofs.lemmas.cil_raising.Ways.{ends}
-use Rattle.machine_frames.proofs.lemmas.cil_raising.Searching.{search_begins, search_ends, at_bad, at_clause, at_initializer, at_other}
+use Rattle.machine_frames.proofs.lemmas.cil_raising.Searching.{search_begins, search_ends, at_bad, at_clause, at_none}
 use Rattle.machine_frames.proofs.cil_raising.search.throw.Goals as goal
-use Rattle.machine_frames.proofs.cil_raising.search.throw.Goals.{then-wraps+in_ok-thrown+in_ok-push, else-wraps}
 
 pub loop-k-init : goal.loop-k-init
 loop-k-init g c = record {
@@ -37,29 +36,18 @@ returns-in-Ok-ByClause g c =
 pub loop-k-preserved : goal.loop-k-preserved
 loop-k-preserved g c =
     let q = g.Q.Answers.queries c.args.q.now in
-    let frames = c.loop-k.st.top ∷ c.loop-k.st.below in
+    let frames : List Frame = c.loop-k.st.top ∷ c.loop-k.st.below in
     let nothing = rw c.in-Ok-Nothing.field-0-is at c.in-Ok-Nothing.ensures in
-    elim c.if-wraps.branch [
-      | then-wraps+in_ok-thrown+in_ok-push w ↦
-          let s : c.if-wraps.st ≡ record c.loop-k.st { heap = c.loop-k.st.heap ++ wrapping q TypeInitializationException c.loop-k.thrown ∷ [] } = w.st-is ∙ w.in_ok-thrown.ensures.made in
-          let t : c.if-wraps.thrown ≡ length c.loop-k.st.heap = w.thrown-is ∙ w.in_ok-thrown.ensures.at in
-          let l : c.if-wraps.later ≡ c.loop-k.later ++ length c.loop-k.st.heap ∷ [] = w.later-is ∙ w.in_ok-push.ensures.ok ∙ ap (λ (n : ℕ). c.loop-k.later ++ n ∷ []) w.in_ok-thrown.ensures.at in
-          record {
-            here =
-                (λ i. search_on q c.args.a (t i) (l i) (s i) (drop (c.loop-k.k + 1) ((s i).top ∷ (s i).below)))
-                ∙ sym (at_initializer q c.args.a c.loop-k.thrown c.loop-k.later c.loop-k.st c.loop-k.k frames c.in-Some.f.now c.in-Some.ensures nothing (sym c.is_initializer-wraps.ensures ∙ w.if-wraps.true))
-                ∙ c.loop-k.invariant.here;
-            count = c.loop-k.invariant.count ∙ ap (λ (x : State). length x.below + 1) (sym s);
-          }
-      | else-wraps w ↦
-          record {
-            here =
-                (λ i. search_on q c.args.a (w.thrown-is i) (w.later-is i) (w.st-is i) (drop (c.loop-k.k + 1) ((w.st-is i).top ∷ (w.st-is i).below)))
-                ∙ sym (at_other q c.args.a c.loop-k.thrown c.loop-k.later c.loop-k.st c.loop-k.k frames c.in-Some.f.now c.in-Some.ensures nothing (sym c.is_initializer-wraps.ensures ∙ w.if-wraps.false))
-                ∙ c.loop-k.invariant.here;
-            count = c.loop-k.invariant.count ∙ ap (λ (x : State). length x.below + 1) (sym w.st-is);
-          }
-    ]
+    let f : ℕ → List ℕ → State → Next = λ b all t. search_on q c.args.a b all t (drop (c.loop-k.k + 1) frames) in
+    record {
+      here =
+          (λ i. search_on q c.args.a c.in_ok-thrown.thrown c.passed_on.new.later c.passed_on.new.st (drop (c.loop-k.k + 1) (c.in_ok-thrown.ensures.frames.0 i ∷ c.in_ok-thrown.ensures.frames.1 i)))
+          ∙ sym (c.in_ok-thrown.ensures.next f)
+          ∙ ap (λ (o : Option CoreName). passed_on q o c.loop-k.thrown c.loop-k.later c.loop-k.st f) c.wrapper-outside.ensures
+          ∙ sym (at_none q c.args.a c.loop-k.thrown c.loop-k.later c.loop-k.st c.loop-k.k frames c.in-Some.f.now c.in-Some.ensures nothing)
+          ∙ c.loop-k.invariant.here;
+      count = c.loop-k.invariant.count ∙ ap (λ (fs : List Frame). length fs + 1) (sym c.in_ok-thrown.ensures.frames.1);
+    }
 
 pub returns : goal.returns
 returns g c =

@@ -4,4 +4,4 @@ use Rattle.virtual_calls.proofs.named_members.mapped.add_named.Given as goal
 
 abbrev pub invariant-loop-row : goal.invariant-loop-row
 invariant-loop-row l =
-    l.found.items ++ named_from l.mapped l.rec l.asm l.name l.row (l.end - l.row) ≡ l.initial.found.items ++ named_from l.mapped l.rec l.asm l.name l.start (l.end - l.start)
+    l.found.items ++ named_from l.mapped l.rec l.asm l.wanted l.row (l.end - l.row) ≡ l.initial.found.items ++ named_from l.mapped l.rec l.asm l.wanted l.start (l.end - l.start)

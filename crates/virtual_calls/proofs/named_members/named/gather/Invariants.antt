@@ -1,7 +1,8 @@
-use Rattle.std.proofs.Common.{◌≡◌, drop}
+use Rattle.std.proofs.Common.{◌≡◌, [], false, ◌++◌, drop}
 use Rattle.virtual_calls.specs.named_members.Named.{gather}
 use Rattle.virtual_calls.proofs.named_members.named.gather.Given as goal
 
-abbrev pub invariant-loop-base : goal.invariant-loop-base
-invariant-loop-base l =
-    gather l.tables.world.now.recs l.name l.types l.kind l.found.items (drop l.base-index l.bases) ≡ gather l.tables.world.now.recs l.name l.types l.kind l.fn.own.items l.bases
+abbrev pub invariant-loop-ty : goal.invariant-loop-ty
+invariant-loop-ty l =
+    l.members ++ gather l.tables.world.now.recs l.wanted l.types l.kind l.inherited l.before.items (drop l.ty-index l.types)
+    ≡ gather l.tables.world.now.recs l.wanted l.types l.kind false [] l.types

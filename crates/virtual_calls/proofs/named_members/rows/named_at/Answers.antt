@@ -17,4 +17,4 @@ named_in-requires-clause-names c =
 pub returns : goal.returns
 returns c =
     c.in_ok-found.ensures
-    ∙ sym (named_of_row c.args.tables.now.world.now.recs c.args.name.now c.args.kind c.args.at c.in-Some.rows.scope.rec.now c.in-Some-get.row.now (sym c.in-Some.ensures.there) (sym c.in-Some-get.ensures.value))
+    ∙ sym (named_of_row c.args.tables.now.world.now.recs c.args.wanted.now c.args.kind c.args.at c.in-Some.rows.scope.rec.now c.in-Some-get.row.now (sym c.in-Some.ensures.there) (sym c.in-Some-get.ensures.value))

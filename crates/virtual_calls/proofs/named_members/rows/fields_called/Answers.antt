@@ -1,7 +1,7 @@
 use Rattle.type_tables.proofs.lemmas.member_search.Places.{places_in_order}
 use Rattle.type_tables.specs.member_search.Names.{is_field_named}
 use Rattle.virtual_calls.proofs.lemmas.named_members.RunRows.{run_rows}
-use Rattle.virtual_calls.proofs.named_members.rows.fields_in.Goals as goal
+use Rattle.virtual_calls.proofs.named_members.rows.fields_called.Goals as goal
 
 pub in_run-requires : goal.in_run-requires
 in_run-requires c = rw (c.rows_at-rows.ensures, c.requires.fields c.args.name.now) (places_in_order (is_field_named c.args.name.now) c.args.rec.now.field 0)
