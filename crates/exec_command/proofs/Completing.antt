@@ -23,12 +23,12 @@ starved_is WriteFault = inl refl
 starved_is _ = inr refl
 
 -- what was due was answered, or memory ran out
-reported : (line : List ℕ) (s : Status) (out0 out1 err0 err1 : SinkState) (status : Status) → (SinkFailed out0 out1 err0 err1 → ⊥) → Reports line s err0 err1 status → (status ≡ s) ⊎ (status ≡ NoMemory)
+pub reported : (line : List ℕ) (s : Status) (out0 out1 err0 err1 : SinkState) (status : Status) → (SinkFailed out0 out1 err0 err1 → ⊥) → Reports line s err0 err1 status → (status ≡ s) ⊎ (status ≡ NoMemory)
 reported line s out0 out1 err0 err1 status quiet (inl x) = inl x.0
 reported line s out0 out1 err0 err1 status quiet (inr (inl x)) = absurd (quiet (inr x.2))
 reported line s out0 out1 err0 err1 status quiet (inr (inr x)) = elim (starved_is s) [ inl e ↦ inl (x.0 ∙ e) | inr e ↦ inr (x.0 ∙ e) ]
 
-only_memory : (status : Status) → (status ≡ NoMemory) ⊎ (status ≡ NoMemory) → status ≡ NoMemory
+pub only_memory : (status : Status) → (status ≡ NoMemory) ⊎ (status ≡ NoMemory) → status ≡ NoMemory
 only_memory status (inl e) = e
 only_memory status (inr e) = e
 

@@ -1,3 +1,4 @@
+pub mod DigitLemmas
 pub mod InputRead
 pub mod Causes
 pub mod Completing

@@ -14,11 +14,12 @@ use Rattle.run_rules.specs.declared.answers.EndKind.TheVariants as run_end
 use Rattle.run_rules.specs.Answers.{name_at}
 use Rattle.run_rules.specs.Runs.{run_of_files}
 use Rattle.status_lines.specs.declared.status.Status.{Status}
-use Rattle.status_lines.specs.declared.status.Status.TheVariants.{Ended, BadFile, NoEntry, Limit, ReadFault, WriteFault, NoMemory, Threw, Spent, Stopped, Stuck}
+use Rattle.status_lines.specs.declared.status.Status.TheVariants.{Ended, BadWords, BadFile, NoEntry, Limit, ReadFault, WriteFault, NoMemory, Threw, Spent, Stopped, Stuck}
 use Rattle.status_lines.specs.Lines.{line_of}
 use Rattle.status_lines.specs.Reports.{Prints, Reports}
 use Rattle.named_files.specs.Files.{TellsAll, FailsAt}
 use Rattle.exec_command.specs.declared.input.TheConstants.{MOST_BYTES}
+use Rattle.exec_command.specs.Words.{capped}
 use Rattle.exec_command.specs.Input.{ReadsAll, TakesSome, TakesTooMany}
 
 -- ---- statuses and their lines
@@ -158,3 +159,18 @@ ExecCaused names steps was now in0 in1 out0 out1 err0 err1 answer =
     NamesRead names steps was now in0 in1 out0 out1 err0 err1 answer
     ⊎ (NameFailed names was now in0 in1 out0 out1 err0 err1 answer
     ⊎ NamesStarved was now in0 in1 out0 out1 err0 err1 answer)
+
+-- ---- words
+
+-- The words don't read: nothing is printed but the status line; or a write to `err` failed, or memory ran out. No call of the
+-- folder failed.
+pub record WordsRefused (at : ℕ) (was now : FolderState) (out0 out1 err0 err1 : SinkState) (status : Status) : Type 0 where
+  pub quiet : NoFault was now
+  pub printed : Prints [] out0 out1
+  pub reported : Reports (line_of [] [] (BadWords (capped at))) (BadWords (capped at)) err0 err1 status
+
+-- Memory ran out before the words were read: nothing is printed but the status line. No call of the folder failed.
+pub record WordsStarved (was now : FolderState) (out0 out1 err0 err1 : SinkState) (status : Status) : Type 0 where
+  pub quiet : NoFault was now
+  pub printed : Prints [] out0 out1
+  pub reported : Reports (line_of [] [] NoMemory) NoMemory err0 err1 status

@@ -1,4 +1,4 @@
--- The other way round: what the told files and the told input ask for is answered, unless the outside fails or memory runs out.
+-- The other way round: what known files and a known input ask for is answered, unless the outside fails or memory runs out.
 use Rattle.std.specs.Prelude.{◌≡◌, ◌⊎◌, ℕ, List, Option, Some, None, length, nat_le, if◌then◌else◌}
 use Rattle.il_outside.specs.Faults.{Rose}
 use Rattle.il_outside.specs.Folder.{Files, FolderState}

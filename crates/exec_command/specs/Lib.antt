@@ -1,3 +1,4 @@
+pub mod Words
 pub mod Input
 pub mod Turn
 pub mod Answer

@@ -9,12 +9,12 @@ use Rattle.status_lines.specs.declared.status.Status.TheVariants.{NoMemory}
 use Rattle.status_lines.specs.Lines.{line_of}
 use Rattle.status_lines.specs.Reports.{Prints, Reports}
 use Rattle.named_files.proofs.Folders.{keeps_itself, quiet_itself}
+use Rattle.exec_command.specs.Words.{word_at}
 use Rattle.trim_command.specs.Writing.{written_names, KeepsOthers}
 use Rattle.trim_command.specs.Answer.{TrimCaused}
 use Rattle.trim_command.proofs.Causes.{others_kept}
 use Rattle.trim_cli.specs.declared.command.Command.{Command}
 use Rattle.trim_cli.specs.declared.command.Command.TheVariants.{Exec, Trim}
-use Rattle.trim_cli.specs.Words.{word_at}
 use Rattle.trim_cli.specs.Answer.{CausedBy, KeepsBy, TakesBy}
 
 untouched : (s : SinkState) → Prints [] s s

@@ -5,13 +5,14 @@ use Rattle.std.specs.Option.{option_map}
 use Rattle.std.specs.Cmp.Lexicographic.{bytes_decides}
 use Rattle.std.proofs.Math.Seq.{drop-cons}
 use Rattle.std.proofs.lemmas.Option.{unwrap_or-slice_get}
+use Rattle.exec_command.specs.declared.words.ExecWords.{ExecWords}
+use Rattle.exec_command.specs.Words.{is_word, is_empty, begins_with_dash, word_at, after_word, read_exec}
 use Rattle.trim_command.specs.Writing.{IsApart}
 use Rattle.trim_cli.specs.declared.command.Command.{Command}
 use Rattle.trim_cli.specs.declared.command.Awaited.{Awaited}
 use Rattle.trim_cli.specs.declared.command.Awaited.TheVariants as awaited
-use Rattle.trim_cli.specs.declared.command.Progress.{Progress}
 use Rattle.trim_cli.specs.declared.command.TrimProgress.{TrimProgress}
-use Rattle.trim_cli.specs.Words.{is_word, is_empty, begins_with_dash, word_at, after_word, with_inputs, finish, finished, rest_of, begin, is_at, take_trim_option, take_trim_name, take_descriptor, take_list, trim_step_by, trim_step, trim_rest, trim_finish, trim_finished, trim_begin, read_words}
+use Rattle.trim_cli.specs.Words.{is_at, take_trim_option, take_trim_name, take_descriptor, take_list, trim_step_by, trim_step, trim_rest, trim_finish, trim_finished, trim_begin, exec_of, read_words}
 use Rattle.trim_cli.specs.Answer.{AreApart}
 
 -- OUT and the keep list, as far as they were read, have two names
@@ -141,18 +142,9 @@ finished_apart : (words : List (List ℕ)) (n : ℕ) (r : Result TrimProgress �
 finished_apart words n (Err at) good = tt
 finished_apart words n (Ok p) good = finish_apart words n p.awaits p.output p good
 
-inputs_apart : (words : List (List ℕ)) (n : ℕ) (steps : Option ℕ) (inputs : List ℕ) → AreApart (with_inputs n steps inputs) words
-inputs_apart words n steps [] = tt
-inputs_apart words n steps (i ∷ is) = tt
-
-exec_by : (words : List (List ℕ)) (n : ℕ) (p : Progress) (b : Bool) → AreApart (if b then Err n else with_inputs n p.steps p.inputs) words
-exec_by words n p true = tt
-exec_by words n p false = inputs_apart words n p.steps p.inputs
-
-exec_apart : (words : List (List ℕ)) (n : ℕ) (r : Result Progress ℕ) → AreApart (finished n r) words
-unfolding finish
-exec_apart words n (Err at) = tt
-exec_apart words n (Ok p) = exec_by words n p p.expects
+exec_apart : (words : List (List ℕ)) (r : Result ExecWords ℕ) → AreApart (exec_of r) words
+exec_apart words (Err at) = tt
+exec_apart words (Ok asked) = tt
 
 either : (words : List (List ℕ)) (b : Bool) (c d : Result Command ℕ) → AreApart c words → AreApart d words → AreApart (if b then c else d) words
 either words true c d g h = g
@@ -162,6 +154,6 @@ pub apart : (words : List (List ℕ)) → AreApart (read_words words) words
 unfolding read_words
 apart [] = tt
 apart (w ∷ ws) =
-    either (w ∷ ws) (is_word w (codes "exec")) _ _ (exec_apart (w ∷ ws) (length ws + 1) (rest_of 1 ws begin))
+    either (w ∷ ws) (is_word w (codes "exec")) _ _ (exec_apart (w ∷ ws) (read_exec (w ∷ ws)))
     (either (w ∷ ws) (is_word w (codes "trim")) _ _
     (finished_apart (w ∷ ws) (length ws + 1) (trim_rest (w ∷ ws) 1 ws trim_begin) (rest_good (w ∷ ws) ws 1 trim_begin refl tt)) tt)

@@ -1,36 +1,19 @@
 -- Each status but the wanted one, and want of memory, has a cause that doesn't hold.
-use Rattle.std.proofs.Common.{◌≡◌, ◌⊎◌, ℕ, List, [], map, Some, Result, Ok, Err, refl, ◌∙◌, inl, inr}
+use Rattle.std.proofs.Common.{◌≡◌, ℕ, List, [], map, Some, Result, Ok, Err, inl, inr}
 use Rattle.std.specs.Option.{option_map}
 use Rattle.il_outside.specs.Folder.{Files, FolderState}
 use Rattle.il_outside.specs.Streams.{SourceState, SinkState}
 use Rattle.status_lines.specs.declared.status.Status.{Status}
-use Rattle.status_lines.specs.declared.status.Status.TheVariants.{BadWords, WriteFault, NoMemory}
+use Rattle.status_lines.specs.declared.status.Status.TheVariants.{BadWords, NoMemory}
 use Rattle.status_lines.specs.Lines.{line_of}
-use Rattle.status_lines.specs.Reports.{SinkFailed, starved_status, Reports}
-use Rattle.exec_command.proofs.Completing.{is_answered as exec_answered}
+use Rattle.exec_command.proofs.Completing.{reported, only_memory, is_answered as exec_answered}
+use Rattle.exec_command.specs.Words.{word_at, capped}
 use Rattle.trim_command.specs.Complete.{IsQuiet}
 use Rattle.trim_command.proofs.Completing.{is_answered as trim_answered}
 use Rattle.trim_cli.specs.declared.command.Command.{Command}
 use Rattle.trim_cli.specs.declared.command.Command.TheVariants.{Exec, Trim}
-use Rattle.trim_cli.specs.Words.{word_at}
-use Rattle.trim_cli.specs.Answer.{CausedBy, capped}
+use Rattle.trim_cli.specs.Answer.{CausedBy}
 use Rattle.trim_cli.specs.Complete.{IsSourceQuiet, IsAnswered}
-
-starved_is : (s : Status) → (starved_status s ≡ s) ⊎ (starved_status s ≡ NoMemory)
-starved_is WriteFault = inl refl
-starved_is _ = inr refl
-
--- what was due was answered, or memory ran out
-reported : (line : List ℕ) (s : Status) (out0 out1 err0 err1 : SinkState) (status : Status) → (SinkFailed out0 out1 err0 err1 → ⊥) → Reports line s err0 err1 status → (status ≡ s) ⊎ (status ≡ NoMemory)
-reported line s out0 out1 err0 err1 status quiet (inl x) = inl x.0
-reported line s out0 out1 err0 err1 status quiet (inr (inl x)) = absurd (quiet (inr x.2))
-reported line s out0 out1 err0 err1 status quiet (inr (inr x)) = elim (starved_is s) [ inl e ↦ inl (x.0 ∙ e) | inr e ↦ inr (x.0 ∙ e) ]
-
-only_memory : (status : Status) → (status ≡ NoMemory) ⊎ (status ≡ NoMemory) → status ≡ NoMemory
-only_memory status (inl e) = e
-only_memory status (inr e) = e
-
--- ---- all words
 
 pub is_answered : (r : Result Command ℕ) (words : List (List ℕ)) (was now : FolderState) (f : Files) (in0 in1 : SourceState) (out0 out1 err0 err1 : SinkState) (status : Status)
     → CausedBy r words was now in0 in1 out0 out1 err0 err1 status → was.files ≡ Some f → IsQuiet was now out0 out1 err0 err1 → IsSourceQuiet r in0 in1 → IsAnswered r words f in0.left status

@@ -1,4 +1,3 @@
 pub mod AnswerLemmas
 pub mod CompleteLemmas
-pub mod DigitLemmas
 pub mod ApartLemmas

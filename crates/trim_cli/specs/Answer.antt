@@ -1,46 +1,27 @@
 -- The program's answers: when each comes, and what it leaves. A call of the outside that fails is never hidden: the first one that
 -- fails is the last of its kind, a read failed only where ReadFault was due, and a write only where WriteFault was. The answers of
 -- `exec` are in `exec_command/specs/Answer`, those of `trim` in `trim_command/specs/Answer`.
-use Rattle.std.specs.Prelude.{◌≡◌, ◌⊎◌, ℕ, List, [], Option, Result, Ok, Err, map, min}
+use Rattle.std.specs.Prelude.{◌≡◌, ◌⊎◌, ℕ, List, Option, Result, Ok, Err, map}
 use Rattle.std.specs.Option.{option_map}
-use Rattle.il_outside.specs.Folder.{Files, FolderState, KeepsFiles, NoFault}
+use Rattle.il_outside.specs.Folder.{Files, FolderState, KeepsFiles}
 use Rattle.il_outside.specs.Streams.{SourceState, SinkState}
 use Rattle.status_lines.specs.declared.status.Status.{Status}
-use Rattle.status_lines.specs.declared.status.Status.TheVariants.{BadWords, NoMemory}
-use Rattle.status_lines.specs.Lines.{line_of}
-use Rattle.status_lines.specs.Reports.{Prints, Reports}
 use Rattle.exec_command.specs.Input.{TakesSome}
-use Rattle.exec_command.specs.Answer.{ExecCaused}
+use Rattle.exec_command.specs.Words.{word_at}
+use Rattle.exec_command.specs.Answer.{ExecCaused, WordsRefused, WordsStarved}
 use Rattle.trim_command.specs.Writing.{IsApart, KeepsOthers, written_names}
 use Rattle.trim_command.specs.Answer.{TrimCaused}
 use Rattle.trim_cli.specs.declared.command.Command.{Command}
 use Rattle.trim_cli.specs.declared.command.Command.TheVariants.{Exec, Trim}
-use Rattle.trim_cli.specs.Words.{word_at, read_words}
+use Rattle.trim_cli.specs.Words.{read_words}
 
 -- ---- the words
-
--- a place in a status: a number past 4294967295 becomes 4294967295
-abbrev pub capped : ℕ → ℕ
-capped at = min at 4294967295
 
 -- the keep list has another name than OUT
 abbrev pub AreApart : Result Command ℕ → List (List ℕ) → Type 0
 AreApart (Ok (Trim output inputs descriptors list internalize)) words = IsApart (word_at words output) (option_map (word_at words) list)
 AreApart (Ok (Exec inputs steps)) words = Unit {0}
 AreApart (Err at) words = Unit {0}
-
--- The words don't read: nothing is printed but the status line; or a write to `err` failed, or memory ran out. No call of the
--- folder failed.
-pub record WordsRefused (at : ℕ) (was now : FolderState) (out0 out1 err0 err1 : SinkState) (status : Status) : Type 0 where
-  pub quiet : NoFault was now
-  pub printed : Prints [] out0 out1
-  pub reported : Reports (line_of [] [] (BadWords (capped at))) (BadWords (capped at)) err0 err1 status
-
--- Memory ran out before the words were read: nothing is printed but the status line. No call of the folder failed.
-pub record WordsStarved (was now : FolderState) (out0 out1 err0 err1 : SinkState) (status : Status) : Type 0 where
-  pub quiet : NoFault was now
-  pub printed : Prints [] out0 out1
-  pub reported : Reports (line_of [] [] NoMemory) NoMemory err0 err1 status
 
 -- The causes of a status, for the program's words, and what the status leaves.
 abbrev pub CausedBy : Result Command ℕ → List (List ℕ) → FolderState → FolderState → SourceState → SourceState → SinkState → SinkState → SinkState → SinkState → Status → Type 0

@@ -1,4 +1,4 @@
--- The converse of `Answer`: the answer is the one that the words and the told files require, unless the outside fails or memory
+-- The converse of `Answer`: the answer is the one that the words and the known files require, unless the outside fails or memory
 -- runs out.
 use Rattle.std.specs.Prelude.{◌≡◌, ◌⊎◌, ℕ, List, Option, map, Result, Ok, Err}
 use Rattle.std.specs.Option.{option_map}
@@ -8,13 +8,12 @@ use Rattle.il_outside.specs.Streams.{SourceState}
 use Rattle.status_lines.specs.declared.status.Status.{Status}
 use Rattle.status_lines.specs.declared.status.Status.TheVariants.{BadWords, NoMemory}
 use Rattle.named_files.specs.Files.{files_under}
+use Rattle.exec_command.specs.Words.{word_at, capped}
 use Rattle.exec_command.specs.Complete.{WantsRun}
 use Rattle.trim_command.specs.Answer.{opts_of}
 use Rattle.trim_command.specs.Complete.{WantsTrim}
 use Rattle.trim_cli.specs.declared.command.Command.{Command}
 use Rattle.trim_cli.specs.declared.command.Command.TheVariants.{Exec, Trim}
-use Rattle.trim_cli.specs.Words.{word_at}
-use Rattle.trim_cli.specs.Answer.{capped}
 
 -- no read of the source failed, where the words are those of `exec`
 abbrev pub IsSourceQuiet : Result Command ℕ → SourceState → SourceState → Type 0

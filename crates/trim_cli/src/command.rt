@@ -18,17 +18,6 @@ pub enum Command {
     },
 }
 
-/// The state of reading the words after `exec`.
-#[derive(Drop)]
-pub(crate) struct Progress {
-    /// Whether the word `--` was read: every later word is a name.
-    pub(crate) names_only: bool,
-    /// Whether the next word is the value of `--steps`.
-    pub(crate) expects: bool,
-    pub(crate) steps: Option<u64>,
-    pub(crate) inputs: Seq<usize>,
-}
-
 /// The kind of the next word after `trim`.
 #[derive(Clone, Copy, Debug, PartialEq, Eq)]
 pub(crate) enum Awaited {

@@ -1,70 +1,24 @@
 //! The program over a folder, a source and two sinks.
 
-ghost use Rattle.std.specs.Prelude.{◌≡◌, Ok, IfOk, Some, map};
+ghost use Rattle.std.specs.Prelude.{◌≡◌, Some, map};
 ghost use Rattle.std.specs.Option.{option_map, option_copied};
 ghost use Rattle.std.specs.String.{string_bytes};
 ghost use Rattle.il_outside.specs.Folder.{Files, KeepsFiles};
-ghost use Rattle.exec_command.specs.Input.{TakesSome};
+ghost use Rattle.exec_command.specs.Words.{word_at};
 ghost use Rattle.trim_command.specs.Writing.{IsApart, KeepsOthers, written_names};
 ghost use Rattle.trim_command.specs.Answer.{TrimCaused};
 ghost use Rattle.trim_command.specs.Complete.{IsQuiet};
-ghost use Rattle.trim_cli.specs.Words.{word_at, read_words};
+ghost use Rattle.trim_cli.specs.Words.{read_words};
 ghost use Rattle.trim_cli.specs.Complete.{IsSourceQuiet, IsAnswered};
-ghost use Rattle.trim_cli.specs.Answer.{capped, AreApart, Caused, CausedBy, KeepsBy, TakesBy};
+ghost use Rattle.trim_cli.specs.Answer.{AreApart, Caused, CausedBy, KeepsBy, TakesBy};
 
 use crate::command::Command;
-use crate::trim_words::word_at;
 use crate::words::read_words;
-use exec_command::exec_files;
-use il_base::NoMemory;
+use exec_command::{capped, exec_words, word_at, words_at};
 use il_outside::{Folder, Sink, Source};
 use status_lines::{Status, report};
 use std::alloc::Global;
 use trim_command::trim_files;
-
-/// A place in a status: a number past 4294967295 becomes 4294967295.
-fn capped(at: usize) -> u32
-    ensures { result ≡ capped at }
-{
-    if at > 4_294_967_295 {
-        4_294_967_295
-    } else {
-        at as u32
-    }
-}
-
-/// The words at these places.
-fn words_at(alloc: Global, words: &[String], places: &[usize]) -> Result<Vec<String>, NoMemory>
-    ensures { IfOk result (λ names. map string_bytes names.items ≡ map (word_at (map string_bytes words.now)) places.now) }
-{
-    let mut names = Vec::new(alloc);
-    for at in places {
-        let name = String::from_str(alloc, word_at(words, *at))?;
-        names.push(name)?;
-    }
-    Ok(names)
-}
-
-/// `exec` of the files that the words at these places name.
-fn exec_words<F: Folder, I: Source, O: Sink, E: Sink>(
-    alloc: Global,
-    words: &[String],
-    inputs: &[usize],
-    steps: u64,
-    folder: &mut F,
-    input: &mut I,
-    out: &mut O,
-    err: &mut E,
-) -> Status
-    ensures answered { CausedBy (Ok (Command.Exec inputs.now steps)) (map string_bytes words.now) (F.state folder.old) (F.state folder.new) (I.state input.old) (I.state input.new) (O.state out.old) (O.state out.new) (E.state err.old) (E.state err.new) result }
-    ensures folder { KeepsFiles (F.state folder.old).files (F.state folder.new).files }
-    ensures input { TakesSome (I.state input.old) (I.state input.new) }
-{
-    match words_at(alloc, words, inputs) {
-        Err(_) => report(alloc, err, &[], &[], Status::NoMemory),
-        Ok(names) => exec_files(alloc, names.as_slice(), steps, folder, input, out, err),
-    }
-}
 
 /// The word at a place, if one is given.
 fn list_name(words: &[String], list: Option<usize>) -> Option<&str>
@@ -186,16 +140,16 @@ fn answer<F: Folder, I: Source, O: Sink, E: Sink>(
 /// Runs the command that the words spell: `exec` or `trim`.
 ///
 /// `answered` says for each status when it comes and what it leaves. `Ended`, `Threw`, `Spent`, `Stopped` and `Stuck` are the
-/// outcomes of the defined run at the given number of steps. Its files are the bytes that the folder told under the words, its
+/// outcomes of the defined run at the given number of steps. Its files are the bytes that were read under the words, its
 /// input is what the source had left, and `out` is extended by exactly its output. `Done` says that OUT holds the file that a trim
 /// of the files IN gives with the descriptors and options of the words (`Trims` in `trim_core`). The keep list, where one is asked
 /// for, then holds its text. `BadFile`, `Limit`, `NoEntry`, `BadDescriptor`, `Outside`, `Unresolved`, `NotYet` and `Collision` come
 /// exactly where those bytes require it, `BadWords` exactly where the words spell no command. `ReadFault` comes only where one read failed:
 /// of a file or a descriptor in the folder, or of the source. `WriteFault` comes only where one write failed: of OUT, of the keep
-/// list, after which OUT stands whole, or to a sink. `NoMemory` alone is free. A call that fails is never hidden: where another
+/// list, after which OUT stands whole, or to a sink. `NoMemory` has no stated cause. A call that fails is never hidden: where another
 /// answer comes, no read and no write of the folder, no read of the source and no write to `out` failed. `err` is extended by
 /// exactly the status line, and after `WriteFault` and `NoMemory` both sinks by prefixes. After a refusal the folder is as it was.
-/// `complete` is the converse: where no count of faults rose, the answer is the one that the words, a told folder and a told source
+/// `complete` is the converse: where no count of faults rose, the answer is the one that the words, a known folder and a known source
 /// require, or `NoMemory`.
 pub fn run<F: Folder, I: Source, O: Sink, E: Sink>(
     alloc: Global,

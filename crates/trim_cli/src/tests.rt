@@ -270,7 +270,7 @@ fn the_calls_on_bytes_answer(rt: HostRuntime) -> Result<(), Fail> {
     Ok(())
 }
 
-/// Runs `exec` of `hello.exe` with an input of which the first read fails, and says whether that is told.
+/// Runs `exec` of `hello.exe` with an input of which the first read fails, and says whether the answer is `read fault`.
 fn fails_to_read(alloc: Global) -> Result<bool, NoMemory> {
     let words = words_of(alloc, &["exec", "hello.exe"])?;
     let mut folder = folder_of(alloc)?;

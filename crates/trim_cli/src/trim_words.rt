@@ -2,22 +2,13 @@
 
 ghost use Rattle.std.specs.Prelude.{◌≡◌, ◌≤◌, IfOk, map, length, drop};
 ghost use Rattle.std.specs.String.{string_bytes};
-ghost use Rattle.trim_cli.specs.Words.{word_at, is_at, take_trim_option, take_trim_name, take_descriptor, take_list, trim_step, trim_rest, trim_finish, trim_finished, trim_begin};
+ghost use Rattle.exec_command.specs.Words.{word_at};
+ghost use Rattle.trim_cli.specs.Words.{is_at, take_trim_option, take_trim_name, take_descriptor, take_list, trim_step, trim_rest, trim_finish, trim_finished, trim_begin};
 
 use crate::command::{Awaited, Command, TrimProgress};
-use crate::words::begins_with_dash;
+use exec_command::{begins_with_dash, word_at};
 use il_base::{NoMemory, Seq};
 use std::alloc::Global;
-
-/// The word at a place.
-pub(crate) fn word_at(words: &[String], at: usize) -> &str
-    ensures { result.now ≡ word_at (map string_bytes words.now) at }
-{
-    match words.get(at) {
-        None => "",
-        Some(word) => word.as_str(),
-    }
-}
 
 /// Whether the word at a place that was read, if one was, is this one.
 fn is_at(words: &[String], at: Option<usize>, word: &[u8]) -> bool

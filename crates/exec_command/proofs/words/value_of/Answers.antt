@@ -1,6 +1,6 @@
 use Rattle.std.proofs.Common.{arith}
-use Rattle.trim_cli.proofs.DigitLemmas.{small_before}
-use Rattle.trim_cli.proofs.words.value_of.Goals as goal
+use Rattle.exec_command.proofs.DigitLemmas.{small_before}
+use Rattle.exec_command.proofs.words.value_of.Goals as goal
 
 pub with_digit-value-requires-clause-small : goal.with_digit-value-requires-clause-small
 with_digit-value-requires-clause-small c = small_before c.loop-b.b-index c.loop-b.value (omega arith) c.loop-b.invariant.1
