@@ -1,16 +1,11 @@
 -- How the members of Activator make objects.
-use Rattle.std.specs.Prelude.{Bool, true, false, Option, Some, None}
+use Rattle.std.specs.Prelude.{Bool, true, false}
 use Rattle.il_base.specs.declared.world_model.expr.TypeExpr.{TypeExpr}
 use Rattle.il_base.specs.declared.cil_values.value.Value.{Value}
 use Rattle.il_base.specs.declared.cil_values.state.State.{State}
 use Rattle.rules.specs.step_rules.Next.{Next}
 use Rattle.rules.specs.step_rules.CoreWords.{Gives, gives_value}
-use Rattle.rules.specs.step_rules.CoreMaking.{gives_box, with_top}
-
--- the state in which the call comes again, with its argument back on the evaluation stack
-abbrev pub back_from : Option Value → State → State
-back_from None s = s
-back_from (Some v) s = with_top v s
+use Rattle.rules.specs.step_rules.CoreMaking.{gives_box}
 
 -- what is given for a value type's zero value: a box, or the value
 abbrev pub zero_by : Bool → TypeExpr → State → Gives → Value → Next

@@ -31,7 +31,7 @@ fn with_first(first: Value, rest: Seq<Value>) -> Result<Seq<Value>, NoMemory>
 }
 
 /// `this` as the found method takes it, and the other arguments as its slots keep them.
-fn found_args<Q: Answers>(
+pub fn found_args<Q: Answers>(
     alloc: Global,
     q: &Q,
     st: &State,

@@ -2,6 +2,8 @@
 //! with the arguments off the stack; out comes what the member gives, as `rules/specs/step_rules/Core` has it.
 #![tactic(auto)]
 
+mod again;
+mod called;
 mod calling;
 pub mod cil_console_members;
 pub mod cil_exceptions;
@@ -15,5 +17,9 @@ mod members;
 mod resuming;
 mod virtual_members;
 
-pub use calling::core_call;
+pub use again::started_with;
+pub use called::{called_for, gives_boxed};
+pub use calling::own_member;
+pub use found::found_args;
+pub use making::{create_of, is_open};
 pub use resuming::resume;

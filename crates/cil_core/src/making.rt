@@ -1,24 +1,21 @@
 //! The members of Activator.
 
-ghost use Rattle.std.specs.Prelude.{◌≡◌, ◌∷◌, [], false, IfOk, MatchOption, if◌then◌else◌};
-ghost use Rattle.il_base.specs.declared.cil_values.state.State.{State};
+ghost use Rattle.std.specs.Prelude.{◌≡◌, ◌∷◌, [], IfOk, if◌then◌else◌};
 ghost use Rattle.il_base.specs.declared.cil_values.core_call.CoreCall.TheVariants.{Create, CreateOf};
 ghost use Rattle.il_base.specs.declared.core_table.names.CoreName.TheVariants.{MissingMethodException};
-ghost use Rattle.rules.specs.step_rules.Next.{Next};
 ghost use Rattle.rules.specs.step_rules.Words.{given, had};
 ghost use Rattle.rules.specs.step_rules.Closing.{callee_of, plain};
 ghost use Rattle.rules.specs.step_rules.Stores.{is_value, zero_of};
 ghost use Rattle.rules.specs.step_rules.Raising.{raise};
-ghost use Rattle.rules.specs.step_rules.Frames.{started};
-ghost use Rattle.rules.specs.step_rules.CoreWords.{Gives, gives_value};
+ghost use Rattle.rules.specs.step_rules.CoreWords.{Gives, before_call, gives_value};
 ghost use Rattle.rules.specs.step_rules.CoreTypes.{typed_by};
-ghost use Rattle.rules.specs.step_rules.CoreMaking.{constructs_by, constructs_new, creates, creates_for, gives_box, has_params, is_open, maker_use, with_top};
+ghost use Rattle.rules.specs.step_rules.CoreMaking.{constructs_by, constructs_new, creates, creates_for, gives_box, has_params, is_open, maker_use};
 ghost use Rattle.rules.specs.step_rules.Core.{constructs, create_form, create_of_form};
 ghost use Rattle.machine_words.specs.cil_closing.Callees.{callee_by};
-ghost use Rattle.machine_words.specs.cil_words.Steps.{next_of};
-ghost use Rattle.cil_core.specs.Making.{back_from, zero_by};
+ghost use Rattle.cil_core.specs.Making.{zero_by};
 ghost use Rattle.cil_core.specs.cil_members.Outs.{gives_by};
 
+use crate::again::started_with;
 use crate::cil_members::{CoreOut, gives_value, raised, stopped_member, stuck_member};
 use crate::found::run_found;
 use il_base::cil_values::{CoreCall, Head, Obj, State, Value};
@@ -26,12 +23,11 @@ use il_base::core_table::CoreName;
 use il_base::world_model::{MethodUse, TypeExpr};
 use il_base::{MethodId, NoMemory, Seq};
 use machine_frames::cil_dispatch::path_into_box;
-use machine_frames::cil_frames::{is_abstract_type, started};
+use machine_frames::cil_frames::is_abstract_type;
 use machine_words::cil_closing::{Callee, callee_of, without_modifiers};
 use machine_words::cil_objects::{new_instance, typed_by};
 use machine_words::cil_queries::Answers;
 use machine_words::cil_stores::{is_value, zero_of};
-use machine_words::cil_words::StepOut;
 use std::alloc::Global;
 
 /// Whether there is a definition, and it has generic parameters.
@@ -46,7 +42,7 @@ fn has_params(head: Option<Head>) -> bool
 
 /// Whether a type object's type is a generic definition without arguments.
 #[tactic(auto, unfolding(rules::specs::step_rules::CoreMaking::is_open))]
-fn is_open<Q: Answers>(q: &Q, ty: &TypeExpr) -> bool
+pub fn is_open<Q: Answers>(q: &Q, ty: &TypeExpr) -> bool
     ensures { result ≡ is_open (Q.queries q.now) ty.now }
 {
     match ty {
@@ -120,48 +116,24 @@ fn constructs_new<Q: Answers>(
     constructs(alloc, q, member, c, a, Value::Object(a), st, printed)
 }
 
-/// The initializer of a type, where it is due, is entered with an argument back on the evaluation stack, if there is one. None where
-/// it isn't due, with the state as it was.
-fn started_with<Q: Answers>(
-    alloc: Global,
-    q: &Q,
-    ty: &TypeExpr,
-    arg: Option<Value>,
-    st: &mut State,
-) -> Result<Option<StepOut>, NoMemory>
-    ensures { IfOk result (λ over. MatchOption over ((st.new ≡ st.old) × ((f : State → Next) → started (Q.queries q.now) false ty.now (back_from arg st.old) f ≡ f (back_from arg st.old))) (λ out. (f : State → Next) → started (Q.queries q.now) false ty.now (back_from arg st.old) f ≡ next_of out st.new [])) }
-{
-    let Some(v) = arg else {
-        return started(alloc, q, false, ty, st);
-    };
-    st.top.stack.push(v)?;
-    match started(alloc, q, false, ty, st)? {
-        Some(out) => Ok(Some(out)),
-        None => {
-            drop(st.top.stack.pop());
-            Ok(None)
-        }
-    }
-}
-
 /// A constructor runs on a new object. A type without a zero value stops the step.
 fn constructs_by<Q: Answers>(
     alloc: Global,
     q: &Q,
     member: CoreCall,
     ty: &TypeExpr,
-    arg: Option<Value>,
+    back: &[Value],
     c: &Callee,
     st: &mut State,
     printed: &mut Vec<u8>,
 ) -> Result<CoreOut, NoMemory>
     requires { printed.old.items ≡ [] }
-    ensures { IfOk result (λ out. (give : Gives) → constructs_by (Q.queries q.now) ty.now (back_from arg st.old) st.old (constructs (Q.queries q.now) member give) (callee_by c.now) ≡ gives_by out st.new printed.new.items give) }
+    ensures { IfOk result (λ out. (give : Gives) → constructs_by (Q.queries q.now) ty.now (before_call back.now st.old) st.old (constructs (Q.queries q.now) member give) (callee_by c.now) ≡ gives_by out st.new printed.new.items give) }
 {
     let Some(zero) = zero_of(alloc, q, ty)? else {
         return Ok(stopped_member(st));
     };
-    match started_with(alloc, q, ty, arg, st)? {
+    match started_with(alloc, q, false, ty, back, st)? {
         Some(out) => Ok(CoreOut::Stepped(out)),
         None => constructs_new(alloc, q, member, ty, c, zero, st, printed),
     }
@@ -211,12 +183,12 @@ fn with_maker<Q: Answers>(
     member: CoreCall,
     ty: &TypeExpr,
     maker: u32,
-    arg: Option<Value>,
+    back: &[Value],
     st: &mut State,
     printed: &mut Vec<u8>,
 ) -> Result<CoreOut, NoMemory>
     requires { printed.old.items ≡ [] }
-    ensures { IfOk result (λ out. (give : Gives) → had (callee_of (Q.queries q.now) (maker_use ty.now maker)) st.old (constructs_by (Q.queries q.now) ty.now (back_from arg st.old) st.old (constructs (Q.queries q.now) member give)) ≡ gives_by out st.new printed.new.items give) }
+    ensures { IfOk result (λ out. (give : Gives) → had (callee_of (Q.queries q.now) (maker_use ty.now maker)) st.old (constructs_by (Q.queries q.now) ty.now (before_call back.now st.old) st.old (constructs (Q.queries q.now) member give)) ≡ gives_by out st.new printed.new.items give) }
 {
     let owner = ty.copy(alloc)?;
     let used = MethodUse {
@@ -227,12 +199,12 @@ fn with_maker<Q: Answers>(
     let Some(c) = callee_of(alloc, q, used)? else {
         return Ok(stopped_member(st));
     };
-    let out = constructs_by(alloc, q, member, ty, arg, &c, st, printed);
+    let out = constructs_by(alloc, q, member, ty, back, &c, st, printed);
     drop(c);
     out
 }
 
-/// Makes an object of a type. `boxes` says whether a value type's zero value is given in a box, `arg` is the argument that the call
+/// Makes an object of a type. `boxes` says whether a value type's zero value is given in a box, `back` has the arguments that the call
 /// took off the stack.
 #[tactic(auto, unfolding(rules::specs::step_rules::CoreMaking::creates))]
 fn creates<Q: Answers>(
@@ -241,12 +213,12 @@ fn creates<Q: Answers>(
     member: CoreCall,
     boxes: bool,
     ty: &TypeExpr,
-    arg: Option<Value>,
+    back: &[Value],
     st: &mut State,
     printed: &mut Vec<u8>,
 ) -> Result<CoreOut, NoMemory>
     requires { printed.old.items ≡ [] }
-    ensures { IfOk result (λ out. (give : Gives) → creates (Q.queries q.now) ty.now (back_from arg st.old) st.old (zero_by boxes ty.now st.old give) (constructs (Q.queries q.now) member give) ≡ gives_by out st.new printed.new.items give) }
+    ensures { IfOk result (λ out. (give : Gives) → creates (Q.queries q.now) ty.now (before_call back.now st.old) st.old (zero_by boxes ty.now st.old give) (constructs (Q.queries q.now) member give) ≡ gives_by out st.new printed.new.items give) }
 {
     if is_open(q, ty) {
         return raised(alloc, q, CoreName::ArgumentException, st);
@@ -255,7 +227,7 @@ fn creates<Q: Answers>(
         return raised(alloc, q, CoreName::MissingMethodException, st);
     }
     match q.maker(ty)? {
-        Some(maker) => with_maker(alloc, q, member, ty, maker, arg, st, printed),
+        Some(maker) => with_maker(alloc, q, member, ty, maker, back, st, printed),
         None => without_maker(alloc, q, boxes, ty, st),
     }
 }
@@ -265,27 +237,18 @@ fn creates_typed<Q: Answers>(
     alloc: Global,
     q: &Q,
     v: &Value,
+    back: &[Value],
     st: &mut State,
     printed: &mut Vec<u8>,
 ) -> Result<CoreOut, NoMemory>
     requires { printed.old.items ≡ [] }
-    ensures { IfOk result (λ out. (give : Gives) → given (typed_by st.old v.now) st.old (λ e. creates (Q.queries q.now) e (with_top v.now st.old) st.old (gives_box e st.old give) (constructs (Q.queries q.now) Create give)) ≡ gives_by out st.new printed.new.items give) }
+    ensures { IfOk result (λ out. (give : Gives) → given (typed_by st.old v.now) st.old (λ e. creates (Q.queries q.now) e (before_call back.now st.old) st.old (gives_box e st.old give) (constructs (Q.queries q.now) Create give)) ≡ gives_by out st.new printed.new.items give) }
 {
     let Some(named) = typed_by(st, v) else {
         return Ok(stuck_member(st));
     };
     let ty = named.copy(alloc)?;
-    let arg = v.copy(alloc)?;
-    let out = creates(
-        alloc,
-        q,
-        CoreCall::Create,
-        true,
-        &ty,
-        Some(arg),
-        st,
-        printed,
-    );
+    let out = creates(alloc, q, CoreCall::Create, true, &ty, back, st, printed);
     drop(ty);
     out
 }
@@ -296,15 +259,16 @@ fn creates_for<Q: Answers>(
     alloc: Global,
     q: &Q,
     v: &Value,
+    back: &[Value],
     st: &mut State,
     printed: &mut Vec<u8>,
 ) -> Result<CoreOut, NoMemory>
     requires { printed.old.items ≡ [] }
-    ensures { IfOk result (λ out. (give : Gives) → creates_for (Q.queries q.now) st.old give (constructs (Q.queries q.now) Create give) v.now ≡ gives_by out st.new printed.new.items give) }
+    ensures { IfOk result (λ out. (give : Gives) → back.now ≡ v.now ∷ [] → creates_for (Q.queries q.now) st.old give (constructs (Q.queries q.now) Create give) v.now ≡ gives_by out st.new printed.new.items give) }
 {
     match v {
         Value::Null => raised(alloc, q, CoreName::ArgumentNullException, st),
-        Value::Object(_) => creates_typed(alloc, q, v, st, printed),
+        Value::Object(_) => creates_typed(alloc, q, v, back, st, printed),
         Value::I4(_) => Ok(stuck_member(st)),
         Value::I8(_) => Ok(stuck_member(st)),
         Value::Native(_) => Ok(stuck_member(st)),
@@ -330,7 +294,7 @@ pub(crate) fn create<Q: Answers>(
     let [v] = args else {
         return Ok(stuck_member(st));
     };
-    creates_for(alloc, q, v, st, printed)
+    creates_for(alloc, q, v, args, st, printed)
 }
 
 /// CreateInstance of a type argument.
@@ -346,14 +310,14 @@ fn creates_own<Q: Answers>(
 {
     let copy = ty.copy(alloc)?;
     let own = without_modifiers(copy);
-    let out = creates(alloc, q, CoreCall::CreateOf, false, &own, None, st, printed);
+    let out = creates(alloc, q, CoreCall::CreateOf, false, &own, &[], st, printed);
     drop(own);
     out
 }
 
 /// Activator.CreateInstance<T>(), with T.
 #[tactic(auto, unfolding(rules::specs::step_rules::Core::create_of_form, rules::specs::step_rules::CoreMaking::create_of_with))]
-pub(crate) fn create_of<Q: Answers>(
+pub fn create_of<Q: Answers>(
     alloc: Global,
     q: &Q,
     targs: &[TypeExpr],

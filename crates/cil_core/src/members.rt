@@ -99,6 +99,11 @@ pub(crate) fn simple<Q: Answers>(
         CoreCall::MemberOther => Ok(stuck_member(st)),
         CoreCall::Create => Ok(stuck_member(st)),
         CoreCall::CreateOf => Ok(stuck_member(st)),
+        CoreCall::Invoke => Ok(stuck_member(st)),
+        CoreCall::FieldGet => Ok(stuck_member(st)),
+        CoreCall::FieldSet => Ok(stuck_member(st)),
+        CoreCall::PropertyGet => Ok(stuck_member(st)),
+        CoreCall::PropertySet => Ok(stuck_member(st)),
         CoreCall::AreEqual => Ok(stuck_member(st)),
     }
 }

@@ -14,6 +14,7 @@ ghost use Rattle.il_base.specs.declared.cil_values.core_call.Printed.TheVariants
 ghost use Rattle.il_base.specs.declared.cil_values.core_call.CoreCall.TheVariants.{AreEqual};
 ghost use Rattle.cil_core.specs.cil_members.Outs.{KeepsFrames, gives_by};
 
+use crate::called::gives_returned;
 use crate::cil_console_members::print;
 use crate::cil_members::{CoreOut, gives_value, stuck_member};
 use il_base::cil_values::{CoreCall, Printed, State, Value};
@@ -27,16 +28,15 @@ use std::alloc::Global;
 fn print_result(
     alloc: Global,
     line: bool,
-    v: &Value,
+    v: Value,
     st: &State,
     printed: &mut Vec<u8>,
 ) -> Result<CoreOut, NoMemory>
     requires { printed.old.items ≡ [] }
-    ensures { IfOk result (λ out. (q : Queries) (give : Gives) → print_form line OfObject q (v.now ∷ []) st.now give ≡ gives_by out st.now printed.new.items give) }
+    ensures { IfOk result (λ out. (q : Queries) (give : Gives) → print_form line OfObject q (v ∷ []) st.now give ≡ gives_by out st.now printed.new.items give) }
 {
     let mut shown = Seq::new(alloc);
-    let copy = v.copy(alloc)?;
-    shown.push(copy)?;
+    shown.push(v)?;
     print(
         alloc,
         line,
@@ -49,7 +49,8 @@ fn print_result(
 
 /// Equals(object) gave a truth value.
 fn equal_result(v: &Value, st: &State) -> CoreOut
-    ensures { (q : Queries) (args : List Value) (bytes : List ℕ) (give : Gives) → bytes ≡ [] → with_result AreEqual q args v.now st.now give ≡ gives_by result st.now bytes give }
+    ensures gives { (q : Queries) (args : List Value) (bytes : List ℕ) (give : Gives) → bytes ≡ [] → with_result AreEqual q args v.now st.now give ≡ gives_by result st.now bytes give }
+    ensures frames { KeepsFrames result st.now st.now }
 {
     match narrowed(element::BOOLEAN, v) {
         None => stuck_member(st),
@@ -58,15 +59,18 @@ fn equal_result(v: &Value, st: &State) -> CoreOut
 }
 
 /// The member goes on with a value.
-fn with_result(
+fn with_result<Q: Answers>(
     alloc: Global,
+    q: &Q,
     member: CoreCall,
-    v: &Value,
-    st: &State,
+    args: &[Value],
+    v: Value,
+    st: &mut State,
     printed: &mut Vec<u8>,
 ) -> Result<CoreOut, NoMemory>
     requires { printed.old.items ≡ [] }
-    ensures { IfOk result (λ out. (q : Queries) (args : List Value) (give : Gives) → with_result member q args v.now st.now give ≡ gives_by out st.now printed.new.items give) }
+    ensures gives { IfOk result (λ out. (give : Gives) → with_result member (Q.queries q.now) args.now v st.old give ≡ gives_by out st.new printed.new.items give) }
+    ensures frames { IfOk result (λ out. KeepsFrames out st.old st.new) }
 {
     match member {
         CoreCall::Prints(line, kind) => match kind {
@@ -76,7 +80,10 @@ fn with_result(
             Printed::OfBool => Ok(stuck_member(st)),
             Printed::OfChar => Ok(stuck_member(st)),
         },
-        CoreCall::AreEqual => Ok(equal_result(v, st)),
+        CoreCall::AreEqual => Ok(equal_result(&v, st)),
+        CoreCall::Invoke => gives_returned(alloc, q, CoreCall::Invoke, args, v, st),
+        CoreCall::PropertyGet => gives_returned(alloc, q, CoreCall::PropertyGet, args, v, st),
+        CoreCall::PropertySet => Ok(CoreOut::Gave(None)),
         _ => Ok(stuck_member(st)),
     }
 }
@@ -139,29 +146,10 @@ fn without_result(
     match member {
         CoreCall::Create => gives_first(alloc, args, st),
         CoreCall::CreateOf => gives_unboxed(alloc, args, st),
+        CoreCall::Invoke => Ok(gives_value(st, Value::Null)),
+        CoreCall::PropertyGet => Ok(gives_value(st, Value::Null)),
+        CoreCall::PropertySet => Ok(CoreOut::Gave(None)),
         _ => Ok(stuck_member(st)),
-    }
-}
-
-/// The member goes on with what its method returned, in a state that stays as it is.
-fn with_option(
-    alloc: Global,
-    member: CoreCall,
-    args: &[Value],
-    returned: Option<Value>,
-    st: &State,
-    printed: &mut Vec<u8>,
-) -> Result<CoreOut, NoMemory>
-    requires { printed.old.items ≡ [] }
-    ensures { IfOk result (λ out. (q : Queries) (give : Gives) → with_option member q args.now st.now give returned ≡ gives_by out st.now printed.new.items give) }
-{
-    match returned {
-        None => without_result(alloc, member, args, st),
-        Some(v) => {
-            let out = with_result(alloc, member, &v, st, printed);
-            drop(v);
-            out
-        }
     }
 }
 
@@ -179,5 +167,8 @@ pub fn resume<Q: Answers>(
     ensures gives { IfOk result (λ out. (give : Gives) → with_option member (Q.queries q.now) args st.old give returned ≡ gives_by out st.new printed.new.items give) }
     ensures frames { IfOk result (λ out. KeepsFrames out st.old st.new) }
 {
-    with_option(alloc, member, args.as_slice(), returned, st, printed)
+    match returned {
+        None => without_result(alloc, member, args.as_slice(), st),
+        Some(v) => with_result(alloc, q, member, args.as_slice(), v, st, printed),
+    }
 }

@@ -9,10 +9,10 @@ use crate::world_definitions::Definitions;
 use crate::world_layouts::Layouts;
 use crate::world_types::ClosedTypes;
 use il_base::cil_values::{
-    CoreCall, FieldDef, Head, Instruction, Layout, MemberKind, Method, Shape, Sought,
+    CoreCall, FieldDef, Head, Instruction, Layout, MemberKind, Method, PropertyDef, Shape, Sought,
 };
 use il_base::core_table::CoreName;
-use il_base::world_model::{AsmRec, Known, MethodUse, TypeExpr, World};
+use il_base::world_model::{AsmRec, MethodUse, TypeExpr, World};
 use il_base::{Item, NoMemory, Seq, Text};
 use machine_words::cil_queries::{Answers, ObjectSlots};
 use mark_parts::mark_tables::marker::Marker;
@@ -178,7 +178,7 @@ impl<'w> Answers for View<'w> {
         self.types.title(alloc, item)
     }
 
-    fn property(&self, alloc: Global, property: u32) -> Result<Option<Known<TypeExpr>>, NoMemory> {
+    fn property(&self, alloc: Global, property: u32) -> Result<Option<PropertyDef>, NoMemory> {
         self.types.property(alloc, property)
     }
 

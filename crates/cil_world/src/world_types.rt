@@ -2,6 +2,7 @@
 //! names, the members that reflection finds, and the nearest type of the core library. A world that a link gave goes in, and each
 //! answer is that of `rules/specs/view_rules/Answers`.
 
+mod accessors;
 pub mod answered;
 pub mod bases;
 pub mod core_rows;

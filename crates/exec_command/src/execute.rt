@@ -59,7 +59,11 @@ fn feed_files<I: Source, O: Sink, E: Sink>(
             },
         ),
         Err(InputFault::NoMemory) => report(alloc, err, &[], &[], Status::NoMemory),
-        Ok(bytes) => run_files(alloc, names, files, bytes.as_slice(), steps, out, err),
+        Ok(bytes) => {
+            let status = run_files(alloc, names, files, bytes.as_slice(), steps, out, err);
+            drop(bytes);
+            status
+        }
     }
 }
 

@@ -116,7 +116,10 @@ fn report_status<E: Sink>(
 {
     let word = file_in(names, &status);
     match assembly_in(alloc, files, &status) {
-        Err(_) => report(alloc, err, &[], &[], Status::NoMemory),
+        Err(_) => {
+            drop(status);
+            report(alloc, err, &[], &[], Status::NoMemory)
+        }
         Ok(asm) => report(alloc, err, asm.as_slice(), word, status),
     }
 }

@@ -6,8 +6,8 @@ use crate::build::{
 };
 use il_base::world_model::AsmRec;
 use il_base::{Body, Form, Handler, Instr, NoMemory, Operand, Seq, opcode};
+use rules::flow_rules::clause_kind;
 use std::alloc::Global;
-use value_flow::flow_rules::clause_kind;
 
 fn put(
     code: &mut Seq<Instr>,

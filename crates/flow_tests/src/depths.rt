@@ -1,7 +1,8 @@
 use il_base::Seq;
+use rules::flow_rules::{Exit, Step, Way};
 use std::alloc::Global;
 use std::test::Fail;
-use value_flow::stack_depths::{Exit, Step, Way, depths};
+use value_flow::stack_depths::depths;
 
 fn exit(alloc: Global, pops: u32, pushes: u32, steps: &[Step]) -> Result<Exit, Fail> {
     let steps = Seq::from_slice(alloc, steps)?;

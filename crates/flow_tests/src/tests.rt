@@ -5,12 +5,12 @@ ghost use Rattle.rules.specs.link_rules.Linked.{IsWorld};
 use crate::build::world;
 use il_base::world_model::World;
 use il_base::{MethodId, NoMemory};
+use rules::flow_rules::Source;
 use std::alloc::Global;
 use std::test::Fail;
 use type_system::Types;
 use value_flow::Flow;
 use value_flow::body_graph::Graph;
-use value_flow::flow_rules::Source;
 
 /// The sources of the bodies.
 #[derive(Clone, Copy, Debug, PartialEq, Eq)]

@@ -17,7 +17,7 @@ mod state;
 mod value;
 
 pub use core_call::{CoreCall, MemberKind, Printed};
-pub use definition::{FieldDef, First, Head, Method, Signature};
+pub use definition::{FieldDef, First, Head, Method, PropertyDef, Signature};
 pub use end::End;
 pub use frame::{Frame, Prefix, Reason, Running, Unwinding, Waits};
 pub use heap::Heap;

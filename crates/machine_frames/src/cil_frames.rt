@@ -6,7 +6,7 @@ mod heads;
 mod locals;
 mod starting;
 
-pub use entering::{copy_use, enter};
+pub use entering::{copy_use, enter, enter_with};
 pub use heads::{definition_of, head_has, head_of, is_abstract_type};
 pub use locals::zero_locals;
 pub use starting::{initializer, started};

@@ -12,4 +12,7 @@ mod places;
 mod static_fields;
 mod statics;
 
+pub use flags::{is_literal, is_static};
 pub use forms::field_form;
+pub use places::reach_field;
+pub use statics::{Ready, static_type, with_static};

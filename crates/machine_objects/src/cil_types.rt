@@ -9,4 +9,4 @@ mod unboxes;
 pub use boxes::box_value;
 pub use casts::cast;
 pub use handles::load_token;
-pub use unboxes::unbox;
+pub use unboxes::{boxed_of, unbox};

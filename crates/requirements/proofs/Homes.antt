@@ -10,8 +10,8 @@ use Rattle.il_base.specs.declared.world_model.members.MethodDefRow.{MethodDefRow
 use Rattle.il_base.specs.declared.world_model.record.AsmRec.{AsmRec}
 use Rattle.rules.specs.declared.link_rules.row_at.RowAt.{RowAt}
 use Rattle.rules.specs.type_rules.Slots.{method_home}
-use Rattle.value_flow.specs.declared.flow_rules.called.Called.{Called}
-use Rattle.value_flow.specs.flow_rules.Methods.{Setting, with_locals, with_body, setting_in, setting_at, setting_of}
+use Rattle.rules.specs.declared.flow_rules.called.Called.{Called}
+use Rattle.rules.specs.flow_rules.Methods.{Setting, with_locals, with_body, setting_in, setting_at, setting_of}
 
 by_own : (asm : ℕ) (rec : AsmRec) (b : Body) (o : Option Called) (l : Option ℕ) (s : Setting)
     → option_and_then (λ own. option_map (with_locals asm rec own b) l) o ≡ Some s → s.asm ≡ asm

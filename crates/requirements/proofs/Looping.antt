@@ -1,9 +1,9 @@
 -- One more argument of a call.
 use Rattle.std.proofs.Common.{◌≡◌, ℕ, suc, ◌+◌, ◌-◌, ◌<◌, List, ◌++◌, sym, ap, ◌∙◌, arith, append_assoc}
 use Rattle.il_base.specs.declared.ids.MethodId.{MethodId}
-use Rattle.site_kinds.specs.declared.site_rules.site.Site.{Site}
-use Rattle.site_kinds.specs.site_rules.Values.{Flowed}
-use Rattle.site_kinds.specs.site_rules.Bodies.{argument_site, arguments_from}
+use Rattle.rules.specs.declared.site_rules.site.Site.{Site}
+use Rattle.rules.specs.site_rules.Values.{Flowed}
+use Rattle.rules.specs.site_rules.Bodies.{argument_site, arguments_from}
 
 pub one_argument : (f : Flowed) (offset : ℕ) (m : MethodId) (n j : ℕ) (before after goal : List Site) → j < n
     → after ≡ before ++ argument_site f offset m n j

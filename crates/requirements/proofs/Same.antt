@@ -9,16 +9,17 @@ use Rattle.il_base.specs.declared.world_model.record.AsmRec.{AsmRec}
 use Rattle.rules.specs.declared.link_rules.row_at.RowAt.{RowAt}
 use Rattle.il_base.specs.world_model.Worlds.{type_id}
 use Rattle.rules.specs.type_rules.Slots.{method_home, type_of_method}
-use Rattle.value_flow.specs.stack_depths.Depths.{depth_at}
-use Rattle.value_flow.specs.flow_rules.Methods.{Setting, setting_of}
-use Rattle.value_flow.specs.flow_rules.Steps.{offsets, place_in}
+use Rattle.rules.specs.flow_rules.Depths.{depth_at}
+use Rattle.rules.specs.flow_rules.Methods.{Setting, setting_of}
+use Rattle.rules.specs.flow_rules.Steps.{offsets, place_in}
 use Rattle.value_flow.specs.declared.body_graph.graph.Graph.{Graph}
 use Rattle.value_flow.specs.declared.body_graph.places.Places.{Places}
 use Rattle.value_flow.specs.body_graph.Places.{ArePlaces, place_at}
 use Rattle.value_flow.specs.body_graph.Graphs.{depth_of}
 use Rattle.value_flow.specs.declared.flow.Flow.{Flow}
-use Rattle.value_flow.specs.Flows.{owner_of, Carries, is_carried}
-use Rattle.site_kinds.specs.site_rules.Values.{Flowed}
+use Rattle.rules.specs.flow_rules.Flows.{owner_of, Carries}
+use Rattle.value_flow.specs.Flows.{is_carried}
+use Rattle.rules.specs.site_rules.Values.{Flowed}
 use Rattle.requirements.specs.Ties.{IsFlowed, IsFlowOn}
 
 same_truth : {P : Type 0} (b c : Bool) → b ≡ true ↔ P → c ≡ true ↔ P → b ≡ c

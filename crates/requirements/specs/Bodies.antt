@@ -2,11 +2,11 @@
 use Rattle.std.specs.Prelude.{◌≡◌, Some, slice_get}
 use Rattle.mark_parts.specs.mark_tables.Assemblies.{all_of}
 use Rattle.site_kinds.specs.Known.{IsAnnotated}
-use Rattle.value_flow.specs.flow_rules.Moves.{sources_of}
+use Rattle.rules.specs.flow_rules.Moves.{sources_of}
 use Rattle.value_flow.specs.body_graph.Methods.{setting_in}
 use Rattle.value_flow.specs.body_graph.Graphs.{depth_of}
 use Rattle.value_flow.specs.Flows.{is_carried}
-use Rattle.site_kinds.specs.site_rules.Values.{Flowed}
+use Rattle.rules.specs.site_rules.Values.{Flowed}
 use Rattle.requirements.specs.declared.body.Body.{Body}
 
 abbrev pub flowed : Body → Flowed

@@ -5,15 +5,16 @@ use Rattle.il_base.specs.declared.ids.MethodId.{MethodId}
 use Rattle.il_base.specs.declared.world_model.record.AsmRec.{AsmRec}
 use Rattle.rules.specs.link_rules.Cycles.{listed}
 use Rattle.rules.specs.type_rules.Slots.{method_home}
-use Rattle.value_flow.specs.stack_depths.Depths.{depth_at}
-use Rattle.value_flow.specs.flow_rules.Methods.{Setting, setting_of}
-use Rattle.value_flow.specs.flow_rules.Steps.{offsets, place_in}
+use Rattle.rules.specs.flow_rules.Depths.{depth_at}
+use Rattle.rules.specs.flow_rules.Methods.{Setting, setting_of}
+use Rattle.rules.specs.flow_rules.Steps.{offsets, place_in}
 use Rattle.value_flow.specs.body_graph.Graphs.{IsGraph}
 use Rattle.value_flow.specs.declared.flow.Flow.{Flow}
-use Rattle.value_flow.specs.Flows.{owner_of, Carries, IsFlow}
-use Rattle.site_kinds.specs.declared.site_rules.site.Site.{Site}
-use Rattle.site_kinds.specs.site_rules.Values.{Flowed}
-use Rattle.site_kinds.specs.site_rules.Bodies.{head_sites, sites_of_body}
+use Rattle.rules.specs.flow_rules.Flows.{owner_of, Carries}
+use Rattle.value_flow.specs.Flows.{IsFlow}
+use Rattle.rules.specs.declared.site_rules.site.Site.{Site}
+use Rattle.rules.specs.site_rules.Values.{Flowed}
+use Rattle.rules.specs.site_rules.Bodies.{head_sites, sites_of_body}
 
 -- a method of a world, where the evaluation stack has these depths, and what walks carry is carried
 pub record IsFlowed (recs : List AsmRec) (m : MethodId) (depths : List (Option ℕ)) (f : Flowed) : Type 0 where

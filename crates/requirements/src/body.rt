@@ -4,11 +4,11 @@ ghost use Rattle.std.specs.Prelude.{◌≡◌, ◌+◌, ◌-◌, suc, IfOk};
 ghost use Rattle.std.specs.Option.{option_copied, option_and_then};
 ghost use Rattle.il_base.specs.declared.table.TheConstants.{METHOD_DEF};
 ghost use Rattle.il_base.specs.world_model.Tokens.{token_of};
-ghost use Rattle.value_flow.specs.flow_rules.Counts.{one_if};
-ghost use Rattle.value_flow.specs.flow_rules.Moves.{fixed_in, token_in, named_use, named_field};
+ghost use Rattle.rules.specs.flow_rules.Counts.{one_if};
+ghost use Rattle.rules.specs.flow_rules.Moves.{fixed_in, token_in, named_use, named_field};
 ghost use Rattle.value_flow.specs.body_graph.Methods.{setting_in};
 ghost use Rattle.mark_parts.specs.mark_tables.Assemblies.{all_of};
-ghost use Rattle.site_kinds.specs.site_rules.Values.{place_of};
+ghost use Rattle.rules.specs.site_rules.Values.{place_of};
 ghost use Rattle.requirements.specs.Bodies.{flowed, IsBody};
 
 use crate::generic_sites::links::{field_named, method_named};

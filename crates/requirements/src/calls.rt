@@ -4,7 +4,7 @@ ghost use Rattle.std.specs.Prelude.{◌≡◌, ◌++◌, OnOk};
 ghost use Rattle.std.specs.List.{flat_map};
 ghost use Rattle.std.specs.Option.{option_copied};
 ghost use Rattle.rules.specs.link_rules.Cycles.{listed};
-ghost use Rattle.site_kinds.specs.site_rules.Bodies.{argument_site, arguments_from, of_arguments, of_member, call_sites, creation_call_sites};
+ghost use Rattle.rules.specs.site_rules.Bodies.{argument_site, arguments_from, of_arguments, of_member, call_sites, creation_call_sites};
 ghost use Rattle.requirements.specs.Bodies.{flowed, IsBody};
 ghost use Rattle.requirements.specs.Calls.{called_sites};
 
@@ -14,11 +14,11 @@ use crate::reflected::put_member;
 use crate::values::value_from_top;
 use il_base::world_model::MethodUse;
 use il_base::{MethodId, NoMemory, Seq};
+use rules::flow_rules::Called;
+use rules::site_rules::{Site, Target};
 use site_kinds::annotated::parameter_kinds;
-use site_kinds::site_rules::{Site, Target};
 use std::alloc::Global;
 use value_flow::body_graph::signatures::called_in;
-use value_flow::flow_rules::Called;
 
 /// Puts the site of an argument at the end, where its parameter, counted from 0 without `this`, has an annotation. There are `n`
 /// parameters.
@@ -58,7 +58,7 @@ fn put_all(
 }
 
 /// Puts the sites of the arguments of a method at the end.
-#[tactic(auto, unfolding(site_kinds::specs::site_rules::Bodies::of_arguments))]
+#[tactic(auto, unfolding(rules::specs::site_rules::Bodies::of_arguments))]
 fn put_arguments(
     alloc: Global,
     body: &Body<'_, '_, '_, '_>,

@@ -7,7 +7,7 @@ ghost use Rattle.rules.specs.declared.link_rules.row_at.RowAt.{RowAt};
 ghost use Rattle.rules.specs.type_rules.Slots.{type_of_method};
 ghost use Rattle.mark_parts.specs.mark_tables.Assemblies.{all_of};
 ghost use Rattle.site_kinds.specs.Known.{IsAnnotated};
-ghost use Rattle.site_kinds.specs.site_rules.Bodies.{head_sites, sites_of_body};
+ghost use Rattle.rules.specs.site_rules.Bodies.{head_sites, sites_of_body};
 ghost use Rattle.requirements.specs.Bodies.{flowed, IsBody};
 ghost use Rattle.requirements.specs.Ties.{AreSites, IsItsFlow, plain_sites};
 
@@ -19,8 +19,8 @@ use il_base::{MethodId, NoMemory, Seq, TypeId};
 use mark_parts::mark_facts::parts::Parts;
 use mark_parts::mark_facts::rows::type_at;
 use rules::link_rules::RowAt;
+use rules::site_rules::Site;
 use site_kinds::known::Annotated;
-use site_kinds::site_rules::Site;
 use std::alloc::Global;
 use type_tables::methods::{method_home, type_of_method};
 use value_flow::Flow;
@@ -81,7 +81,7 @@ pub fn plain_sites(
 }
 
 /// The sites of a method whose flow is known: of its signature, its locals, and its code.
-#[tactic(auto, unfolding(site_kinds::specs::site_rules::Bodies::sites_of_body, site_kinds::specs::site_rules::Bodies::code_sites))]
+#[tactic(auto, unfolding(rules::specs::site_rules::Bodies::sites_of_body, rules::specs::site_rules::Bodies::code_sites))]
 fn sites_of_body(alloc: Global, body: &Body<'_, '_, '_, '_>) -> Result<Seq<Site>, NoMemory>
     requires { IsBody body.now }
     ensures { IfOk result (λ sites. sites ≡ sites_of_body (flowed body.now)) }

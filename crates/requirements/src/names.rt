@@ -2,11 +2,11 @@
 
 ghost use Rattle.std.specs.Prelude.{◌≡◌, ◌++◌, IfOk, OnOk};
 ghost use Rattle.std.specs.List.{flat_map, list_all};
-ghost use Rattle.site_kinds.specs.site_rules.Values.{is_known_name, name_in, known_names};
+ghost use Rattle.rules.specs.site_rules.Values.{is_known_name, name_in, known_names};
 
 use il_base::{NoMemory, Seq, Units};
+use rules::flow_rules::Source;
 use std::alloc::Global;
-use value_flow::flow_rules::Source;
 
 fn is_known_name(s: &Source) -> bool
     ensures { result ≡ is_known_name s.now }
@@ -70,7 +70,7 @@ fn all_known(sources: &[Source]) -> bool
 }
 
 /// The texts of a name, where each source is a known text or null.
-#[tactic(auto, unfolding(site_kinds::specs::site_rules::Values::known_names))]
+#[tactic(auto, unfolding(rules::specs::site_rules::Values::known_names))]
 pub(crate) fn known_names(alloc: Global, sources: &[Source]) -> Result<Option<Seq<Units>>, NoMemory>
     ensures { IfOk result (λ names. names ≡ known_names sources.now) }
 {

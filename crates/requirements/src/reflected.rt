@@ -1,8 +1,8 @@
 //! What the members of reflection take, and the names that they look for.
 
 ghost use Rattle.std.specs.Prelude.{◌≡◌, ◌++◌, ◌+◌, IfOk, OnOk};
-ghost use Rattle.value_flow.specs.flow_rules.Counts.{one_if};
-ghost use Rattle.site_kinds.specs.site_rules.Bodies.{names_of_call, search_sites, creation_sites, name_sites, of_member};
+ghost use Rattle.rules.specs.flow_rules.Counts.{one_if};
+ghost use Rattle.rules.specs.site_rules.Bodies.{names_of_call, search_sites, creation_sites, name_sites, of_member};
 ghost use Rattle.requirements.specs.Bodies.{flowed, IsBody};
 
 use crate::body::Body;
@@ -10,11 +10,11 @@ use crate::generic_sites::asking::put_asking;
 use crate::names::known_names;
 use crate::values::value_from_top;
 use il_base::{MethodId, NoMemory, Seq, Units};
+use rules::flow_rules::Called;
 use rules::mark_rules::member_kinds;
+use rules::site_rules::{Site, Target};
 use site_kinds::reflection::{is_creation, is_name_search, searched_kinds};
-use site_kinds::site_rules::{Site, Target};
 use std::alloc::Global;
-use value_flow::flow_rules::Called;
 
 fn params_in(c: Called) -> Result<u32, NoMemory>
     ensures { IfOk result (λ n. n ≡ c.params) }
@@ -150,7 +150,7 @@ fn put_name_site(
 }
 
 /// Puts the sites of a call of a member of reflection at the end; there are none of any other method.
-#[tactic(auto, unfolding(site_kinds::specs::site_rules::Bodies::of_member), using(crate::proofs::Lists::two_put))]
+#[tactic(auto, unfolding(rules::specs::site_rules::Bodies::of_member), using(crate::proofs::Lists::two_put))]
 pub(crate) fn put_member(
     alloc: Global,
     body: &Body<'_, '_, '_, '_>,

@@ -4,8 +4,8 @@ ghost use Rattle.std.specs.Prelude.{◌≡◌, ◌++◌, OnOk};
 ghost use Rattle.std.specs.List.{flat_map};
 ghost use Rattle.std.specs.Option.{option_copied};
 ghost use Rattle.rules.specs.link_rules.Cycles.{listed};
-ghost use Rattle.value_flow.specs.flow_rules.Moves.{is_field_load, is_field_store};
-ghost use Rattle.site_kinds.specs.site_rules.Bodies.{field_sites, return_sites, use_sites, operand_sites, instruction_sites};
+ghost use Rattle.rules.specs.flow_rules.Moves.{is_field_load, is_field_store};
+ghost use Rattle.rules.specs.site_rules.Bodies.{field_sites, return_sites, use_sites, operand_sites, instruction_sites};
 ghost use Rattle.requirements.specs.Bodies.{flowed, IsBody};
 
 use crate::body::Body;
@@ -15,8 +15,8 @@ use crate::generic_sites::operands::{Row, put_operand};
 use crate::values::{anything_at, value_from_top};
 use il_base::world_model::{FieldUse, token_of};
 use il_base::{Form, Instr, NoMemory, Seq, opcode, table};
+use rules::site_rules::{Site, Target};
 use site_kinds::annotated::{field_kinds, return_kinds};
-use site_kinds::site_rules::{Site, Target};
 use std::alloc::Global;
 
 fn is_store(code: u16) -> bool
@@ -93,7 +93,7 @@ fn put_return(
 }
 
 /// Puts the sites of what an instruction does at the end.
-#[tactic(auto, unfolding(site_kinds::specs::site_rules::Bodies::use_sites), using(crate::proofs::Lists::none_more))]
+#[tactic(auto, unfolding(rules::specs::site_rules::Bodies::use_sites), using(crate::proofs::Lists::none_more))]
 fn put_use(
     alloc: Global,
     body: &Body<'_, '_, '_, '_>,

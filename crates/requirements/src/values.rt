@@ -2,15 +2,15 @@
 
 ghost use Rattle.std.specs.Prelude.{◌≡◌, ◌++◌, ◌∷◌, [], IfOk, OnOk};
 ghost use Rattle.value_flow.specs.Flows.{is_carried};
-ghost use Rattle.site_kinds.specs.site_rules.Values.{kept_from, carried_to, value_from_top, anything_at};
+ghost use Rattle.rules.specs.site_rules.Values.{kept_from, carried_to, value_from_top, anything_at};
 ghost use Rattle.requirements.specs.Bodies.{flowed, IsBody};
 
 use crate::body::{Body, slot_from_top};
 use crate::generic_sites::asking::only;
 use il_base::{NoMemory, Seq};
+use rules::flow_rules::Source;
 use std::alloc::Global;
 use value_flow::Flow;
-use value_flow::flow_rules::Source;
 
 /// A copy of a source.
 fn copy_of(alloc: Global, s: &Source) -> Result<Source, NoMemory>
@@ -57,7 +57,7 @@ fn kept(
 }
 
 /// The sources that are carried to a slot at the instruction at an offset.
-#[tactic(auto, unfolding(site_kinds::specs::site_rules::Values::carried_to))]
+#[tactic(auto, unfolding(rules::specs::site_rules::Values::carried_to))]
 fn carried_to(
     alloc: Global,
     body: &Body<'_, '_, '_, '_>,
@@ -73,7 +73,7 @@ fn carried_to(
 }
 
 /// The sources of the n-th value from the top of the stack, counted from 1; none at an instruction that no walk reaches.
-#[tactic(auto, unfolding(site_kinds::specs::site_rules::Values::value_from_top))]
+#[tactic(auto, unfolding(rules::specs::site_rules::Values::value_from_top))]
 pub(crate) fn value_from_top(
     alloc: Global,
     body: &Body<'_, '_, '_, '_>,
@@ -94,7 +94,7 @@ pub(crate) fn value_from_top(
 }
 
 /// Anything, at an instruction that a walk reaches.
-#[tactic(auto, unfolding(site_kinds::specs::site_rules::Values::anything_at))]
+#[tactic(auto, unfolding(rules::specs::site_rules::Values::anything_at))]
 pub(crate) fn anything_at(
     alloc: Global,
     body: &Body<'_, '_, '_, '_>,

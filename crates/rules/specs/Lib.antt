@@ -4,6 +4,8 @@ pub mod record_layout
 pub mod link_rules
 pub mod type_rules
 pub mod step_rules
+pub mod flow_rules
+pub mod site_rules
 pub mod mark_rules
 pub mod view_rules
 pub mod change_rules

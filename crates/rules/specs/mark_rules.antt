@@ -11,7 +11,10 @@ pub mod Annotations
 pub mod Dependencies
 pub mod Roots
 pub mod Shown
+pub mod FlowMarks
+pub mod ReflectedShown
 pub mod Marking
 pub mod BadItems
+pub mod FlowFlaws
 pub mod NotYet
 pub mod KeepList

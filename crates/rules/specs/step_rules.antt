@@ -24,6 +24,8 @@ pub mod CoreConsole
 pub mod CoreArrays
 pub mod CoreTypes
 pub mod CoreMaking
+pub mod CoreInvoking
+pub mod CoreFields
 pub mod CoreMembers
 pub mod Core
 pub mod Calls

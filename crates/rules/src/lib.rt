@@ -7,12 +7,14 @@
 
 pub mod change_rules;
 pub mod file_layout;
+pub mod flow_rules;
 pub mod link_rules;
 pub mod mark_rules;
 pub mod merge_rules;
 pub mod merged_world_rules;
 pub mod record_format;
 pub mod record_layout;
+pub mod site_rules;
 pub mod step_rules;
 pub mod type_rules;
 pub mod view_rules;

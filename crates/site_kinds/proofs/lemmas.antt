@@ -1,2 +1,1 @@
-pub mod site_rules
 pub mod annotation_flags

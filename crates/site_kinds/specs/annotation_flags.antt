@@ -1,4 +1,3 @@
 pub mod Told
 pub mod Slots
-pub mod Flags
 pub mod Unreferenced

@@ -3,7 +3,7 @@
 ghost use Rattle.std.specs.Prelude.{◌≡◌, IfOk};
 ghost use Rattle.mark_parts.specs.mark_tables.Assemblies.{all_of};
 ghost use Rattle.site_kinds.specs.Known.{IsAnnotated};
-ghost use Rattle.site_kinds.specs.site_rules.Kinds.{field_home, parameter_kinds, return_kinds, field_kinds, type_kinds, own_method_kinds, promised};
+ghost use Rattle.rules.specs.site_rules.Kinds.{field_home, parameter_kinds, return_kinds, field_kinds, type_kinds, own_method_kinds, promised};
 
 use crate::annotation_flags::flags::flags_of;
 use crate::annotation_flags::holder::Holder;
@@ -11,14 +11,14 @@ use crate::known::Annotated;
 use il_base::world_model::AsmRec;
 use il_base::{FieldId, Item, MethodId, NoMemory, TypeId};
 use mark_parts::mark_facts::rows::row_of;
+use rules::flow_rules::Source;
 use rules::link_rules::RowAt;
 use std::alloc::Global;
 use type_tables::member_search::homes::type_home;
 use type_tables::methods::method_home;
-use value_flow::flow_rules::Source;
 
 /// The kinds of a parameter of a method, counted from 0 without `this`.
-#[tactic(auto, unfolding(crate::specs::site_rules::Kinds::parameter_kinds))]
+#[tactic(auto, unfolding(rules::specs::site_rules::Kinds::parameter_kinds))]
 pub fn parameter_kinds(
     alloc: Global,
     annotated: &Annotated<'_>,
@@ -42,7 +42,7 @@ pub fn parameter_kinds(
 }
 
 /// The kinds of what a method returns.
-#[tactic(auto, unfolding(crate::specs::site_rules::Kinds::return_kinds))]
+#[tactic(auto, unfolding(rules::specs::site_rules::Kinds::return_kinds))]
 pub fn return_kinds(alloc: Global, annotated: &Annotated<'_>, m: MethodId) -> Result<u32, NoMemory>
     requires { IsAnnotated annotated.now }
     ensures { IfOk result (λ kinds. kinds ≡ return_kinds (all_of annotated.now.marker.now) m) }
@@ -72,7 +72,7 @@ pub(crate) fn field_home(all: &[AsmRec], f: FieldId) -> Result<Option<RowAt>, No
 }
 
 /// The kinds of a field.
-#[tactic(auto, unfolding(crate::specs::site_rules::Kinds::field_kinds))]
+#[tactic(auto, unfolding(rules::specs::site_rules::Kinds::field_kinds))]
 pub fn field_kinds(alloc: Global, annotated: &Annotated<'_>, f: FieldId) -> Result<u32, NoMemory>
     requires { IsAnnotated annotated.now }
     ensures { IfOk result (λ kinds. kinds ≡ field_kinds (all_of annotated.now.marker.now) f) }
@@ -86,7 +86,7 @@ pub fn field_kinds(alloc: Global, annotated: &Annotated<'_>, f: FieldId) -> Resu
 }
 
 /// The kinds of a generic parameter of a type, counted from 0.
-#[tactic(auto, unfolding(crate::specs::site_rules::Kinds::type_kinds))]
+#[tactic(auto, unfolding(rules::specs::site_rules::Kinds::type_kinds))]
 pub fn type_kinds(
     alloc: Global,
     annotated: &Annotated<'_>,
@@ -110,7 +110,7 @@ pub fn type_kinds(
 }
 
 /// The kinds of a generic parameter of a method, counted from 0.
-#[tactic(auto, unfolding(crate::specs::site_rules::Kinds::own_method_kinds))]
+#[tactic(auto, unfolding(rules::specs::site_rules::Kinds::own_method_kinds))]
 pub fn own_method_kinds(
     alloc: Global,
     annotated: &Annotated<'_>,
@@ -134,7 +134,7 @@ pub fn own_method_kinds(
 }
 
 /// The kinds that the annotation of a source's holder promises, in the method `m`; 0 without one.
-#[tactic(auto, unfolding(crate::specs::site_rules::Kinds::promised))]
+#[tactic(auto, unfolding(rules::specs::site_rules::Kinds::promised))]
 pub fn promised(
     alloc: Global,
     annotated: &Annotated<'_>,

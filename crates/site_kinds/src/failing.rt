@@ -3,16 +3,16 @@
 ghost use Rattle.std.specs.Prelude.{◌≡◌, ◌==◌, ◌&&◌, not, IfOk};
 ghost use Rattle.mark_parts.specs.mark_tables.Assemblies.{all_of};
 ghost use Rattle.site_kinds.specs.Known.{IsAnnotated};
-ghost use Rattle.site_kinds.specs.site_rules.Kinds.{promised};
-ghost use Rattle.site_kinds.specs.site_rules.Fails.{is_text_slot, has_all, fails_name, fails_kinds, fails};
+ghost use Rattle.rules.specs.site_rules.Kinds.{promised};
+ghost use Rattle.rules.specs.site_rules.Fails.{is_text_slot, has_all, fails_name, fails_kinds, fails};
 
 use crate::annotated::promised;
 use crate::known::Annotated;
-use crate::site_rules::Target;
 use crate::texts::is_text_slot;
 use il_base::{MethodId, NoMemory};
+use rules::flow_rules::Source;
+use rules::site_rules::Target;
 use std::alloc::Global;
-use value_flow::flow_rules::Source;
 
 /// Whether an annotation is missing.
 fn promises_nothing(
@@ -112,7 +112,7 @@ fn fails_kinds(
 
 /// Whether a source in a slot of the method `m` fails at a target that asks for these kinds of members: nothing is known of it, or its
 /// annotation lacks one of them. Where a name is looked for, anything and what has no annotation fails.
-#[tactic(auto, unfolding(crate::specs::site_rules::Fails::fails))]
+#[tactic(auto, unfolding(rules::specs::site_rules::Fails::fails))]
 pub fn fails(
     alloc: Global,
     annotated: &Annotated<'_>,

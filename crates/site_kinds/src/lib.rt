@@ -7,5 +7,4 @@ pub mod annotation_flags;
 pub mod failing;
 pub mod known;
 pub mod reflection;
-pub mod site_rules;
 pub mod texts;

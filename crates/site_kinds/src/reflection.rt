@@ -3,10 +3,10 @@
 ghost use Rattle.std.specs.Prelude.{◌≡◌, ◌==◌, bit_or, IfOk};
 ghost use Rattle.std.specs.Option.{option_copied};
 ghost use Rattle.rules.specs.type_rules.Rows.{type_row_at};
-ghost use Rattle.value_flow.specs.flow_rules.Sources.{is_called};
+ghost use Rattle.rules.specs.flow_rules.Sources.{is_called};
 ghost use Rattle.mark_parts.specs.mark_tables.Assemblies.{all_of};
 ghost use Rattle.site_kinds.specs.Known.{IsAnnotated};
-ghost use Rattle.site_kinds.specs.site_rules.Kinds.{is_system_class, is_core_class, is_of_class, is_core_member, is_name_search, is_type_search, searched_kinds, is_creation, has_one_parameter, made_kinds, method_kinds};
+ghost use Rattle.rules.specs.site_rules.Kinds.{is_system_class, is_core_class, is_of_class, is_core_member, is_name_search, is_type_search, searched_kinds, is_creation, has_one_parameter, made_kinds, method_kinds};
 
 use crate::annotated::own_method_kinds;
 use crate::annotation_flags::types::signature_at;
@@ -68,7 +68,7 @@ fn is_of_class(annotated: &Annotated<'_>, class: &[u8], at: RowAt) -> Result<boo
 }
 
 /// Whether a method is a member of a class in the namespace System of the core library, by their names.
-#[tactic(auto, unfolding(crate::specs::site_rules::Kinds::is_core_member))]
+#[tactic(auto, unfolding(rules::specs::site_rules::Kinds::is_core_member))]
 fn is_core_member(
     annotated: &Annotated<'_>,
     m: MethodId,
@@ -93,7 +93,7 @@ fn is_core_member(
 }
 
 /// Whether a method is `Type.GetType`.
-#[tactic(auto, unfolding(crate::specs::site_rules::Kinds::is_name_search))]
+#[tactic(auto, unfolding(rules::specs::site_rules::Kinds::is_name_search))]
 pub fn is_name_search(annotated: &Annotated<'_>, m: MethodId) -> Result<bool, NoMemory>
     requires { IsAnnotated annotated.now }
     ensures { IfOk result (λ is. is ≡ is_name_search (all_of annotated.now.marker.now) m) }
@@ -102,7 +102,7 @@ pub fn is_name_search(annotated: &Annotated<'_>, m: MethodId) -> Result<bool, No
 }
 
 /// Whether a method is a search for one or for all members of a kind.
-#[tactic(auto, unfolding(crate::specs::site_rules::Kinds::is_type_search))]
+#[tactic(auto, unfolding(rules::specs::site_rules::Kinds::is_type_search))]
 fn is_type_search(
     annotated: &Annotated<'_>,
     m: MethodId,
@@ -118,7 +118,7 @@ fn is_type_search(
 }
 
 /// What a search asks for of the type that it is called on; 0 for any other method.
-#[tactic(auto, unfolding(crate::specs::site_rules::Kinds::searched_kinds))]
+#[tactic(auto, unfolding(rules::specs::site_rules::Kinds::searched_kinds))]
 pub fn searched_kinds(annotated: &Annotated<'_>, m: MethodId) -> Result<u32, NoMemory>
     requires { IsAnnotated annotated.now }
     ensures { IfOk result (λ kinds. kinds ≡ searched_kinds (all_of annotated.now.marker.now) m) }
@@ -139,7 +139,7 @@ pub fn searched_kinds(annotated: &Annotated<'_>, m: MethodId) -> Result<u32, NoM
 }
 
 /// Whether a method is `Activator.CreateInstance`.
-#[tactic(auto, unfolding(crate::specs::site_rules::Kinds::is_creation))]
+#[tactic(auto, unfolding(rules::specs::site_rules::Kinds::is_creation))]
 pub fn is_creation(annotated: &Annotated<'_>, m: MethodId) -> Result<bool, NoMemory>
     requires { IsAnnotated annotated.now }
     ensures { IfOk result (λ is. is ≡ is_creation (all_of annotated.now.marker.now) m) }
@@ -148,7 +148,7 @@ pub fn is_creation(annotated: &Annotated<'_>, m: MethodId) -> Result<bool, NoMem
 }
 
 /// Whether a method has one generic parameter.
-#[tactic(auto, unfolding(crate::specs::site_rules::Kinds::has_one_parameter))]
+#[tactic(auto, unfolding(rules::specs::site_rules::Kinds::has_one_parameter))]
 fn has_one_parameter(annotated: &Annotated<'_>, m: MethodId) -> Result<bool, NoMemory>
     requires { IsAnnotated annotated.now }
     ensures { IfOk result (λ has. has ≡ has_one_parameter (all_of annotated.now.marker.now) m) }
@@ -166,7 +166,7 @@ fn has_one_parameter(annotated: &Annotated<'_>, m: MethodId) -> Result<bool, NoM
 }
 
 /// What `Activator.CreateInstance<T>` asks for of T; 0 for any other method.
-#[tactic(auto, unfolding(crate::specs::site_rules::Kinds::made_kinds))]
+#[tactic(auto, unfolding(rules::specs::site_rules::Kinds::made_kinds))]
 fn made_kinds(annotated: &Annotated<'_>, m: MethodId, k: u32) -> Result<u32, NoMemory>
     requires { IsAnnotated annotated.now }
     ensures { IfOk result (λ kinds. kinds ≡ made_kinds (all_of annotated.now.marker.now) m k) }

@@ -10,23 +10,23 @@ ghost use Rattle.rules.specs.type_rules.Slots.{method_home};
 ghost use Rattle.rules.specs.mark_rules.Annotations.{good_expr};
 ghost use Rattle.mark_parts.specs.mark_tables.Assemblies.{recs_of, place_of, rec_of, all_of, IsAssembly};
 ghost use Rattle.site_kinds.specs.Known.{IsAnnotated};
-ghost use Rattle.site_kinds.specs.site_rules.Fails.{is_string, takes_string, field_is_string, is_text_slot};
-ghost use Rattle.site_kinds.specs.Signatures.{parameter_slot, return_slot, slot_type, any_of};
+ghost use Rattle.rules.specs.site_rules.Fails.{is_string, takes_string, field_is_string, is_text_slot};
+ghost use Rattle.rules.specs.site_rules.Signatures.{parameter_slot, return_slot, slot_type, any_of};
 
 use crate::annotated::field_home;
 use crate::annotation_flags::types::{parameter_type, return_type};
 use crate::known::Annotated;
-use crate::site_rules::Target;
 use il_base::world_model::{FieldRow, Known, TypeExpr};
 use il_base::{FieldId, MethodId, NoMemory, element};
 use mark_parts::mark_tables::assembly::Assembly;
 use rules::link_rules::RowAt;
+use rules::site_rules::Target;
 use std::alloc::Global;
 use type_tables::member_search::method_types::open_type;
 use type_tables::methods::method_home;
 
 /// Whether a type is `string`, modifiers aside.
-#[tactic(auto, unfolding(crate::specs::site_rules::Fails::is_string))]
+#[tactic(auto, unfolding(rules::specs::site_rules::Fails::is_string))]
 fn is_string(e: &TypeExpr) -> bool
     ensures { result ≡ is_string e.now }
 {
@@ -153,7 +153,7 @@ fn field_at_is_text(alloc: Global, annotated: &Annotated<'_>, at: RowAt) -> Resu
 }
 
 /// Whether a field is a text.
-#[tactic(auto, unfolding(crate::specs::site_rules::Fails::is_text_slot))]
+#[tactic(auto, unfolding(rules::specs::site_rules::Fails::is_text_slot))]
 fn field_is_text(alloc: Global, annotated: &Annotated<'_>, f: FieldId) -> Result<bool, NoMemory>
     requires { IsAnnotated annotated.now }
     ensures { IfOk result (λ is. is ≡ is_text_slot (all_of annotated.now.marker.now) (Target.Field f)) }
@@ -167,7 +167,7 @@ fn field_is_text(alloc: Global, annotated: &Annotated<'_>, f: FieldId) -> Result
 }
 
 /// Whether a target is a slot of a text.
-#[tactic(auto, unfolding(crate::specs::site_rules::Fails::is_text_slot))]
+#[tactic(auto, unfolding(rules::specs::site_rules::Fails::is_text_slot))]
 pub fn is_text_slot(alloc: Global, annotated: &Annotated<'_>, to: Target) -> Result<bool, NoMemory>
     requires { IsAnnotated annotated.now }
     ensures { IfOk result (λ is. is ≡ is_text_slot (all_of annotated.now.marker.now) to) }

@@ -6,17 +6,18 @@ use Rattle.il_base.specs.declared.ids.TypeId.{TypeId}
 use Rattle.il_base.specs.declared.world_model.record.AsmRec.{AsmRec}
 use Rattle.value_flow.specs.declared.slot_flow.walks.Reached.{Reached}
 use Rattle.value_flow.specs.slot_flow.Found.{is_found}
-use Rattle.value_flow.specs.declared.flow_rules.source.Source.{Source}
-use Rattle.value_flow.specs.flow_rules.Methods.{Setting, setting_of}
-use Rattle.value_flow.specs.flow_rules.Steps.{offsets}
-use Rattle.value_flow.specs.flow_rules.Moves.{sources_of}
+use Rattle.rules.specs.declared.flow_rules.source.Source.{Source}
+use Rattle.rules.specs.flow_rules.Methods.{Setting, setting_of}
+use Rattle.rules.specs.flow_rules.Steps.{offsets}
+use Rattle.rules.specs.flow_rules.Moves.{sources_of}
 use Rattle.value_flow.specs.declared.body_graph.graph.Graph.{Graph}
 use Rattle.value_flow.specs.body_graph.Places.{place_at}
 use Rattle.value_flow.specs.body_graph.Graphs.{IsGraph}
 use Rattle.value_flow.proofs.lemmas.body_graph.PlaceLemmas.{place_is}
 use Rattle.value_flow.specs.declared.flow.Flow.{Flow}
 use Rattle.value_flow.specs.declared.flow.FlowError.{FlowError}
-use Rattle.value_flow.specs.Flows.{slots_of, capped, work_of, owner_of, CarriesAt, Carries, is_carried, IsReachedOf, IsFlow, IsFault, IsItsGraph, IsFlowOf}
+use Rattle.rules.specs.flow_rules.Flows.{slots_of, capped, work_of, owner_of, CarriesAt, Carries}
+use Rattle.value_flow.specs.Flows.{is_carried, IsReachedOf, IsFlow, IsFault, IsItsGraph, IsFlowOf}
 
 -- the graph of the method that was found, whose world has these assemblies
 

@@ -7,25 +7,26 @@ use Rattle.std.proofs.lemmas.Option.{slice_get-map}
 use Rattle.std.proofs.lemmas.List.{length-map, length-replicate}
 use Rattle.il_base.specs.declared.ids.TypeId.{TypeId}
 use Rattle.il_base.specs.declared.world_model.record.AsmRec.{AsmRec}
-use Rattle.value_flow.specs.stack_depths.Depths.{depth_at}
+use Rattle.rules.specs.flow_rules.Depths.{depth_at}
 use Rattle.value_flow.specs.declared.slot_flow.moves.Flowing.{Flowing}
-use Rattle.value_flow.specs.declared.slot_flow.moves.Turning.{Turning}
-use Rattle.value_flow.specs.declared.slot_flow.moves.Turning.TheVariants as turning
-use Rattle.value_flow.specs.declared.slot_flow.moves.Move.{Move}
-use Rattle.value_flow.specs.declared.slot_flow.moves.Move.TheVariants as move
+use Rattle.rules.specs.declared.flow_rules.moves.Turning.{Turning}
+use Rattle.rules.specs.declared.flow_rules.moves.Turning.TheVariants as turning
+use Rattle.rules.specs.declared.flow_rules.moves.Move.{Move}
+use Rattle.rules.specs.declared.flow_rules.moves.Move.TheVariants as move
 use Rattle.value_flow.specs.declared.slot_flow.walks.Reached.{Reached}
-use Rattle.value_flow.specs.slot_flow.Carrying.{Carried}
+use Rattle.rules.specs.flow_rules.Carrying.{Carried}
 use Rattle.value_flow.specs.slot_flow.Facts.{flow_in, turned, IsWithin}
 use Rattle.value_flow.specs.slot_flow.Found.{is_found, IsReached}
 use Rattle.value_flow.proofs.lemmas.slot_flow.Lists.{contained}
-use Rattle.value_flow.specs.declared.flow_rules.source.Source.{Source}
-use Rattle.value_flow.specs.declared.flow_rules.source.Source.TheVariants as source
-use Rattle.value_flow.specs.flow_rules.Methods.{Setting}
-use Rattle.value_flow.specs.flow_rules.Sources.{turn}
-use Rattle.value_flow.specs.flow_rules.Counts.{one_if}
-use Rattle.value_flow.specs.flow_rules.Moves.{this_source, parameters_from, parameters, fixed_in, moves_of, begins_of, sources_of, flow_of}
+use Rattle.rules.specs.declared.flow_rules.source.Source.{Source}
+use Rattle.rules.specs.declared.flow_rules.source.Source.TheVariants as source
+use Rattle.rules.specs.flow_rules.Methods.{Setting}
+use Rattle.rules.specs.flow_rules.Sources.{turn}
+use Rattle.rules.specs.flow_rules.Counts.{one_if}
+use Rattle.rules.specs.flow_rules.Moves.{this_source, parameters_from, parameters, fixed_in, moves_of, begins_of, sources_of, flow_of}
 use Rattle.value_flow.specs.Numbers.{number_in, numbered_move}
-use Rattle.value_flow.specs.Flows.{deepest_from, IsNumbered, CarriesAt, IsReachedOf}
+use Rattle.rules.specs.flow_rules.Flows.{deepest_from, CarriesAt}
+use Rattle.value_flow.specs.Flows.{IsNumbered, IsReachedOf}
 use Rattle.value_flow.proofs.Related.{SameMove, loads, stores, twice, back, makes, turns, nothing, Beside, Related, CarriedToo, carried_too}
 use Rattle.value_flow.proofs.Numbering.{opaque_listed, made_listed, turn_listed, begin_listed, numbered_listed, listed_back, places_same, number_below}
 

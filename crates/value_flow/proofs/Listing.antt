@@ -10,9 +10,9 @@ use Rattle.il_base.specs.declared.ids.FieldId.{FieldId}
 use Rattle.il_base.specs.world_model.Core.{same_name}
 use Rattle.rules.specs.link_rules.Cycles.{add_new, add_all}
 use Rattle.value_flow.proofs.lemmas.slot_flow.Lists.{tail_contains}
-use Rattle.value_flow.specs.declared.flow_rules.source.Source.{Source}
-use Rattle.value_flow.specs.declared.flow_rules.source.Source.TheVariants as source
-use Rattle.value_flow.specs.flow_rules.Sources.{same_source}
+use Rattle.rules.specs.declared.flow_rules.source.Source.{Source}
+use Rattle.rules.specs.declared.flow_rules.source.Source.TheVariants as source
+use Rattle.rules.specs.flow_rules.Sources.{same_source}
 
 -- ---- equality of sources
 

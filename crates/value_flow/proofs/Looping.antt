@@ -8,11 +8,11 @@ use Rattle.il_base.specs.declared.body.Instr.{Instr}
 use Rattle.il_base.specs.declared.ids.TypeId.{TypeId}
 use Rattle.il_base.specs.declared.world_model.record.AsmRec.{AsmRec}
 use Rattle.rules.specs.link_rules.Cycles.{add_new, add_all}
-use Rattle.value_flow.specs.declared.flow_rules.source.Source.{Source}
-use Rattle.value_flow.specs.declared.flow_rules.source.Source.TheVariants as source
-use Rattle.value_flow.specs.flow_rules.Methods.{Setting}
-use Rattle.value_flow.specs.flow_rules.Sources.{same_source}
-use Rattle.value_flow.specs.flow_rules.Moves.{parameters_from, parameters, sources_by, sources_of}
+use Rattle.rules.specs.declared.flow_rules.source.Source.{Source}
+use Rattle.rules.specs.declared.flow_rules.source.Source.TheVariants as source
+use Rattle.rules.specs.flow_rules.Methods.{Setting}
+use Rattle.rules.specs.flow_rules.Sources.{same_source}
+use Rattle.rules.specs.flow_rules.Moves.{parameters_from, parameters, sources_by, sources_of}
 use Rattle.value_flow.specs.Numbers.{number_in}
 use Rattle.value_flow.proofs.Listing.{all_append}
 

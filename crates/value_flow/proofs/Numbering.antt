@@ -13,16 +13,16 @@ use Rattle.il_base.specs.declared.body.Instr.{Instr}
 use Rattle.il_base.specs.declared.world_model.expr.MethodUse.{MethodUse}
 use Rattle.il_base.specs.declared.world_model.record.AsmRec.{AsmRec}
 use Rattle.rules.specs.link_rules.Cycles.{listed, add_all}
-use Rattle.value_flow.specs.declared.slot_flow.moves.Turning.{Turning}
-use Rattle.value_flow.specs.declared.slot_flow.moves.Turning.TheVariants as turning
-use Rattle.value_flow.specs.declared.slot_flow.moves.Move.{Move}
-use Rattle.value_flow.specs.declared.slot_flow.moves.Move.TheVariants as move
+use Rattle.rules.specs.declared.flow_rules.moves.Turning.{Turning}
+use Rattle.rules.specs.declared.flow_rules.moves.Turning.TheVariants as turning
+use Rattle.rules.specs.declared.flow_rules.moves.Move.{Move}
+use Rattle.rules.specs.declared.flow_rules.moves.Move.TheVariants as move
 use Rattle.value_flow.proofs.lemmas.slot_flow.Lists.{tail_contains, contained, Among, from_flat, to_flat, from_map}
-use Rattle.value_flow.specs.declared.flow_rules.source.Source.{Source}
-use Rattle.value_flow.specs.declared.flow_rules.source.Source.TheVariants as source
-use Rattle.value_flow.specs.flow_rules.Methods.{Setting}
-use Rattle.value_flow.specs.flow_rules.Sources.{same_source, type_of_text, known_or_null, turn}
-use Rattle.value_flow.specs.flow_rules.Moves.{parameters_from, parameters, this_source, begins_of, with_known, sources_made, return_of, sources_called, sources_by, all_sources, named_use, move_of, moves_of}
+use Rattle.rules.specs.declared.flow_rules.source.Source.{Source}
+use Rattle.rules.specs.declared.flow_rules.source.Source.TheVariants as source
+use Rattle.rules.specs.flow_rules.Methods.{Setting}
+use Rattle.rules.specs.flow_rules.Sources.{same_source, type_of_text, known_or_null, turn}
+use Rattle.rules.specs.flow_rules.Moves.{parameters_from, parameters, this_source, begins_of, with_known, sources_made, return_of, sources_called, sources_by, all_sources, named_use, move_of, moves_of}
 use Rattle.value_flow.specs.Numbers.{number_in}
 use Rattle.value_flow.proofs.Listing.{new_comes, only_those, longer, PlaceOf, place_of, position_below, Distinct, all_distinct, none_distinct}
 

@@ -3,14 +3,14 @@ use Rattle.std.proofs.Common.{◌≡◌, ℕ, zero, suc, List, [], ◌∷◌, �
 use Rattle.std.specs.Prelude.{Option, Some, None, slice_get}
 use Rattle.std.specs.List.{Contains, filter, flat_map}
 use Rattle.std.proofs.lemmas.List.Elements.{Contains-append_left, Contains-append_right, Contains-append_cases}
-use Rattle.value_flow.specs.declared.stack_depths.exit.Way.{Way}
-use Rattle.value_flow.specs.declared.stack_depths.exit.Step.{Step}
-use Rattle.value_flow.specs.declared.stack_depths.exit.Exit.{Exit}
-use Rattle.value_flow.specs.stack_depths.Depths.{depth_at}
-use Rattle.value_flow.specs.declared.slot_flow.moves.Turning.{Turning}
-use Rattle.value_flow.specs.declared.slot_flow.moves.Move.{Move}
-use Rattle.value_flow.specs.declared.slot_flow.moves.Move.TheVariants as move
-use Rattle.value_flow.specs.slot_flow.Carrying.{Flow, Held, held, only_if, stays, lowest, through, made, is_handler, is_caught, passes, before, caught, arriving, along, sent_along, born_along, of_depth, sent, born, is_slot, is_slot_by, Carried, begins, taken, born_at, sent_from}
+use Rattle.rules.specs.declared.flow_rules.exit.Way.{Way}
+use Rattle.rules.specs.declared.flow_rules.exit.Step.{Step}
+use Rattle.rules.specs.declared.flow_rules.exit.Exit.{Exit}
+use Rattle.rules.specs.flow_rules.Depths.{depth_at}
+use Rattle.rules.specs.declared.flow_rules.moves.Turning.{Turning}
+use Rattle.rules.specs.declared.flow_rules.moves.Move.{Move}
+use Rattle.rules.specs.declared.flow_rules.moves.Move.TheVariants as move
+use Rattle.rules.specs.flow_rules.Carrying.{Flow, Held, held, only_if, stays, lowest, through, made, is_handler, is_caught, passes, before, caught, arriving, along, sent_along, born_along, of_depth, sent, born, is_slot, is_slot_by, Carried, begins, taken, born_at, sent_from}
 use Rattle.value_flow.proofs.lemmas.slot_flow.Lists.{tail_contains, from_only, to_only, Among, from_flat, to_flat, from_map, from_filter}
 
 pub data SameMove {A B : Type 0} (R : A → B → Type 0) : Move A → Move B → Type 0 where

@@ -1,7 +1,7 @@
 -- What an instruction does, as the code has it.
-use Rattle.value_flow.specs.declared.slot_flow.moves.Move.{Move}
-use Rattle.value_flow.specs.declared.slot_flow.moves.Move.TheVariants as move
-use Rattle.value_flow.specs.declared.flow_rules.source.Source.{Source}
+use Rattle.rules.specs.declared.flow_rules.moves.Move.{Move}
+use Rattle.rules.specs.declared.flow_rules.moves.Move.TheVariants as move
+use Rattle.rules.specs.declared.flow_rules.source.Source.{Source}
 use Rattle.value_flow.specs.declared.doing.Doing.{Doing}
 use Rattle.value_flow.specs.declared.doing.Doing.TheVariants as doing
 

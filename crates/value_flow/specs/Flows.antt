@@ -1,24 +1,18 @@
 -- The flow of values in a method's body.
-use Rattle.std.specs.Prelude.{◌≡◌, ℕ, ◌+◌, ◌*◌, ◌<◌, ◌≤◌, ◌↔◌, Bool, true, List, [], ◌∷◌, length, map, min, max, slice_get, Option, Some, None, Result, MatchResult}
-use Rattle.std.specs.Option.{option_and_then, option_map}
+use Rattle.std.specs.Prelude.{◌≡◌, ℕ, ◌<◌, ◌≤◌, ◌↔◌, Bool, true, List, length, map, Option, Some, Result, MatchResult}
 use Rattle.il_base.specs.declared.ids.MethodId.{MethodId}
 use Rattle.il_base.specs.declared.ids.TypeId.{TypeId}
 use Rattle.il_base.specs.declared.world_model.record.AsmRec.{AsmRec}
-use Rattle.il_base.specs.world_model.Worlds.{type_id}
-use Rattle.rules.specs.declared.link_rules.row_at.RowAt.{RowAt}
-use Rattle.rules.specs.type_rules.Slots.{method_home, type_of_method}
+use Rattle.rules.specs.declared.flow_rules.moves.Turning.TheVariants as turning
+use Rattle.rules.specs.declared.flow_rules.source.Source.TheVariants as source
+use Rattle.rules.specs.flow_rules.Methods.{Setting, setting_of}
+use Rattle.rules.specs.flow_rules.Exits.{exits_of}
+use Rattle.rules.specs.flow_rules.Sources.{turn}
+use Rattle.rules.specs.flow_rules.Moves.{moves_of, taken_of, begins_of, sources_of}
+use Rattle.rules.specs.flow_rules.Flows.{slots_of, most_work, work_of, owner_of, CarriesAt, Carries}
 use Rattle.value_flow.specs.declared.slot_flow.moves.Flowing.{Flowing}
-use Rattle.value_flow.specs.declared.slot_flow.moves.Turning.TheVariants as turning
 use Rattle.value_flow.specs.declared.slot_flow.walks.Reached.{Reached}
-use Rattle.value_flow.specs.slot_flow.Carrying.{Carried}
 use Rattle.value_flow.specs.slot_flow.Found.{is_found}
-use Rattle.value_flow.specs.declared.flow_rules.source.Source.{Source}
-use Rattle.value_flow.specs.declared.flow_rules.source.Source.TheVariants as source
-use Rattle.value_flow.specs.flow_rules.Methods.{Setting, setting_of}
-use Rattle.value_flow.specs.flow_rules.Steps.{offsets, place_in}
-use Rattle.value_flow.specs.flow_rules.Exits.{exits_of}
-use Rattle.value_flow.specs.flow_rules.Sources.{turn}
-use Rattle.value_flow.specs.flow_rules.Moves.{fixed_in, moves_of, taken_of, begins_of, sources_of, flow_of}
 use Rattle.value_flow.specs.declared.body_graph.graph.Graph.{Graph}
 use Rattle.value_flow.specs.body_graph.Places.{place_at}
 use Rattle.value_flow.specs.body_graph.Graphs.{IsGraph}
@@ -28,46 +22,7 @@ use Rattle.value_flow.specs.declared.flow.FlowError.{FlowError}
 use Rattle.value_flow.specs.declared.flow.FlowError.TheVariants as fault
 use Rattle.value_flow.specs.Numbers.{number_in, numbered_move}
 
--- ---- the limit
-
-abbrev pub deepest_from : ℕ → List (Option ℕ) → ℕ
-deepest_from d [] = d
-deepest_from d (None ∷ depths) = deepest_from d depths
-deepest_from d (Some e ∷ depths) = deepest_from (max d e) depths
-
--- the deepest stack of the graph
-abbrev pub deepest : List (Option ℕ) → ℕ
-deepest depths = deepest_from 0 depths
-
--- arguments, locals and the deepest stack
-abbrev pub slots_of : Setting → List (Option ℕ) → ℕ
-slots_of s depths = fixed_in s + deepest depths
-
-abbrev pub most_work : ℕ
-most_work = 2147483648
-
--- the greatest number of 64 bits stands for each that is greater
-abbrev pub capped : ℕ → ℕ
-capped n = min n 18446744073709551615
-
--- slots times instructions times sources
-unfoldable pub work_of : List AsmRec → Setting → Option TypeId → List (Option ℕ) → ℕ
-work_of recs s owner depths = capped (capped (slots_of s depths * length s.body.code) * length (sources_of recs s owner))
-
 -- ---- the flow
-
-abbrev pub owner_of : List AsmRec → MethodId → Option TypeId
-owner_of recs m = option_map (λ (at : RowAt). type_id recs at.asm at.row) (option_and_then (type_of_method recs) (method_home recs m))
-
--- a source of the list is carried to a slot at an instruction
-pub record CarriesAt (recs : List AsmRec) (s : Setting) (owner : Option TypeId) (depths : List (Option ℕ)) (i slot k : ℕ) : Type 0 where
-  pub item : Source
-  pub listed : slice_get (sources_of recs s owner) k ≡ Some item
-  pub carried : Carried Source (flow_of recs s owner depths) i slot item
-
--- the same for the instruction at an offset
-abbrev pub Carries : List AsmRec → Setting → Option TypeId → List (Option ℕ) → ℕ → ℕ → ℕ → Type 0
-Carries recs s owner depths at slot k = CarriesAt recs s owner depths (place_in (offsets s.body.code) at) slot k
 
 abbrev pub is_carried : Flow → ℕ → ℕ → ℕ → Bool
 is_carried f at slot k = is_found f.reached (place_at f.graph.now.places at) slot k

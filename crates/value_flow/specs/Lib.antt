@@ -3,5 +3,4 @@ pub mod Doings
 pub mod Flows
 pub mod stack_depths
 pub mod slot_flow
-pub mod flow_rules
 pub mod body_graph

@@ -1,10 +1,10 @@
 -- Sources by their places in a list.
 use Rattle.std.specs.Prelude.{ℕ, List, unwrap_or}
 use Rattle.std.specs.List.{position_from}
-use Rattle.value_flow.specs.declared.slot_flow.moves.Move.{Move}
-use Rattle.value_flow.specs.declared.slot_flow.moves.Move.TheVariants as move
-use Rattle.value_flow.specs.declared.flow_rules.source.Source.{Source}
-use Rattle.value_flow.specs.flow_rules.Sources.{same_source}
+use Rattle.rules.specs.declared.flow_rules.moves.Move.{Move}
+use Rattle.rules.specs.declared.flow_rules.moves.Move.TheVariants as move
+use Rattle.rules.specs.declared.flow_rules.source.Source.{Source}
+use Rattle.rules.specs.flow_rules.Sources.{same_source}
 
 -- the place of a source; 1, that of Opaque, for one that isn't there
 abbrev pub number_in : List Source → Source → ℕ

@@ -1,4 +1,3 @@
-pub mod Carrying
 pub mod Facts
 pub mod Laws
 pub mod Found

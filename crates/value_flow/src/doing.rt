@@ -1,7 +1,6 @@
-use crate::flow_rules::Source;
 use crate::numbers::number_in;
-use crate::slot_flow::{Move, Turning};
 use il_base::NoMemory;
+use rules::flow_rules::{Move, Source, Turning};
 
 /// What an instruction does with sources, with the source that it makes.
 #[derive(Drop)]

@@ -4,22 +4,23 @@ ghost use Rattle.std.specs.Prelude.{◌≡◌, ◌*◌, true, List, Option, ◌�
 ghost use Rattle.rules.specs.link_rules.Linked.{IsWorld};
 ghost use Rattle.il_base.specs.declared.ids.TypeId.{TypeId};
 ghost use Rattle.il_base.specs.declared.world_model.record.AsmRec.{AsmRec};
-ghost use Rattle.value_flow.specs.flow_rules.Methods.{Setting};
-ghost use Rattle.value_flow.specs.flow_rules.Moves.{sources_of};
+ghost use Rattle.rules.specs.flow_rules.Methods.{Setting};
+ghost use Rattle.rules.specs.flow_rules.Moves.{sources_of};
 ghost use Rattle.value_flow.specs.declared.body_graph.graph.Graph.{Graph};
 ghost use Rattle.value_flow.specs.body_graph.Methods.{setting_in, IsHere};
 ghost use Rattle.value_flow.specs.body_graph.Graphs.{IsGraph, depth_of};
-ghost use Rattle.value_flow.specs.Flows.{capped, work_of, is_carried, Carries, AreParts, IsNumbered, IsReachedOf, IsFlow, IsFault, IsItsGraph, IsFlowOf};
+ghost use Rattle.rules.specs.flow_rules.Flows.{capped, work_of, Carries};
+ghost use Rattle.value_flow.specs.Flows.{is_carried, AreParts, IsNumbered, IsReachedOf, IsFlow, IsFault, IsItsGraph, IsFlowOf};
 
 use crate::body_graph::Graph;
 use crate::body_graph::methods::{Method, method_of};
-use crate::flow_rules::Source;
 use crate::members::owner_of;
 use crate::numbers::number_in;
 use crate::parts::{Parts, parts_of, slots_of};
 use crate::slot_flow::{Flowing, Reached};
 use crate::sources::sources_of;
 use il_base::{MethodId, NoMemory, Seq, TypeId};
+use rules::flow_rules::Source;
 use std::alloc::Global;
 use type_system::Types;
 

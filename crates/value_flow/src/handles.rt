@@ -1,11 +1,11 @@
 //! The handles that `ldtoken` makes of types.
 
 ghost use Rattle.std.specs.Prelude.{◌≡◌, IfOk};
-ghost use Rattle.value_flow.specs.flow_rules.Sources.{known_handle, own_parameter, handle_of};
+ghost use Rattle.rules.specs.flow_rules.Sources.{known_handle, own_parameter, handle_of};
 
-use crate::flow_rules::Source;
 use il_base::world_model::{AsmRec, TypeExpr, prim_type};
 use il_base::{NoMemory, TypeId};
+use rules::flow_rules::Source;
 use type_tables::member_search::bases::array_type;
 
 fn known_handle(t: Option<TypeId>) -> Source
@@ -27,7 +27,7 @@ fn own_parameter(owner: Option<TypeId>, n: u32) -> Source
 }
 
 /// The handle of a type in a method of the type `owner`.
-#[tactic(auto, unfolding(crate::specs::flow_rules::Sources::handle_of))]
+#[tactic(auto, unfolding(rules::specs::flow_rules::Sources::handle_of))]
 pub(crate) fn handle_of(
     recs: &[AsmRec],
     owner: Option<TypeId>,

@@ -1,11 +1,10 @@
 //! Which sources of `Type` values and names reach which slot of a method's body. The types of a world, a method and its graph go in;
-//! out comes `Flow`, as `flow_rules` and `slot_flow` define it.
+//! out comes `Flow`, as `rules::flow_rules` defines it.
 #![tactic(auto)]
 
 pub mod body_graph;
 mod doing;
 mod flow;
-pub mod flow_rules;
 mod handles;
 mod members;
 mod moves;

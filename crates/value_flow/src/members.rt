@@ -7,8 +7,8 @@ ghost use Rattle.il_base.specs.world_model.Worlds.{type_id};
 ghost use Rattle.rules.specs.link_rules.Members.{owns_method};
 ghost use Rattle.rules.specs.type_rules.Slots.{type_of_method};
 ghost use Rattle.rules.specs.type_rules.Rows.{type_row_at};
-ghost use Rattle.value_flow.specs.flow_rules.Sources.{is_called, is_system_type, is_core_type, is_of_type, is_type_member};
-ghost use Rattle.value_flow.specs.Flows.{owner_of};
+ghost use Rattle.rules.specs.flow_rules.Sources.{is_called, is_system_type, is_core_type, is_of_type, is_type_member};
+ghost use Rattle.rules.specs.flow_rules.Flows.{owner_of};
 
 use il_base::world_model::{AsmRec, TypeDefRow, type_id};
 use il_base::{MethodId, NoMemory, TypeId};

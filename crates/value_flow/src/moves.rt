@@ -2,8 +2,8 @@
 
 ghost use Rattle.std.specs.Prelude.{◌≡◌, IfOk};
 ghost use Rattle.std.specs.Option.{option_copied, option_and_then};
-ghost use Rattle.value_flow.specs.flow_rules.Moves.{args_in, arg_slot, local_slot, load, store, token_in, text_move, type_move, handle_move, field_move, returned, call_move, used_move, if_any, named_use, named_field, token_move, move_by, move_of};
-ghost use Rattle.value_flow.specs.flow_rules.Sources.{text_at};
+ghost use Rattle.rules.specs.flow_rules.Moves.{args_in, arg_slot, local_slot, load, store, token_in, text_move, type_move, handle_move, field_move, returned, call_move, used_move, if_any, named_use, named_field, token_move, move_by, move_of};
+ghost use Rattle.rules.specs.flow_rules.Sources.{text_at};
 ghost use Rattle.value_flow.specs.body_graph.Methods.{setting_in, IsHere};
 ghost use Rattle.value_flow.specs.Doings.{move_in};
 
@@ -14,13 +14,12 @@ use crate::body_graph::operands::{
 };
 use crate::body_graph::signatures::called_in;
 use crate::doing::Doing;
-use crate::flow_rules::{Called, Source};
 use crate::handles::handle_of;
 use crate::members::is_type_member;
-use crate::slot_flow::Turning;
 use crate::texts::text_at;
 use il_base::world_model::{FieldUse, MethodUse, TypeExpr, UserText};
 use il_base::{Form, Instr, MethodId, NoMemory, Operand, Seq, TypeId, opcode};
+use rules::flow_rules::{Called, Source, Turning};
 use std::alloc::Global;
 
 /// How many arguments a method has, `this` among them.
@@ -284,7 +283,7 @@ fn store_local(m: &Method<'_>, operand: &Operand) -> Result<Doing, NoMemory>
 }
 
 /// What an instruction does in a method of the type `owner`.
-#[tactic(auto, unfolding(crate::specs::flow_rules::Moves::move_by))]
+#[tactic(auto, unfolding(rules::specs::flow_rules::Moves::move_by))]
 fn doing_by(
     alloc: Global,
     m: &Method<'_>,

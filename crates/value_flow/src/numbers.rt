@@ -3,12 +3,12 @@
 ghost use Rattle.std.specs.Prelude.{◌≡◌, [], ◌∷◌, IfOk, OnOk};
 ghost use Rattle.std.specs.List.{list_any};
 ghost use Rattle.rules.specs.link_rules.Cycles.{add_new, add_all};
-ghost use Rattle.value_flow.specs.flow_rules.Sources.{same_source};
+ghost use Rattle.rules.specs.flow_rules.Sources.{same_source};
 ghost use Rattle.value_flow.specs.Numbers.{number_in};
 
-use crate::flow_rules::Source;
 use crate::same::same_source;
 use il_base::{NoMemory, Seq};
+use rules::flow_rules::Source;
 
 fn is_among(sources: &[Source], s: &Source) -> bool
     ensures { result ≡ list_any (same_source s.now) sources.now }

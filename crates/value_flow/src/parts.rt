@@ -2,20 +2,20 @@
 
 ghost use Rattle.std.specs.Prelude.{◌≡◌, ◌++◌, map, replicate, IfOk, OnOk};
 ghost use Rattle.rules.specs.link_rules.Cycles.{listed};
-ghost use Rattle.value_flow.specs.declared.flow_rules.source.Source.TheVariants as source;
-ghost use Rattle.value_flow.specs.flow_rules.Sources.{turn};
-ghost use Rattle.value_flow.specs.flow_rules.Moves.{moves_of, taken_by, taken_of, parameters, begins_of, sources_of};
+ghost use Rattle.rules.specs.declared.flow_rules.source.Source.TheVariants as source;
+ghost use Rattle.rules.specs.flow_rules.Sources.{turn};
+ghost use Rattle.rules.specs.flow_rules.Moves.{moves_of, taken_by, taken_of, parameters, begins_of, sources_of};
 ghost use Rattle.value_flow.specs.body_graph.Methods.{setting_in, IsHere};
 ghost use Rattle.value_flow.specs.Numbers.{number_in, numbered_move};
-ghost use Rattle.value_flow.specs.Flows.{deepest, slots_of, AreParts};
+ghost use Rattle.rules.specs.flow_rules.Flows.{deepest, slots_of};
+ghost use Rattle.value_flow.specs.Flows.{AreParts};
 
 use crate::body_graph::methods::Method;
-use crate::flow_rules::Source;
 use crate::moves::{arg_slot, args_in, doing_of, local_slot};
 use crate::numbers::number_in;
-use crate::slot_flow::{Move, Turning};
 use crate::sources::turn;
 use il_base::{Form, NoMemory, Operand, TypeId};
+use rules::flow_rules::{Move, Source, Turning};
 use std::alloc::Global;
 use type_system::Types;
 

@@ -1,9 +1,9 @@
 //! Equality of sources.
 
 ghost use Rattle.std.specs.Prelude.{◌≡◌};
-ghost use Rattle.value_flow.specs.flow_rules.Sources.{same_source};
+ghost use Rattle.rules.specs.flow_rules.Sources.{same_source};
 
-use crate::flow_rules::Source;
+use rules::flow_rules::Source;
 
 /// Whether two sources are the same.
 pub(crate) fn same_source(a: &Source, b: &Source) -> bool

@@ -6,5 +6,5 @@ mod moves;
 mod pairs;
 mod walks;
 
-pub use moves::{Flowing, Move, Turning};
+pub use moves::Flowing;
 pub use walks::Reached;

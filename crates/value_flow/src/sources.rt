@@ -4,20 +4,19 @@ ghost use Rattle.std.specs.Prelude.{◌≡◌, [], ◌∷◌, IfOk, OnOk};
 ghost use Rattle.std.specs.List.{flat_map};
 ghost use Rattle.std.specs.Option.{option_copied};
 ghost use Rattle.rules.specs.link_rules.Cycles.{add_all};
-ghost use Rattle.value_flow.specs.flow_rules.Sources.{same_source, turn, from_handle, from_text};
-ghost use Rattle.value_flow.specs.flow_rules.Moves.{parameters, with_known, sources_made, return_of, sources_called, sources_by, sources_of};
+ghost use Rattle.rules.specs.flow_rules.Sources.{same_source, turn, from_handle, from_text};
+ghost use Rattle.rules.specs.flow_rules.Moves.{parameters, with_known, sources_made, return_of, sources_called, sources_by, sources_of};
 ghost use Rattle.value_flow.specs.body_graph.Methods.{setting_in, IsHere};
 ghost use Rattle.value_flow.specs.Doings.{move_in};
 
 use crate::body_graph::methods::Method;
 use crate::doing::Doing;
-use crate::flow_rules::Source;
 use crate::moves::{doing_of, named_use};
 use crate::numbers::add_new;
-use crate::slot_flow::Turning;
 use crate::texts::type_of_text;
 use il_base::world_model::MethodUse;
 use il_base::{Form, Instr, NoMemory, Operand, Seq, TypeId, Units};
+use rules::flow_rules::{Source, Turning};
 use std::alloc::Global;
 use type_system::Types;
 
@@ -193,7 +192,7 @@ fn add_code(
 }
 
 /// The sources of a method's body, each once, in the order in which they are met first.
-#[tactic(auto, unfolding(crate::specs::flow_rules::Moves::sources_of))]
+#[tactic(auto, unfolding(rules::specs::flow_rules::Moves::sources_of))]
 pub(crate) fn sources_of(
     alloc: Global,
     types: &Types<'_>,

@@ -2,7 +2,7 @@
 
 ghost use Rattle.std.specs.Prelude.{◌≡◌, IfOk};
 ghost use Rattle.std.specs.Option.{option_copied};
-ghost use Rattle.value_flow.specs.flow_rules.Sources.{text_at, type_of_text};
+ghost use Rattle.rules.specs.flow_rules.Sources.{text_at, type_of_text};
 
 use attr_blobs::{NameRead, parse_name};
 use il_base::world_model::{AsmRec, UserText};

@@ -2,6 +2,7 @@
 
 ghost use Rattle.std.specs.Prelude.{◌≡◌, ◌&&◌, [], IfOk};
 ghost use Rattle.std.specs.Option.{option_and_then, option_map};
+ghost use Rattle.il_base.specs.declared.cil_values.definition.PropertyDef.{PropertyDef};
 ghost use Rattle.rules.specs.step_rules.Words.{given, good};
 ghost use Rattle.rules.specs.step_rules.CoreWords.{Gives};
 ghost use Rattle.rules.specs.step_rules.CoreTypes.{typed_by};
@@ -12,7 +13,7 @@ ghost use Rattle.cil_core.specs.cil_members.Outs.{gives_by};
 use crate::cil_members::{CoreOut, gives_truth, stopped_member, stuck_member};
 use crate::cil_type_members::names::gives_bytes;
 use crate::cil_type_members::type_values::{encloser_of, gives_encloser, gives_type};
-use il_base::cil_values::{Method, State, Value};
+use il_base::cil_values::{Method, PropertyDef, State, Value};
 use il_base::world_model::{Known, TypeExpr};
 use il_base::{Item, NoMemory, Text, has_flag, method_flags};
 use machine_words::cil_closing::{are_whole, args_of, closed_return};
@@ -150,11 +151,11 @@ fn good_type(alloc: Global, ty: &Known<TypeExpr>) -> Result<Option<TypeExpr>, No
     }
 }
 
-/// The same of a type that isn't used again.
-fn good_alone(ty: Known<TypeExpr>) -> Option<TypeExpr>
-    ensures { result ≡ good ty }
+/// The type of a property that isn't used again. None for a type without meaning.
+fn type_alone(property: PropertyDef) -> Option<TypeExpr>
+    ensures { result ≡ good property.typ }
 {
-    match ty {
+    match property.typ {
         Known::Good(ty) => Some(ty),
         Known::Bad(_) => None,
     }
@@ -166,10 +167,10 @@ fn property_type<Q: Answers>(
     q: &Q,
     property: u32,
 ) -> Result<Option<TypeExpr>, NoMemory>
-    ensures { IfOk result (λ ty. ty ≡ option_and_then good ((Q.queries q.now).property property)) }
+    ensures { IfOk result (λ ty. ty ≡ option_and_then (λ (p : PropertyDef). good p.typ) ((Q.queries q.now).property property)) }
 {
     match q.property(alloc, property)? {
-        Some(ty) => Ok(good_alone(ty)),
+        Some(found) => Ok(type_alone(found)),
         None => Ok(None),
     }
 }

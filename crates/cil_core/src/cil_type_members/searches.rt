@@ -1,21 +1,48 @@
 //! Members that search the world: Type.GetType by a name.
 
-ghost use Rattle.std.specs.Prelude.{◌≡◌, [], IfOk};
+ghost use Rattle.std.specs.Prelude.{◌≡◌, [], slice_get, IfOk};
+ghost use Rattle.std.specs.Option.{option_copied};
 ghost use Rattle.rules.specs.step_rules.Objects.{units_of};
 ghost use Rattle.rules.specs.step_rules.Words.{given};
 ghost use Rattle.rules.specs.step_rules.CoreWords.{Gives};
-ghost use Rattle.rules.specs.step_rules.CoreSearches.{find_form, find_named, gives_missing, gives_sought, sought_by, type_find_form, type_find_or_form};
+ghost use Rattle.rules.specs.step_rules.CoreSearches.{calling_method, find_form, find_named, gives_missing, gives_sought, sought_by, type_find_form, type_find_or_form};
 ghost use Rattle.cil_core.specs.cil_members.Outs.{gives_by};
 
 use crate::cil_members::{CoreOut, gives_value, raised, stopped_member, stuck_member};
 use crate::cil_type_members::type_values::gives_type;
 use il_base::NoMemory;
-use il_base::cil_values::{Sought, State, Value};
+use il_base::cil_values::{Frame, Sought, Stack, State, Value};
 use il_base::core_table::CoreName;
 use machine_words::cil_objects::{bytes_of_units, units_of};
 use machine_words::cil_queries::Answers;
 use machine_words::cil_stores::held_number;
 use std::alloc::Global;
+
+/// The innermost of the frames that wait.
+fn innermost(frames: &Stack<Frame>) -> Option<&Frame>
+    ensures { option_copied result ≡ slice_get frames.now 0 }
+{
+    let below = frames.as_slice();
+    if below.len() == 0 {
+        return None;
+    }
+    Some(&below[below.len() - 1])
+}
+
+/// The method that calls a member, by its place in the world. A member that reflection calls has a frame of its own, and the caller's
+/// is below it.
+fn calling_method<Q: Answers>(q: &Q, st: &State) -> u32
+    ensures { result ≡ calling_method (Q.queries q.now) st.now }
+{
+    let own = st.top.method.method.0;
+    match q.core(own) {
+        None => own,
+        Some(_) => match innermost(&st.below) {
+            Some(f) => f.method.method.0,
+            None => own,
+        },
+    }
+}
 
 /// The type that a text in UTF-16 names for the method that calls.
 fn sought_by<Q: Answers>(
@@ -27,7 +54,7 @@ fn sought_by<Q: Answers>(
     ensures { IfOk result (λ sought. sought ≡ sought_by (Q.queries q.now) st.now units.now) }
 {
     let text = bytes_of_units(alloc, units)?;
-    let sought = q.find(alloc, st.top.method.method.0, text.as_slice())?;
+    let sought = q.find(alloc, calling_method(q, st), text.as_slice())?;
     Ok(sought)
 }
 

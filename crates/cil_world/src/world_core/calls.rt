@@ -968,11 +968,14 @@ fn type_call(name: CoreName, params: CoreParams) -> Option<CoreCall>
     }
 }
 
-/// Members of MethodBase, MethodInfo, FieldInfo and PropertyInfo. A call of what was found, and reading or setting it, ends the run.
-fn info_call(name: CoreName) -> Option<CoreCall>
-    ensures { result ≡ info_call name }
+/// Members of MethodBase, MethodInfo, FieldInfo and PropertyInfo, with what GetValue and SetValue are there.
+fn info_call(gets: CoreCall, sets: CoreCall, name: CoreName) -> Option<CoreCall>
+    ensures { result ≡ info_call gets sets name }
 {
     match name {
+        CoreName::Invoke => Some(CoreCall::Invoke),
+        CoreName::GetValue => Some(gets),
+        CoreName::SetValue => Some(sets),
         CoreName::GetIsStatic => Some(CoreCall::MethodIsStatic),
         CoreName::GetReturnType => Some(CoreCall::MemberType(MemberKind::Method)),
         CoreName::GetFieldType => Some(CoreCall::MemberType(MemberKind::Field)),
@@ -1080,9 +1083,6 @@ fn info_call(name: CoreName) -> Option<CoreCall>
         | CoreName::GetProperties
         | CoreName::GetName
         | CoreName::GetDeclaringType
-        | CoreName::Invoke
-        | CoreName::GetValue
-        | CoreName::SetValue
         | CoreName::CreateInstance
         | CoreName::InitializeArray
         | CoreName::Dispose
@@ -1248,10 +1248,10 @@ pub(crate) fn call_by(owner: CoreName, name: CoreName, params: CoreParams) -> Op
         CoreName::Console => console_call(name, params),
         CoreName::Type => type_call(name, params),
         CoreName::MemberInfo => member_info_call(name),
-        CoreName::MethodBase => info_call(name),
-        CoreName::MethodInfo => info_call(name),
-        CoreName::FieldInfo => info_call(name),
-        CoreName::PropertyInfo => info_call(name),
+        CoreName::MethodBase => info_call(CoreCall::Halts, CoreCall::Halts, name),
+        CoreName::MethodInfo => info_call(CoreCall::Halts, CoreCall::Halts, name),
+        CoreName::FieldInfo => info_call(CoreCall::FieldGet, CoreCall::FieldSet, name),
+        CoreName::PropertyInfo => info_call(CoreCall::PropertyGet, CoreCall::PropertySet, name),
         CoreName::Activator => activator_call(params),
         CoreName::RuntimeHelpers => Some(CoreCall::FillArray),
         CoreName::Attribute => Some(CoreCall::Idle),

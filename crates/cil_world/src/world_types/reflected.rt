@@ -1,6 +1,6 @@
 //! The members that reflection finds in a type, and what it tells of them.
 
-ghost use Rattle.std.specs.Prelude.{◌≡◌, ℕ, List, Option, IfOk};
+ghost use Rattle.std.specs.Prelude.{◌≡◌, ℕ, List, Option, Some, slice_get, IfOk};
 ghost use Rattle.std.specs.Option.{option_and_then};
 ghost use Rattle.il_base.specs.declared.world_model.expr.TypeExpr.{TypeExpr as Expr};
 ghost use Rattle.il_base.specs.declared.world_model.record.AsmRec.{AsmRec as Records};
@@ -8,16 +8,17 @@ ghost use Rattle.il_base.specs.world_model.Worlds.{known_map, known_then};
 ghost use Rattle.rules.specs.link_rules.Signatures.{names_at, method_type};
 ghost use Rattle.rules.specs.type_rules.Rows.{field_row_at};
 ghost use Rattle.rules.specs.type_rules.Slots.{method_row_at};
-ghost use Rattle.rules.specs.view_rules.Answers.{searched, found_along, members_query, property_row_at, method_title, field_title, property_title, title_query, property_type_at, property_query};
+ghost use Rattle.rules.specs.view_rules.Answers.{searched, found_along, members_query, property_row_at, method_title, field_title, property_title, title_query, property_at, property_def, property_query};
 ghost use Rattle.type_tables.specs.member_search.Linked.{IsScope};
-ghost use Rattle.type_tables.specs.Tables.{IsTables};
+ghost use Rattle.type_tables.specs.Tables.{AreRowsAt, IsTables};
 ghost use Rattle.virtual_calls.specs.Slots.{AreSlots};
 ghost use Rattle.virtual_calls.specs.named_members.Named.{found};
 
+use crate::world_types::accessors::first_accessor;
 use crate::world_types::bases::with_bases;
-use il_base::cil_values::MemberKind;
-use il_base::world_model::{AsmRec, Known, TypeExpr};
-use il_base::{Item, MethodSig, NoMemory, PropId, Seq, Text};
+use il_base::cil_values::{MemberKind, PropertyDef};
+use il_base::world_model::{AsmRec, Known, PropertyRow, TypeExpr};
+use il_base::{Item, MethodSig, NoMemory, PropId, Seq, Text, semantics};
 use mark_parts::mark_facts::rows::row_of;
 use rules::link_rules::{MethodType, RowAt};
 use rules::type_rules::FoundMember;
@@ -26,7 +27,7 @@ use type_tables::member_search::bases::array_type;
 use type_tables::member_search::linked::{Scope, assembly_at};
 use type_tables::member_search::method_types::open_method_type;
 use type_tables::methods::method_row_at;
-use type_tables::tables::Tables;
+use type_tables::tables::{Rows, Tables};
 use virtual_calls::named_members::kinds::Kind;
 use virtual_calls::named_members::named::found;
 use virtual_calls::slots::Slots;
@@ -173,14 +174,52 @@ fn type_in(
     }
 }
 
-/// The type of the property in a row.
+/// The property in a row.
+fn property_in(
+    alloc: Global,
+    tables: &Tables<'_>,
+    rows: &Rows<'_>,
+    at: RowAt,
+    row: &PropertyRow,
+) -> Result<PropertyDef, NoMemory>
+    requires tables { IsTables tables.now }
+    requires there { slice_get tables.now.world.now.recs at.asm ≡ Some rows.now.scope.rec.now }
+    requires are { AreRowsAt tables.now at.asm rows.now }
+    ensures { IfOk result (λ found. found ≡ property_def tables.now.world.now.recs at rows.now.scope.rec.now row.now) }
+{
+    let typ = type_in(alloc, &rows.scope, &row.signature)?;
+    let all = tables.world.recs.as_slice();
+    let getter = first_accessor(
+        alloc,
+        all,
+        rows.scope.rec,
+        rows.tables,
+        semantics::GETTER,
+        at,
+    )?;
+    let setter = first_accessor(
+        alloc,
+        all,
+        rows.scope.rec,
+        rows.tables,
+        semantics::SETTER,
+        at,
+    )?;
+    Ok(PropertyDef {
+        typ,
+        getter,
+        setter,
+    })
+}
+
+/// The property in a row.
 fn property_at(
     alloc: Global,
     tables: &Tables<'_>,
     at: RowAt,
-) -> Result<Option<Known<TypeExpr>>, NoMemory>
+) -> Result<Option<PropertyDef>, NoMemory>
     requires { IsTables tables.now }
-    ensures { IfOk result (λ ty. ty ≡ property_type_at tables.now.world.now.recs at) }
+    ensures { IfOk result (λ found. found ≡ property_at tables.now.world.now.recs at) }
 {
     let Some(rows) = tables.rows_at(at.asm) else {
         return Ok(None);
@@ -189,19 +228,19 @@ fn property_at(
     let Some(row) = rec.property.get(at.row as usize) else {
         return Ok(None);
     };
-    let ty = type_in(alloc, &rows.scope, &row.signature)?;
-    Ok(Some(ty))
+    let found = property_in(alloc, tables, &rows, at, row)?;
+    Ok(Some(found))
 }
 
-/// The type of a property. None for one that isn't there.
+/// A property. None for one that isn't there.
 #[tactic(auto, unfolding(rules::specs::view_rules::Answers::property_query, rules::specs::mark_rules::Places::row_of))]
 pub(crate) fn property(
     alloc: Global,
     tables: &Tables<'_>,
     property: u32,
-) -> Result<Option<Known<TypeExpr>>, NoMemory>
+) -> Result<Option<PropertyDef>, NoMemory>
     requires { IsTables tables.now }
-    ensures { IfOk result (λ ty. ty ≡ property_query tables.now.world.now.recs property) }
+    ensures { IfOk result (λ found. found ≡ property_query tables.now.world.now.recs property) }
 {
     let item = Item::Prop(PropId(property));
     match row_of(tables.world.recs.as_slice(), item) {

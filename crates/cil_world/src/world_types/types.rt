@@ -16,9 +16,9 @@ use crate::world_types::answered::{
 };
 use crate::world_types::core_rows::CoreRows;
 use crate::world_types::{bases, kin, reflected, sought};
-use il_base::cil_values::{CoreCall, MemberKind, Sought};
+use il_base::cil_values::{CoreCall, MemberKind, PropertyDef, Sought};
 use il_base::core_table::CoreName;
-use il_base::world_model::{AsmRec, Known, MethodUse, TypeExpr, World};
+use il_base::world_model::{AsmRec, MethodUse, TypeExpr, World};
 use il_base::{Item, MethodId, NoMemory, Seq, Text};
 use rules::type_rules::FoundMember;
 use std::alloc::Global;
@@ -194,13 +194,9 @@ impl<'w> ClosedTypes<'w> {
         reflected::title(alloc, self.recs(), item)
     }
 
-    /// The type of a property (II.22.34). None for one that isn't there.
-    pub fn property(
-        &self,
-        alloc: Global,
-        property: u32,
-    ) -> Result<Option<Known<TypeExpr>>, NoMemory>
-        ensures { IfOk result (λ ty. ty ≡ property_query self.now.recs property) }
+    /// A property (II.22.34). None for one that isn't there.
+    pub fn property(&self, alloc: Global, property: u32) -> Result<Option<PropertyDef>, NoMemory>
+        ensures { IfOk result (λ found. found ≡ property_query self.now.recs property) }
     {
         reflected::property(alloc, &self.tables, property)
     }

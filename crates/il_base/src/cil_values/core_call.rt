@@ -22,8 +22,7 @@ pub enum MemberKind {
 /// The members of the core library that a program can call, by what they do. Several members of the table can be one here.
 #[derive(Clone, Copy, Debug, PartialEq, Eq)]
 pub enum CoreCall {
-    /// Ends the run as Stopped: GetHashCode; Equals of ValueType and Enum; ToString of Enum and Exception; members of
-    /// reflection that call a method, or read or write a field or a property.
+    /// Ends the run as Stopped: GetHashCode; Equals of ValueType and Enum; ToString of Enum and Exception.
     Halts,
     /// Does nothing: the constructors of Object and Attribute, Finalize.
     Idle,
@@ -141,4 +140,14 @@ pub enum CoreCall {
     Create,
     /// Activator.CreateInstance<T>().
     CreateOf,
+    /// MethodBase.Invoke(object, object[]).
+    Invoke,
+    /// FieldInfo.GetValue(object).
+    FieldGet,
+    /// FieldInfo.SetValue(object, object).
+    FieldSet,
+    /// PropertyInfo.GetValue(object).
+    PropertyGet,
+    /// PropertyInfo.SetValue(object, object).
+    PropertySet,
 }

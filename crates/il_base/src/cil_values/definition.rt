@@ -47,6 +47,16 @@ pub struct FieldDef {
     pub first: First,
 }
 
+/// A property (II.22.34).
+#[derive(Drop)]
+pub struct PropertyDef {
+    pub typ: Known<TypeExpr>,
+    /// The method of its first row of MethodSemantics as getter (II.23.1.12), by its place in the world.
+    pub getter: Option<u32>,
+    /// The method of its first row as setter.
+    pub setter: Option<u32>,
+}
+
 /// A type definition (II.22.37).
 #[derive(Clone, Copy, Debug, PartialEq, Eq)]
 pub struct Head {

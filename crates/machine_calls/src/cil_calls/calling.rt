@@ -1,19 +1,21 @@
 //! `call` and `callvirt`.
 
-ghost use Rattle.std.specs.Prelude.{◌≡◌, [], IfOk};
-ghost use Rattle.rules.specs.step_rules.Words.{given, taken};
+ghost use Rattle.std.specs.Prelude.{◌≡◌, ℕ, List, [], IfOk};
+ghost use Rattle.il_base.specs.declared.cil_values.state.State.{State as At};
+ghost use Rattle.rules.specs.step_rules.Words.{ends_at, given, taken};
 ghost use Rattle.rules.specs.step_rules.Dispatch.{slots_of};
 ghost use Rattle.rules.specs.step_rules.Calls.{by_prefix, call, calls, may_call, received, receives, with_args};
 ghost use Rattle.machine_words.specs.cil_closing.Callees.{callee_by};
 ghost use Rattle.machine_words.specs.cil_words.Steps.{here_by, next_of};
+ghost use Rattle.machine_calls.specs.cil_invoking.Operands.{method_operand as by_method};
 
 use crate::cil_calls::constrained::constrained_on;
 use crate::cil_calls::receiving::{call_on, call_virtual};
 use crate::cil_invoking::{
     Operand, begun_for, first_and_rest, method_operand, runs, take_prefix, take_values,
 };
-use il_base::cil_values::{Instruction, Prefix, State, Value};
-use il_base::{NoMemory, Seq, opcode};
+use il_base::cil_values::{End, Instruction, Prefix, State, Value};
+use il_base::{MethodId, NoMemory, Seq, opcode};
 use machine_frames::cil_dispatch::{is_abstract, slots_of};
 use machine_words::cil_closing::Callee;
 use machine_words::cil_queries::Answers;
@@ -147,8 +149,44 @@ fn calls<Q: Answers>(
     }
 }
 
-/// `call` (III.3.19) and `callvirt` (III.4.2).
-#[tactic(auto, unfolding(rules::specs::step_rules::Calls::call))]
+fn calls_operand<Q: Answers>(
+    alloc: Global,
+    q: &Q,
+    body: &Body,
+    i: &Instruction,
+    st: &mut State,
+    printed: &mut Vec<u8>,
+) -> Result<StepOut, NoMemory>
+    requires { printed.old.items ≡ [] }
+    ensures { IfOk result (λ out. next_of out st.new printed.new.items ≡ by_method (Q.queries q.now) (here_by body.now st.old) i.now.operand st.old (calls (Q.queries q.now) (here_by body.now st.old) i.now st.old)) }
+{
+    match method_operand(alloc, q, body, st, &i.operand)? {
+        Operand::Named(c) => {
+            let out = calls(alloc, q, body, i, &c, st, printed)?;
+            drop(c);
+            Ok(out)
+        }
+        Operand::Meaningless => Ok(stopped(st)),
+        Operand::Another => Ok(stuck(st)),
+    }
+}
+
+/// An end of the run because of the code, at this instruction.
+fn placed(out: StepOut, method: MethodId, offset: u32) -> StepOut
+    ensures { (s t : At) → (bytes : List ℕ) → s.top.method.method ≡ method → s.top.at ≡ offset → next_of result t bytes ≡ ends_at s (next_of out t bytes) }
+{
+    match out {
+        StepOut::Went => StepOut::Went,
+        StepOut::Over(End::Stuck { .. }) => StepOut::Over(End::Stuck { method, offset }),
+        StepOut::Over(End::Stopped { .. }) => StepOut::Over(End::Stopped { method, offset }),
+        StepOut::Over(End::Ended { code }) => StepOut::Over(End::Ended { code }),
+        StepOut::Over(End::Threw { kind, message }) => {
+            StepOut::Over(End::Threw { kind, message })
+        }
+    }
+}
+
+/// `call` (III.3.19) and `callvirt` (III.4.2). An end within a member of the core library that reflection called stands at the call.
 pub fn call<Q: Answers>(
     alloc: Global,
     q: &Q,
@@ -160,13 +198,8 @@ pub fn call<Q: Answers>(
     requires { printed.old.items ≡ [] }
     ensures { IfOk result (λ out. next_of out st.new printed.new.items ≡ call (Q.queries q.now) (here_by body.now st.old) i.now st.old) }
 {
-    match method_operand(alloc, q, body, st, &i.operand)? {
-        Operand::Named(c) => {
-            let out = calls(alloc, q, body, i, &c, st, printed)?;
-            drop(c);
-            Ok(out)
-        }
-        Operand::Meaningless => Ok(stopped(st)),
-        Operand::Another => Ok(stuck(st)),
-    }
+    let method = st.top.method.method;
+    let offset = st.top.at;
+    let out = calls_operand(alloc, q, body, i, st, printed)?;
+    Ok(placed(out, method, offset))
 }

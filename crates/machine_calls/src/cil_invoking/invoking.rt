@@ -13,7 +13,7 @@ ghost use Rattle.machine_words.specs.cil_words.Steps.{here_by, next_of};
 use crate::cil_invoking::args::{slot_values, with_first};
 use crate::cil_invoking::going::gives_result;
 use cil_core::cil_members::CoreOut;
-use cil_core::core_call;
+use cil_reflect::core_call;
 use il_base::cil_values::{Instruction, State, Value, Waits};
 use il_base::{NoMemory, Seq};
 use machine_frames::cil_dispatch::{Target, this_for};

@@ -4,8 +4,7 @@ ghost use Rattle.std.specs.Prelude.{◌≡◌, IfOk, if◌then◌else◌, not};
 ghost use Rattle.il_base.specs.declared.cil_values.state.State.{State};
 ghost use Rattle.rules.specs.step_rules.Next.{Next};
 ghost use Rattle.rules.specs.step_rules.Closing.{Callee as Called};
-ghost use Rattle.rules.specs.step_rules.Dispatch.{dispatched, found_use};
-ghost use Rattle.rules.specs.step_rules.Calls.{found_from};
+ghost use Rattle.rules.specs.step_rules.Dispatch.{dispatched, found_from, found_use};
 ghost use Rattle.machine_words.specs.cil_closing.Callees.{callee_by};
 ghost use Rattle.machine_frames.specs.cil_dispatch.Found.{goes_to};
 
@@ -78,7 +77,7 @@ pub fn dispatched<'a, Q: Answers>(
 }
 
 /// What `callvirt` finds from a closed type: of a virtual method what answers its slot, another as it is.
-#[tactic(auto, unfolding(rules::specs::step_rules::Calls::found_from))]
+#[tactic(auto, unfolding(rules::specs::step_rules::Dispatch::found_from))]
 pub fn found_from<'a, Q: Answers>(
     alloc: Global,
     q: &'a Q,

@@ -1,7 +1,7 @@
 //! Frames.
 
 ghost use Rattle.std.specs.Prelude.{◌≡◌, ◌+◌, [], ◌∷◌, IfOk, OnOk};
-ghost use Rattle.rules.specs.step_rules.Frames.{has_room, enter};
+ghost use Rattle.rules.specs.step_rules.Frames.{has_room, frame_of, entered_with, enter};
 ghost use Rattle.machine_words.specs.cil_closing.Callees.{callee_by};
 ghost use Rattle.machine_words.specs.cil_words.Steps.{next_of};
 
@@ -50,6 +50,46 @@ fn push_frame(st: &mut State, f: Frame) -> Result<(), NoMemory>
     Ok(())
 }
 
+/// A frame of a method that begins, with these arguments and locals, as its slots keep them.
+fn frame_of(
+    alloc: Global,
+    c: &Callee,
+    args: Seq<Value>,
+    locals: Seq<Value>,
+    waits: Waits,
+    st: &State,
+) -> Result<Frame, NoMemory>
+    ensures { IfOk result (λ f. f ≡ frame_of st.now.entered (callee_by c.now).called args locals waits) }
+{
+    let method = copy_use(alloc, &c.called)?;
+    Ok(Frame {
+        number: st.entered,
+        method,
+        args,
+        locals,
+        stack: Stack::new(alloc),
+        at: 0,
+        prefix: Prefix::None,
+        running: Stack::new(alloc),
+        waits,
+    })
+}
+
+/// Enters a method with these arguments and locals, as its slots keep them. The top frame waits.
+pub fn enter_with(
+    alloc: Global,
+    c: &Callee,
+    args: Seq<Value>,
+    locals: Seq<Value>,
+    waits: Waits,
+    st: &mut State,
+) -> Result<(), NoMemory>
+    ensures { OnOk result (st.new ≡ entered_with (callee_by c.now) args locals waits st.old) }
+{
+    let frame = frame_of(alloc, c, args, locals, waits, st)?;
+    push_frame(st, frame)
+}
+
 /// Enters a method with these arguments, as its slots keep them. The top frame waits.
 #[tactic(auto, unfolding(rules::specs::step_rules::Frames::enter))]
 pub fn enter<Q: Answers>(
@@ -74,18 +114,6 @@ pub fn enter<Q: Answers>(
     if !has_room(st) {
         return Ok(stopped(st));
     }
-    let method = copy_use(alloc, &c.called)?;
-    let frame = Frame {
-        number: st.entered,
-        method,
-        args,
-        locals,
-        stack: Stack::new(alloc),
-        at: 0,
-        prefix: Prefix::None,
-        running: Stack::new(alloc),
-        waits,
-    };
-    push_frame(st, frame)?;
+    enter_with(alloc, c, args, locals, waits, st)?;
     Ok(StepOut::Went)
 }

@@ -146,7 +146,11 @@ pub fn unwind<Q: Answers>(
     let mut u = u;
     loop {
         let Some(body) = body_of(q, &st.top) else {
-            return Ok(stuck(st));
+            let Some(f) = st.below.pop() else {
+                return Ok(stuck(st));
+            };
+            u = leave_frame(alloc, q, u, f, st)?;
+            continue;
         };
         if let Some(n) = u.left.pop() {
             let stack = Stack::new(alloc);

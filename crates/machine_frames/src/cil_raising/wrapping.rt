@@ -13,6 +13,9 @@ fn wrapper_of(member: CoreCall) -> Option<CoreName>
     match member {
         CoreCall::Create => Some(CoreName::TargetInvocationException),
         CoreCall::CreateOf => Some(CoreName::TargetInvocationException),
+        CoreCall::Invoke => Some(CoreName::TargetInvocationException),
+        CoreCall::PropertyGet => Some(CoreName::TargetInvocationException),
+        CoreCall::PropertySet => Some(CoreName::TargetInvocationException),
         _ => None,
     }
 }

@@ -9,14 +9,14 @@ use il_base::{field_flags, has_flag, opcode};
 use machine_words::cil_closing::Accessed;
 
 /// Whether the field is static (II.23.1.5).
-pub(crate) fn is_static(a: &Accessed) -> bool
+pub fn is_static(a: &Accessed) -> bool
     ensures { result ≡ is_static (accessed_by a.now) }
 {
     has_flag(a.field.flags, field_flags::STATIC)
 }
 
 /// Whether the field is a constant, which has no place (II.16.1.2).
-fn is_literal(a: &Accessed) -> bool
+pub fn is_literal(a: &Accessed) -> bool
     ensures { result ≡ is_literal (accessed_by a.now) }
 {
     has_flag(a.field.flags, field_flags::LITERAL)

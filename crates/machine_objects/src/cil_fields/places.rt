@@ -206,7 +206,7 @@ fn field_place<Q: Answers>(
 
 /// The place of a field and its value.
 #[tactic(auto, unfolding(rules::specs::step_rules::Places::at_place))]
-pub(crate) fn reach_field<Q: Answers>(
+pub fn reach_field<Q: Answers>(
     alloc: Global,
     q: &Q,
     a: &Accessed,

@@ -38,7 +38,11 @@ pub enum Ready {
 
 /// The closed type of a static field. None where it has no meaning.
 #[tactic(auto, unfolding(rules::specs::step_rules::Fields::static_type))]
-fn static_type<Q: Answers>(alloc: Global, q: &Q, a: &Accessed) -> Result<Option<TypeExpr>, NoMemory>
+pub fn static_type<Q: Answers>(
+    alloc: Global,
+    q: &Q,
+    a: &Accessed,
+) -> Result<Option<TypeExpr>, NoMemory>
     ensures { IfOk result (λ ty. ty ≡ static_type (Q.queries q.now) (accessed_by a.now)) }
 {
     match &a.field.typ {
@@ -211,7 +215,7 @@ fn readied<Q: Answers>(
 }
 
 /// An access to a static field. One that wasn't accessed before begins now.
-pub(crate) fn with_static<Q: Answers>(
+pub fn with_static<Q: Answers>(
     alloc: Global,
     q: &Q,
     a: &Accessed,

@@ -28,7 +28,7 @@ use machine_words::cil_words::{Body, StepOut, stopped, stuck};
 use std::alloc::Global;
 
 /// The value in a box of exactly this type. An enum isn't its underlying type.
-fn boxed_of<'a>(ty: &TypeExpr, o: &'a Obj) -> Option<&'a Value>
+pub fn boxed_of<'a>(ty: &TypeExpr, o: &'a Obj) -> Option<&'a Value>
     ensures { option_copied result ≡ boxed_of ty.now o.now }
 {
     match o {

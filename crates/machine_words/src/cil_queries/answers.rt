@@ -4,10 +4,10 @@ ghost use Rattle.rules.specs.step_rules.Queries.{Queries};
 ghost use Rattle.machine_words.specs.cil_queries.Bodies.{instruction_of};
 
 use il_base::cil_values::{
-    CoreCall, FieldDef, Head, Instruction, Layout, MemberKind, Method, Shape, Sought,
+    CoreCall, FieldDef, Head, Instruction, Layout, MemberKind, Method, PropertyDef, Shape, Sought,
 };
 use il_base::core_table::CoreName;
-use il_base::world_model::{Known, MethodUse, TypeExpr};
+use il_base::world_model::{MethodUse, TypeExpr};
 use il_base::{Item, NoMemory, Seq, Text};
 use rules::type_rules::FoundMember;
 use std::alloc::Global;
@@ -119,9 +119,9 @@ pub trait Answers {
     fn title(&self, alloc: Global, item: Item) -> Result<Text, NoMemory>
         ensures { IfOk result (λ text. text ≡ (queries self.now).title item) };
 
-    /// The type of a property (II.22.34). None for one that isn't there.
-    fn property(&self, alloc: Global, property: u32) -> Result<Option<Known<TypeExpr>>, NoMemory>
-        ensures { IfOk result (λ ty. ty ≡ (queries self.now).property property) };
+    /// None for a property that isn't there.
+    fn property(&self, alloc: Global, property: u32) -> Result<Option<PropertyDef>, NoMemory>
+        ensures { IfOk result (λ found. found ≡ (queries self.now).property property) };
 
     /// The nearest type of the core library among a type and its bases.
     fn kin(&self, alloc: Global, ty: &TypeExpr) -> Result<Option<CoreName>, NoMemory>

@@ -1,9 +1,9 @@
 -- What generic parameters of types and methods ask for.
 use Rattle.std.specs.Prelude.{ℕ, List}
 use Rattle.il_base.specs.declared.world_model.record.AsmRec.{AsmRec}
-use Rattle.site_kinds.specs.declared.site_rules.target.Target.{Target}
-use Rattle.site_kinds.specs.declared.site_rules.target.Target.TheVariants as target
-use Rattle.site_kinds.specs.site_rules.Kinds.{type_kinds, method_kinds}
+use Rattle.rules.specs.declared.site_rules.target.Target.{Target}
+use Rattle.rules.specs.declared.site_rules.target.Target.TheVariants as target
+use Rattle.rules.specs.site_rules.Kinds.{type_kinds, method_kinds}
 use Rattle.requirements.specs.declared.generic_sites.arguments.Generic.{Generic}
 use Rattle.requirements.specs.declared.generic_sites.arguments.Generic.TheVariants as generic
 

@@ -11,9 +11,9 @@ use Rattle.rules.specs.mark_rules.Naming.{method_named, field_named}
 use Rattle.rules.specs.mark_rules.Bodies.{is_field_token, is_method_token}
 use Rattle.mark_parts.specs.declared.forms.Names.{Names}
 use Rattle.mark_parts.specs.declared.forms.Names.TheVariants as names
-use Rattle.value_flow.specs.flow_rules.Counts.{good_one}
-use Rattle.site_kinds.specs.declared.site_rules.site.Site.{Site}
-use Rattle.site_kinds.specs.site_rules.Arguments.{type_argument_sites, of_method}
+use Rattle.rules.specs.flow_rules.Counts.{good_one}
+use Rattle.rules.specs.declared.site_rules.site.Site.{Site}
+use Rattle.rules.specs.site_rules.Arguments.{type_argument_sites, of_method}
 
 abbrev pub method_if : List AsmRec → Option TypeId → Place → Option MethodUse → List Site
 method_if recs owner place None = []

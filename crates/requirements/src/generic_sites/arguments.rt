@@ -2,23 +2,23 @@
 
 ghost use Rattle.std.specs.Prelude.{◌≡◌, ◌++◌, ◌∷◌, [], map, IfOk, OnOk};
 ghost use Rattle.il_base.specs.declared.ids.Place.{Place};
-ghost use Rattle.value_flow.specs.flow_rules.Sources.{own_parameter};
+ghost use Rattle.rules.specs.flow_rules.Sources.{own_parameter};
 ghost use Rattle.mark_parts.specs.mark_tables.Assemblies.{all_of};
 ghost use Rattle.site_kinds.specs.Known.{IsAnnotated};
-ghost use Rattle.site_kinds.specs.site_rules.Values.{asking};
-ghost use Rattle.site_kinds.specs.site_rules.Arguments.{known_type, argument, sites_from, type_argument_sites};
+ghost use Rattle.rules.specs.site_rules.Values.{asking};
+ghost use Rattle.rules.specs.site_rules.Arguments.{known_type, argument, sites_from, type_argument_sites};
 ghost use Rattle.requirements.specs.generic_sites.Asked.{target_of, asked_kinds};
 
 use crate::generic_sites::asking::{only, put_asking};
 use il_base::world_model::{AsmRec, TypeExpr, prim_type};
 use il_base::{MethodId, NoMemory, Place, Seq, TypeId};
+use rules::flow_rules::Source;
+use rules::site_rules::{Site, Target};
 use site_kinds::annotated::type_kinds;
 use site_kinds::known::Annotated;
 use site_kinds::reflection::method_kinds;
-use site_kinds::site_rules::{Site, Target};
 use std::alloc::Global;
 use type_tables::member_search::bases::array_type;
-use value_flow::flow_rules::Source;
 
 /// Where a type is named.
 #[derive(Clone, Copy, Debug, PartialEq, Eq)]
@@ -55,7 +55,7 @@ fn own_parameter(owner: Option<TypeId>, n: u32) -> Source
 }
 
 /// The source that a type is as an argument, in the type `owner`.
-#[tactic(auto, unfolding(site_kinds::specs::site_rules::Arguments::argument))]
+#[tactic(auto, unfolding(rules::specs::site_rules::Arguments::argument))]
 fn source_of(recs: &[AsmRec], owner: Option<TypeId>, e: &TypeExpr) -> Result<Source, NoMemory>
     ensures { IfOk result (λ s. (place : Place) → s ≡ (argument recs.now owner place e.now).known) }
 {

@@ -1,12 +1,12 @@
 //! Sites at the end of a list.
 
 ghost use Rattle.std.specs.Prelude.{◌≡◌, ◌++◌, ◌∷◌, [], IfOk, OnOk};
-ghost use Rattle.site_kinds.specs.site_rules.Values.{asking};
+ghost use Rattle.rules.specs.site_rules.Values.{asking};
 
 use il_base::{NoMemory, Place, Seq};
-use site_kinds::site_rules::{Site, Target};
+use rules::flow_rules::Source;
+use rules::site_rules::{Site, Target};
 use std::alloc::Global;
-use value_flow::flow_rules::Source;
 
 /// One source.
 pub fn only(alloc: Global, s: Source) -> Result<Seq<Source>, NoMemory>

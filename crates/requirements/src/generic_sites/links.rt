@@ -5,7 +5,7 @@ ghost use Rattle.std.specs.Option.{option_copied};
 ghost use Rattle.rules.specs.link_rules.Linked.{IsWorld};
 ghost use Rattle.rules.specs.link_rules.Signatures.{token_type};
 ghost use Rattle.rules.specs.mark_rules.Naming.{method_named, field_named};
-ghost use Rattle.value_flow.specs.flow_rules.Counts.{good_one};
+ghost use Rattle.rules.specs.flow_rules.Counts.{good_one};
 
 use base_laws::world_laws::laws::tokens_named;
 use il_base::AsmId;

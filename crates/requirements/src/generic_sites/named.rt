@@ -4,15 +4,15 @@ ghost use Rattle.std.specs.Prelude.{◌≡◌, ◌++◌, OnOk};
 ghost use Rattle.mark_parts.specs.mark_facts.Told.{named_told, part_told};
 ghost use Rattle.mark_parts.specs.mark_tables.Assemblies.{all_of};
 ghost use Rattle.site_kinds.specs.Known.{IsAnnotated};
-ghost use Rattle.site_kinds.specs.site_rules.Arguments.{of_method, of_named, part_sites, sites_of_parts, type_argument_sites};
+ghost use Rattle.rules.specs.site_rules.Arguments.{of_method, of_named, part_sites, sites_of_parts, type_argument_sites};
 
 use crate::generic_sites::arguments::{Generic, Within, put_all, put_type};
 use il_base::world_model::{FieldUse, Known, MethodUse};
 use il_base::{NoMemory, Place, Seq, TypeId};
 use mark_parts::mark_facts::part::{Named, Part};
 use mark_parts::mark_facts::parts::Parts;
+use rules::site_rules::Site;
 use site_kinds::known::Annotated;
-use site_kinds::site_rules::Site;
 use std::alloc::Global;
 
 /// Puts the sites of the arguments of a method and of its owner at the end.
@@ -98,7 +98,7 @@ fn put_part(
 }
 
 /// Puts the sites of parts of an item at the end. The item is of the assembly `asm`, in the type `owner`.
-#[tactic(auto, unfolding(site_kinds::specs::site_rules::Arguments::sites_of_parts))]
+#[tactic(auto, unfolding(rules::specs::site_rules::Arguments::sites_of_parts))]
 pub fn put_parts(
     alloc: Global,
     annotated: &Annotated<'_>,

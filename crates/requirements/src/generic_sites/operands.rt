@@ -5,8 +5,8 @@ ghost use Rattle.std.specs.Option.{option_copied};
 ghost use Rattle.rules.specs.mark_rules.Bodies.{token_parts, instruction_parts};
 ghost use Rattle.mark_parts.specs.mark_tables.Assemblies.{all_of};
 ghost use Rattle.site_kinds.specs.Known.{IsAnnotated};
-ghost use Rattle.site_kinds.specs.site_rules.Values.{place_at};
-ghost use Rattle.site_kinds.specs.site_rules.Arguments.{sites_of_parts};
+ghost use Rattle.rules.specs.site_rules.Values.{place_at};
+ghost use Rattle.rules.specs.site_rules.Arguments.{sites_of_parts};
 ghost use Rattle.requirements.specs.generic_sites.Operands.{method_if, field_if, type_if, any_sites, sites_by};
 
 use crate::generic_sites::arguments::{Within, put_type};
@@ -16,8 +16,8 @@ use il_base::world_model::{AsmRec, FieldUse, MethodUse, TypeExpr};
 use il_base::{Form, Instr, NoMemory, Operand, Place, Seq, TypeId};
 use mark_parts::bodies::{is_field_token, is_method_token};
 use mark_parts::forms::{Names, names_of};
+use rules::site_rules::Site;
 use site_kinds::known::Annotated;
-use site_kinds::site_rules::Site;
 use std::alloc::Global;
 
 /// A row whose code has operands.
@@ -211,7 +211,7 @@ fn put_form_token(
 }
 
 /// Puts the sites of what an instruction names at the end.
-#[tactic(auto, unfolding(site_kinds::specs::site_rules::Arguments::sites_of_parts), using(crate::proofs::lemmas::generic_sites::Lists::none_more))]
+#[tactic(auto, unfolding(rules::specs::site_rules::Arguments::sites_of_parts), using(crate::proofs::lemmas::generic_sites::Lists::none_more))]
 pub fn put_operand(
     alloc: Global,
     annotated: &Annotated<'_>,

@@ -7,7 +7,7 @@ ghost use Rattle.rules.specs.link_rules.Types.{at_row};
 ghost use Rattle.rules.specs.mark_rules.Bodies.{locals_parts, body_of};
 ghost use Rattle.mark_parts.specs.Items.{locals_row};
 ghost use Rattle.mark_parts.specs.mark_tables.Assemblies.{recs_of, place_of, rec_of, all_of, IsAssembly, IsMarker};
-ghost use Rattle.site_kinds.specs.site_rules.Bodies.{head_parts_of, head_parts};
+ghost use Rattle.rules.specs.site_rules.Bodies.{head_parts_of, head_parts};
 ghost use Rattle.requirements.specs.item_sites.Heads.{body_locals, row_parts};
 
 use il_base::world_model::{
@@ -85,7 +85,7 @@ fn add_row(
 }
 
 /// Puts the parts of a method's signature and of its locals at the end.
-#[tactic(auto, unfolding(site_kinds::specs::site_rules::Bodies::head_parts), using(crate::proofs::lemmas::item_sites::Lists::none_more))]
+#[tactic(auto, unfolding(rules::specs::site_rules::Bodies::head_parts), using(crate::proofs::lemmas::item_sites::Lists::none_more))]
 pub fn add_head(
     alloc: Global,
     marker: &Marker<'_>,

@@ -9,8 +9,8 @@ ghost use Rattle.rules.specs.mark_rules.Members.{properties_of_type, events_of_t
 ghost use Rattle.mark_parts.specs.Items.{extends_parts};
 ghost use Rattle.mark_parts.specs.mark_tables.Assemblies.{recs_of, place_of, rec_of, all_of, IsAssembly, IsMarker};
 ghost use Rattle.site_kinds.specs.Known.{IsAnnotated};
-ghost use Rattle.site_kinds.specs.site_rules.Bodies.{head_parts};
-ghost use Rattle.site_kinds.specs.site_rules.Types.{is_bodiless, has_no_body, base_parts, parts_in_type, sites_in_type, type_sites};
+ghost use Rattle.rules.specs.site_rules.Bodies.{head_parts};
+ghost use Rattle.rules.specs.site_rules.Types.{is_bodiless, has_no_body, base_parts, parts_in_type, sites_in_type, type_sites};
 ghost use Rattle.requirements.specs.item_sites.Impls.{impl_at};
 
 use crate::generic_sites::named::put_parts;
@@ -28,8 +28,8 @@ use mark_parts::mark_tables::assembly::Assembly;
 use mark_parts::mark_tables::marker::Marker;
 use mark_parts::tokens::add_type_token;
 use rules::link_rules::RowAt;
+use rules::site_rules::Site;
 use site_kinds::known::Annotated;
-use site_kinds::site_rules::Site;
 use std::alloc::Global;
 use type_tables::member_search::homes::type_home;
 use type_tables::methods::method_row_at;
@@ -318,7 +318,7 @@ fn sites_in_type(
 
 /// The sites of a type, of its fields, interface rows, properties and events, and of its methods without a body: generic arguments
 /// for annotated parameters. A type that isn't there has none.
-#[tactic(auto, unfolding(site_kinds::specs::site_rules::Types::type_sites), using(crate::proofs::lemmas::item_sites::Lists::none_more))]
+#[tactic(auto, unfolding(rules::specs::site_rules::Types::type_sites), using(crate::proofs::lemmas::item_sites::Lists::none_more))]
 pub fn type_sites(
     alloc: Global,
     annotated: &Annotated<'_>,

@@ -1,5 +1,5 @@
 -- When all that a state names is kept. A cell of a field that isn't kept may hold anything.
-use Rattle.std.specs.Prelude.{List, [], ◌∷◌, Bool, true, false, ◌&&◌, IsTrue}
+use Rattle.std.specs.Prelude.{List, [], ◌∷◌, Bool, true, false, not, ◌&&◌, IsTrue}
 use Rattle.std.specs.List.{list_all}
 use Rattle.il_base.specs.declared.cil_values.object.Obj.{Obj}
 use Rattle.il_base.specs.declared.cil_values.object.Obj.TheVariants as object
@@ -13,6 +13,7 @@ use Rattle.il_base.specs.declared.cil_values.state.Started.{Started}
 use Rattle.il_base.specs.declared.cil_values.frame.Prefix.TheVariants.{Constrained as constrained}
 use Rattle.il_base.specs.declared.cil_values.frame.Waits.TheVariants.{Starts as starts, Opens as opens, Core as core}
 use Rattle.rules.specs.step_rules.Next.{Next, went, over}
+use Rattle.rules.specs.step_rules.CoreSearches.{searches}
 use Rattle.rules.specs.change_rules.Keeping.{keep}
 use Rattle.rules.specs.change_rules.Change.{Keep}
 use Rattle.rules.specs.change_rules.States.{mask}
@@ -35,7 +36,7 @@ keeps_global k g = k.field g.field && keeps_expr k g.owner && keeps_value k g.va
 abbrev pub keeps_started : Keep → Started → Bool
 keeps_started k s = keeps_expr k s.typ
 
--- ---- frames
+-- ---- frames: no member that searches waits, so none that reflection calls by
 
 abbrev pub keeps_prefix : Keep → Prefix → Bool
 keeps_prefix k (constrained e) = shows_expr k e
@@ -44,7 +45,7 @@ keeps_prefix k _ = true
 abbrev pub keeps_waits : Keep → Waits → Bool
 keeps_waits k (starts e) = keeps_expr k e
 keeps_waits k (opens e u) = keeps_expr k e && keeps_use k u
-keeps_waits k (core c args) = keeps_values k args
+keeps_waits k (core c args) = keeps_values k args && not (searches c)
 keeps_waits k _ = true
 
 pub record CoveredFrame (k : Keep) (f : Frame) : Type 0 where

@@ -20,14 +20,14 @@ use Rattle.rules.specs.step_rules.Next.{Next, went}
 use Rattle.il_base.specs.declared.cil_values.frame.Prefix.TheVariants as prefixed
 use Rattle.il_base.specs.declared.cil_values.frame.Waits.TheVariants as waits
 use Rattle.il_base.specs.declared.cil_values.core_call.CoreCall.{CoreCall}
-use Rattle.rules.specs.step_rules.Words.{Form, Here, stuck, given, had, required, taken, moved, may_go, goes_with, made, object_at}
+use Rattle.rules.specs.step_rules.Words.{Form, Here, stuck, ends_at, given, had, required, taken, moved, may_go, goes_with, made, object_at}
 use Rattle.rules.specs.step_rules.Closing.{Callee, closed, closed_use}
 use Rattle.rules.specs.step_rules.Stores.{all_fit, is_value, zero_of}
 use Rattle.rules.specs.step_rules.Places.{at_place, alive, boxed_in}
 use Rattle.rules.specs.step_rules.Objects.{type_of, new_instance}
 use Rattle.rules.specs.step_rules.Raising.{raise}
 use Rattle.rules.specs.step_rules.Frames.{enter, started, definition_of, is_abstract_type}
-use Rattle.rules.specs.step_rules.Dispatch.{is_abstract, is_virtual, slots_of, dispatched, path_into_box, this_for}
+use Rattle.rules.specs.step_rules.Dispatch.{is_abstract, slots_of, found_from, path_into_box, this_for}
 use Rattle.rules.specs.step_rules.CoreWords.{Gives}
 use Rattle.rules.specs.step_rules.Core.{core_call}
 
@@ -74,10 +74,7 @@ call_on q here i c vs s (value.Pointer p) = required (is_value q c.called.owner)
 call_on q here i c vs s (value.Object a) = required (not (is_value q c.called.owner)) s (runs q here i c (value.Object a ∷ vs) s)
 call_on q here i c vs s _ = stuck s
 
--- the method that `callvirt` runs for an object of a type: the one that answers the slot of a virtual method, else the method itself
-unfoldable pub found_from : Queries → Callee → TypeExpr → State → (Callee → Next) → Next
-found_from q c e s f = if is_virtual c.method then dispatched q c e s f else required (not (is_abstract c.method)) s (f c)
-
+-- `callvirt` runs what it finds from the object's type
 abbrev pub virtual_on : Queries → Here → Instruction → Callee → List Value → State → ℕ → Next
 virtual_on q here i c vs s a =
     given (object_at s a) s (λ o. found_from q c (type_of q o) s (runs_on q here i vs s (value.Object a)))
@@ -152,8 +149,9 @@ abbrev pub calls : Queries → Here → Instruction → State → Callee → Nex
 calls q here i s c =
     required (may_call i c) s (begun_for q c s (λ s. given (taken (slots_of c.signature) s.top.stack) s (with_args q here i c s)))
 
+-- An end within a member of the core library that reflection called, which has no code, stands at the call.
 unfoldable pub call : Form
-call q here i s = elim i.operand [ method m ↦ closed_use q here m s (calls q here i s) | _ ↦ stuck s ]
+call q here i s = ends_at s (elim i.operand [ method m ↦ closed_use q here m s (calls q here i s) | _ ↦ stuck s ])
 
 -- ---- `newobj`
 

@@ -1,7 +1,8 @@
 -- Calls of members of the core library: each is whole in its step, but for one that calls a method of the program.
-use Rattle.std.specs.Prelude.{ℕ, List, [], ◌∷◌, Bool, true, false, Option, Some, None, unwrap_or}
-use Rattle.std.specs.Option.{option_and_then}
+use Rattle.std.specs.Prelude.{ℕ, List, [], ◌∷◌, Bool, true, false, Option, Some, None, unwrap_or, if◌then◌else◌}
+use Rattle.std.specs.Option.{option_and_then, option_map}
 use Rattle.il_base.specs.declared.element.TheConstants.{BOOLEAN, OBJECT}
+use Rattle.il_base.specs.declared.core_table.names.CoreName.TheVariants.{ArgumentException}
 use Rattle.il_base.specs.declared.world_model.expr.TypeExpr.{TypeExpr}
 use Rattle.il_base.specs.declared.world_model.expr.TypeExpr as expr
 use Rattle.il_base.specs.declared.world_model.expr.MethodUse.{MethodUse}
@@ -20,9 +21,9 @@ use Rattle.rules.specs.step_rules.Integers.{narrowed}
 use Rattle.rules.specs.step_rules.Stores.{all_fit}
 use Rattle.rules.specs.step_rules.Places.{boxed_in}
 use Rattle.rules.specs.step_rules.Objects.{type_of}
-use Rattle.rules.specs.step_rules.Frames.{enter}
-use Rattle.rules.specs.step_rules.Dispatch.{dispatched, this_for}
-use Rattle.rules.specs.step_rules.CoreWords.{Gives, CoreForm, checked, gives_value, gives_truth}
+use Rattle.rules.specs.step_rules.Frames.{enter, entered_with, started}
+use Rattle.rules.specs.step_rules.Dispatch.{dispatched, found_from, this_for}
+use Rattle.rules.specs.step_rules.CoreWords.{Gives, CoreForm, checked, gives_nothing, gives_value, gives_truth, gives_boxed, or_raise, before_call, caller_in}
 use Rattle.rules.specs.step_rules.CoreObjects.{halt, idle_form, type_name_form, same_form, number_text_form, number_is_form, int_equals_form, int_compare_form, exception_text_form, exception_inner_form, exception_parameter_form, get_message_form, get_inner_form, is_same}
 use Rattle.rules.specs.step_rules.CoreTexts.{string_length_form, string_unit_form, string_index_form, string_concat_form, string_from_form, string_part_form, string_itself_form, string_same_form, string_other_form, string_is_form, string_is_empty_form, string_compare_form, int_parse_form}
 use Rattle.rules.specs.step_rules.CoreConsole.{print_form, line_end_form, read_unit_form, read_line_form}
@@ -30,7 +31,9 @@ use Rattle.rules.specs.step_rules.CoreArrays.{array_length_form, fill_array_form
 use Rattle.rules.specs.step_rules.CoreSearches.{find_form, member_find_form, member_list_form}
 use Rattle.rules.specs.step_rules.CoreMaking.{create_with, create_of_with}
 use Rattle.rules.specs.step_rules.CoreTypes.{type_from_handle_form, object_type_form, type_text_form, type_full_name_form, type_namespace_form, type_other_form, type_fits_form, type_has_form, type_is_value_form, type_is_interface_form, type_is_array_form}
-use Rattle.rules.specs.step_rules.CoreMembers.{member_name_form, member_owner_form, member_type_form, method_is_static_form, member_same_form, member_other_form}
+use Rattle.rules.specs.step_rules.CoreInvoking.{called_for, invocable, with_target, elements_by, with_args}
+use Rattle.rules.specs.step_rules.CoreFields.{field_get_form, field_set_form}
+use Rattle.rules.specs.step_rules.CoreMembers.{member_by, member_name_form, member_owner_form, member_type_form, method_is_static_form, member_same_form, member_other_form}
 
 -- ---- members that call nothing; a member that searches isn't virtual, so no slot leads to it
 
@@ -93,14 +96,31 @@ simple core.MemberSame = λ q args s give. stuck s
 simple core.MemberOther = λ q args s give. stuck s
 simple core.Create = λ q args s give. stuck s
 simple core.CreateOf = λ q args s give. stuck s
+simple core.Invoke = λ q args s give. stuck s
+simple core.FieldGet = λ q args s give. stuck s
+simple core.FieldSet = λ q args s give. stuck s
+simple core.PropertyGet = λ q args s give. stuck s
+simple core.PropertySet = λ q args s give. stuck s
 simple core.AreEqual = λ q args s give. stuck s
 
 -- ---- members that call
+
+-- what the method returns that a member called for the member object, its first argument
+abbrev pub returned_type : Queries → State → CoreCall → List Value → Option TypeExpr
+returned_type q s k [] = None
+returned_type q s k (v ∷ vs) =
+    option_map (λ (c : Callee). c.signature.ret) (option_and_then (callee_of q) (option_and_then (called_for q k) (member_by s v)))
+
+abbrev pub gives_returned : Queries → CoreCall → List Value → Value → State → Gives → Next
+gives_returned q k args v s give = given (returned_type q s k args) s (λ e. gives_boxed q e v s give)
 
 -- a member goes on with its own arguments and the result of the method that it called
 abbrev pub with_result : CoreCall → Queries → List Value → Value → State → Gives → Next
 with_result (core.Prints line of_object) q args v s give = print_form line of_object q (v ∷ []) s give
 with_result core.AreEqual q args v s give = given (narrowed BOOLEAN v) s (λ b. gives_value b s give)
+with_result core.Invoke q args v s give = gives_returned q core.Invoke args v s give
+with_result core.PropertyGet q args v s give = gives_returned q core.PropertyGet args v s give
+with_result core.PropertySet q args v s give = gives_nothing s give
 with_result _ q args v s give = stuck s
 
 -- the first argument: the object that a constructor made
@@ -117,6 +137,9 @@ gives_unboxed _ s give = stuck s
 abbrev pub without_result : CoreCall → Queries → List Value → State → Gives → Next
 without_result core.Create q args s give = gives_first args s give
 without_result core.CreateOf q args s give = gives_unboxed args s give
+without_result core.Invoke q args s give = gives_value value.Null s give
+without_result core.PropertyGet q args s give = gives_value value.Null s give
+without_result core.PropertySet q args s give = gives_nothing s give
 without_result _ q args s give = stuck s
 
 abbrev pub with_option : CoreCall → Queries → List Value → State → Gives → Option Value → Next
@@ -174,20 +197,98 @@ create_form q args s give = create_with q args s give (constructs q core.Create 
 unfoldable pub create_of_form : List TypeExpr → CoreForm
 create_of_form targs q args s give = create_of_with targs q args s give (constructs q core.CreateOf give)
 
+-- ---- members that call no method of a member object
+
+unfoldable pub own_member : CoreCall → CoreForm
+own_member (core.Prints line of_object) = print_object line
+own_member core.AreEqual = equal_form
+own_member (core.TypeFind throws) = find_form throws
+own_member core.Create = create_form
+own_member (core.MemberFind k) = member_find_form k
+own_member (core.MemberList k) = member_list_form k
+own_member core.MethodIsStatic = method_is_static_form
+own_member (core.MemberType k) = member_type_form
+own_member core.MemberSame = member_same_form
+own_member core.MemberOther = member_other_form
+own_member k = simple k
+
+-- `back` is the state in which the call comes again
+unfoldable pub reflected_member : State → CoreCall → CoreForm
+reflected_member back core.FieldGet = field_get_form back
+reflected_member back core.FieldSet = field_set_form back
+reflected_member back k = own_member k
+
+-- ---- calls by reflection. `keep` is what waits for the called method, `back` the arguments with which the call comes again.
+
+-- what the called member gives goes to the member that called it
+abbrev pub gives_called : Queries → CoreCall → List Value → Gives → Gives
+gives_called q k keep give t v bytes = with_option k q keep (caller_in t) (λ u w more. give u w bytes) v
+
+-- a member of the core library is whole in this step, in a frame of its own, so that what it raises is wrapped
+abbrev pub runs_member : Queries → CoreCall → List Value → List Value → Callee → List Value → State → Gives → CoreCall → Next
+runs_member q k keep back c vs s give found =
+    let t = entered_with c vs [] (waits.Core k keep) s in
+    checked q c vs t (λ args. reflected_member (before_call back (caller_in t)) found q args t (gives_called q k keep give))
+
+abbrev pub runs_called : Queries → CoreCall → List Value → List Value → Callee → List Value → State → Gives → Option CoreCall → Next
+runs_called q k keep back c vs s give (Some found) = runs_member q k keep back c vs s give found
+runs_called q k keep back c vs s give None = enter q c vs (waits.Core k keep) s
+
+-- the method that was found for an object
+abbrev pub calls_found : Queries → CoreCall → List Value → List Value → List Value → State → Gives → ℕ → Callee → Next
+calls_found q k keep back vs s give a found =
+    given (found_args q s found (value.Object a) vs) s (λ ws. runs_called q k keep back found ws s give (q.core found.called.method.0))
+
+abbrev pub calls_on : Queries → CoreCall → List Value → List Value → Callee → List Value → State → Gives → ℕ → Next
+calls_on q k keep back c args s give a =
+    with_args q c.signature args s (λ vs. given (object_at s a) s (λ o. found_from q c (type_of q o) s (calls_found q k keep back vs s give a)))
+
+-- a static method begins its type (II.10.5.3)
+abbrev pub calls_static : Queries → CoreCall → List Value → List Value → Callee → List Value → State → Gives → Next
+calls_static q k keep back c args s give =
+    with_args q c.signature args s (λ vs. started q false c.called.owner (before_call back s) (λ t.
+    given (all_fit q c.signature.params vs) s (λ ws. runs_called q k keep back c ws s give (q.core c.called.method.0))))
+
+abbrev pub calls_method : Queries → CoreCall → List Value → List Value → Value → List Value → State → Gives → Callee → Next
+calls_method q k keep back target args s give c =
+    if c.signature.this then with_target q c.called.owner target s (calls_on q k keep back c args s give)
+    else calls_static q k keep back c args s give
+
+-- a property without such an accessor raises
+unfoldable pub calls_for : Queries → CoreCall → List Value → Value → Value → List Value → State → Gives → Next
+calls_for q k back v target args s give =
+    given (member_by s v) s (λ m. or_raise q ArgumentException s (called_for q k m) (λ u.
+    invocable q u s (calls_method q k (v ∷ []) back target args s give)))
+
+-- MethodBase.Invoke(object, object[])
+unfoldable pub invoke_form : CoreForm
+invoke_form q (v ∷ target ∷ array ∷ []) s give =
+    given (elements_by s array) s (λ args. calls_for q core.Invoke (v ∷ target ∷ array ∷ []) v target args s give)
+invoke_form q _ s give = stuck s
+
+-- PropertyInfo.GetValue(object)
+unfoldable pub property_get_form : CoreForm
+property_get_form q (v ∷ target ∷ []) s give = calls_for q core.PropertyGet (v ∷ target ∷ []) v target [] s give
+property_get_form q _ s give = stuck s
+
+-- PropertyInfo.SetValue(object, object)
+unfoldable pub property_set_form : CoreForm
+property_set_form q (v ∷ target ∷ w ∷ []) s give = calls_for q core.PropertySet (v ∷ target ∷ w ∷ []) v target (w ∷ []) s give
+property_set_form q _ s give = stuck s
+
+-- FieldInfo.GetValue(object) and SetValue(object, object), called by the program
+unfoldable pub field_form : CoreCall → CoreForm
+field_form k q args s give = reflected_member (before_call args s) k q args s give
+
 -- ---- all members
 
 unfoldable pub member : CoreCall → CoreForm
-member (core.Prints line of_object) = print_object line
-member core.AreEqual = equal_form
-member (core.TypeFind throws) = find_form throws
-member core.Create = create_form
-member (core.MemberFind k) = member_find_form k
-member (core.MemberList k) = member_list_form k
-member core.MethodIsStatic = method_is_static_form
-member (core.MemberType k) = member_type_form
-member core.MemberSame = member_same_form
-member core.MemberOther = member_other_form
-member k = simple k
+member core.Invoke = invoke_form
+member core.PropertyGet = property_get_form
+member core.PropertySet = property_set_form
+member core.FieldGet = field_form core.FieldGet
+member core.FieldSet = field_form core.FieldSet
+member k = own_member k
 
 -- a member with the type arguments of its call
 unfoldable pub member_of : List TypeExpr → CoreCall → CoreForm

@@ -18,7 +18,7 @@ use Rattle.rules.specs.step_rules.Objects.{new_instance}
 use Rattle.rules.specs.step_rules.Raising.{raise}
 use Rattle.rules.specs.step_rules.Frames.{started, is_abstract_type}
 use Rattle.rules.specs.step_rules.Dispatch.{path_into_box}
-use Rattle.rules.specs.step_rules.CoreWords.{Gives, gives_value}
+use Rattle.rules.specs.step_rules.CoreWords.{Gives, gives_value, before_call}
 use Rattle.rules.specs.step_rules.CoreTypes.{typed_by}
 
 -- ---- types of which no object is made
@@ -70,16 +70,12 @@ creates q e back s give_zero run =
 
 -- ---- CreateInstance(Type): a value type's zero value is in a box
 
--- an argument back on the evaluation stack
-abbrev pub with_top : Value → State → State
-with_top v s = record s { top = record s.top { stack = v ∷ s.top.stack } }
-
 abbrev pub gives_box : TypeExpr → State → Gives → Value → Next
 gives_box e s give zero = made (object.Boxed e zero) s (λ a t. gives_value (value.Object a) t give)
 
 abbrev pub creates_for : Queries → State → Gives → (Callee → Runs) → Value → Next
 creates_for q s give run value.Null = raise q ArgumentNullException s
-creates_for q s give run v = given (typed_by s v) s (λ e. creates q e (with_top v s) s (gives_box e s give) run)
+creates_for q s give run v = given (typed_by s v) s (λ e. creates q e (before_call (v ∷ []) s) s (gives_box e s give) run)
 
 unfoldable pub create_with : Queries → List Value → State → Gives → (Callee → Runs) → Next
 create_with q (v ∷ []) s give run = creates_for q s give run v

@@ -11,6 +11,7 @@ use Rattle.il_base.specs.world_model.Exprs.{same_expr}
 use Rattle.il_base.specs.declared.cil_values.definition.Signature.{Signature}
 use Rattle.il_base.specs.declared.cil_values.definition.Method.{Method}
 use Rattle.il_base.specs.declared.cil_values.definition.FieldDef.{FieldDef}
+use Rattle.il_base.specs.declared.cil_values.definition.PropertyDef.{PropertyDef}
 use Rattle.il_base.specs.declared.cil_values.value.Value.{Value}
 use Rattle.il_base.specs.declared.cil_values.value.Value.TheVariants as value
 use Rattle.il_base.specs.declared.cil_values.object.Obj.{Obj}
@@ -73,7 +74,7 @@ member_owner_form q _ s give = stuck s
 abbrev pub type_of_item : Queries → Item → Option TypeExpr
 type_of_item q (item.Method m) = option_map (λ (sig : Signature). sig.ret) (option_and_then (λ (f : Method). good f.signature) (q.method m.0))
 type_of_item q (item.Field f) = option_and_then (λ (d : FieldDef). good d.typ) (q.field f.0)
-type_of_item q (item.Prop p) = option_and_then good (q.property p.0)
+type_of_item q (item.Prop p) = option_and_then (λ (d : PropertyDef). good d.typ) (q.property p.0)
 type_of_item q _ = None
 
 -- with the arguments of the type in which the member was found

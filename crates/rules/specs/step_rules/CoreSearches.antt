@@ -1,5 +1,5 @@
 -- Members that search the world: Type.GetType by a name, and the searches for members of a type.
-use Rattle.std.specs.Prelude.{ℕ, pos, List, [], ◌∷◌, ◌++◌, Bool, true, false, not, Some, None}
+use Rattle.std.specs.Prelude.{ℕ, pos, List, [], ◌∷◌, ◌++◌, Bool, true, false, not, Option, Some, None, slice_get}
 use Rattle.std.specs.Ordering.{int_eq}
 use Rattle.il_base.specs.declared.world_model.expr.TypeExpr.{TypeExpr}
 use Rattle.il_base.specs.declared.core_table.names.CoreName.{CoreName}
@@ -18,6 +18,7 @@ use Rattle.il_base.specs.declared.cil_values.value.Value.TheVariants as value
 use Rattle.rules.specs.declared.type_rules.found_member.FoundMember.{FoundMember}
 use Rattle.rules.specs.step_rules.Queries.{Queries}
 use Rattle.il_base.specs.declared.cil_values.state.State.{State}
+use Rattle.il_base.specs.declared.cil_values.frame.Frame.{Frame}
 use Rattle.rules.specs.step_rules.Next.{Next}
 use Rattle.rules.specs.step_rules.Words.{stuck, stopped, given, made}
 use Rattle.rules.specs.step_rules.Integers.{held_number}
@@ -38,13 +39,27 @@ searches core.MemberSame = true
 searches core.MemberOther = true
 searches core.Create = true
 searches core.CreateOf = true
+searches core.Invoke = true
+searches core.FieldGet = true
+searches core.FieldSet = true
+searches core.PropertyGet = true
+searches core.PropertySet = true
 searches _ = false
 
 -- ---- types by name
 
+-- The method that calls a member: where reflection calls it, the member is in a frame of its own, and that below is the caller's.
+abbrev pub below_member : ℕ → Option Frame → Option CoreCall → ℕ
+below_member m (Some f) (Some k) = f.method.method.0
+below_member m None (Some k) = m
+below_member m f None = m
+
+abbrev pub calling_method : Queries → State → ℕ
+calling_method q s = let m = s.top.method.method.0 in below_member m (slice_get s.below 0) (q.core m)
+
 -- the type that a text names for the method that calls
 abbrev pub sought_by : Queries → State → List ℕ → Sought
-sought_by q s units = q.find s.top.method.method.0 (bytes_of_units units)
+sought_by q s units = q.find (calling_method q s) (bytes_of_units units)
 
 -- a name that no type has: null, or TypeLoadException
 abbrev pub gives_missing : Queries → State → Gives → Bool → Next

@@ -4,13 +4,16 @@ use Rattle.std.specs.Prelude.{ℕ, ℤ, List, [], ◌∷◌, Bool, Option, Some,
 use Rattle.std.specs.Option.{option_and_then}
 use Rattle.il_base.specs.declared.world_model.expr.TypeExpr.{TypeExpr}
 use Rattle.il_base.specs.world_model.Exprs.{same_expr}
+use Rattle.il_base.specs.declared.core_table.names.CoreName.{CoreName}
 use Rattle.il_base.specs.declared.core_table.names.CoreName.TheVariants.{NullReferenceException}
 use Rattle.il_base.specs.declared.cil_values.value.Value.{Value}
 use Rattle.il_base.specs.declared.cil_values.value.Value.TheVariants as value
+use Rattle.il_base.specs.declared.cil_values.object.Obj.TheVariants as object
+use Rattle.il_base.specs.declared.cil_values.frame.Frame.{Frame}
 use Rattle.rules.specs.step_rules.Queries.{Queries}
 use Rattle.il_base.specs.declared.cil_values.state.State.{State}
 use Rattle.rules.specs.step_rules.Next.{Next}
-use Rattle.rules.specs.step_rules.Words.{stuck, given, required, object_at, truth_value}
+use Rattle.rules.specs.step_rules.Words.{stuck, given, required, made, object_at, truth_value}
 use Rattle.rules.specs.step_rules.Closing.{Callee, front}
 use Rattle.rules.specs.step_rules.Stores.{fits, is_value}
 use Rattle.rules.specs.step_rules.Places.{place_value, alive}
@@ -40,6 +43,34 @@ gives_int n s give = gives_value (value.I4 n) s give
 -- a new string
 abbrev pub gives_text : List ℕ → State → Gives → Next
 gives_text units s give = made_text units s (λ a t. gives_value (value.Object a) t give)
+
+-- a value as an object: that of a value type in a box (III.4.1)
+abbrev pub gives_boxed : Queries → TypeExpr → Value → State → Gives → Next
+gives_boxed q e v s give =
+    if is_value q e then made (object.Boxed e v) s (λ a t. gives_value (value.Object a) t give) else gives_value v s give
+
+-- goes on with what is there; a new exception is raised where it isn't
+abbrev pub or_raise : {A : Type 0} → Queries → CoreName → State → Option A → (A → Next) → Next
+or_raise q n s None f = raise q n s
+or_raise q n s (Some x) f = f x
+
+-- ---- a call that comes again
+
+abbrev pub with_top : Value → State → State
+with_top v s = record s { top = record s.top { stack = v ∷ s.top.stack } }
+
+-- the state before a call, with its arguments on the evaluation stack
+abbrev pub before_call : List Value → State → State
+before_call [] s = s
+before_call (v ∷ vs) s = before_call vs (with_top v s)
+
+-- the state of the caller, without the frame of the member that it called
+abbrev pub caller_of : State → List Frame → State
+caller_of s [] = s
+caller_of s (f ∷ fs) = record s { top = f; below = fs }
+
+abbrev pub caller_in : State → State
+caller_in s = caller_of s s.below
 
 -- ---- arguments
 

@@ -45,6 +45,10 @@ dispatched q c e s f =
     given (found_use q e c) s (λ u. given (q.method u.method.0) s (λ m. required (not (is_abstract m)) s (
     known m.signature s (λ sig. required (is_called_alike sig c.signature) s (had (callee_of q u) s f)))))
 
+-- the method that runs for an object of a type: the one that answers the slot of a virtual method, else the method itself
+unfoldable pub found_from : Queries → Callee → TypeExpr → State → (Callee → Next) → Next
+found_from q c e s f = if is_virtual c.method then dispatched q c e s f else required (not (is_abstract c.method)) s (f c)
+
 -- ---- `this`
 
 abbrev pub path_into_box : ℕ → TypeExpr → Path

@@ -2,7 +2,6 @@
 -- go by their places in the world (`TypeId`, `MethodId` and `FieldId` as numbers); types of definitions are open.
 use Rattle.std.specs.Prelude.{ℕ, List, Bool, Option}
 use Rattle.il_base.specs.declared.ids.Item.{Item}
-use Rattle.il_base.specs.declared.world_model.known.Known.{Known}
 use Rattle.il_base.specs.declared.world_model.expr.TypeExpr.{TypeExpr}
 use Rattle.il_base.specs.declared.world_model.expr.MethodUse.{MethodUse}
 use Rattle.il_base.specs.declared.core_table.names.CoreName.{CoreName}
@@ -10,6 +9,7 @@ use Rattle.il_base.specs.declared.cil_values.core_call.CoreCall.{CoreCall}
 use Rattle.il_base.specs.declared.cil_values.core_call.MemberKind.{MemberKind}
 use Rattle.il_base.specs.declared.cil_values.definition.Method.{Method}
 use Rattle.il_base.specs.declared.cil_values.definition.FieldDef.{FieldDef}
+use Rattle.il_base.specs.declared.cil_values.definition.PropertyDef.{PropertyDef}
 use Rattle.il_base.specs.declared.cil_values.definition.Head.{Head}
 use Rattle.il_base.specs.declared.cil_values.layout.Layout.{Layout}
 use Rattle.il_base.specs.declared.cil_values.layout.Shape.{Shape}
@@ -50,8 +50,7 @@ pub record Queries : Type 0 where
   pub members : MemberKind → Option (List ℕ) → TypeExpr → List FoundMember
   -- a member's name, in UTF-8
   pub title : Item → List ℕ
-  -- the type of a property (II.22.34)
-  pub property : ℕ → Option (Known TypeExpr)
+  pub property : ℕ → Option PropertyDef
   -- the nearest type of the core library among a type and its bases
   pub kin : TypeExpr → Option CoreName
   -- the slots of Object that the core library calls: ToString() and Equals(object)

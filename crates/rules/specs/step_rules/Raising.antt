@@ -112,6 +112,9 @@ failing _ _ inits = inits
 abbrev pub wrapper_of : CoreCall → Option CoreName
 wrapper_of core.Create = Some name.TargetInvocationException
 wrapper_of core.CreateOf = Some name.TargetInvocationException
+wrapper_of core.Invoke = Some name.TargetInvocationException
+wrapper_of core.PropertyGet = Some name.TargetInvocationException
+wrapper_of core.PropertySet = Some name.TargetInvocationException
 wrapper_of _ = None
 
 unfoldable pub wrapper : Waits → Option CoreName
@@ -140,8 +143,13 @@ next_handler code u (n ∷ ns) s out = handler_begins code n (unwinding (record 
 next_handler code u [] s out =
     if nat_eq s.top.number u.frame then handler_begins code u.clause (caught u.object) (value.Object u.object ∷ []) s else out
 
+-- a frame without code, that of a member of the core library which reflection called, has no handlers
+abbrev pub unwind_by : Unwinding → State → Next → Option Here → Next
+unwind_by u s out None = out
+unwind_by u s out (Some here) = next_handler here.code u u.left s out
+
 abbrev pub unwind_here : Queries → Unwinding → State → Next → Next
-unwind_here q u s out = given (here_of q s.top) s (λ (here : Here). next_handler here.code u u.left s out)
+unwind_here q u s out = unwind_by u s out (here_of q s.top)
 
 -- unwinds frame by frame: a frame is left after its last handler
 unfoldable pub unwind_to : Queries → Unwinding → State → List Frame → Next

@@ -10,7 +10,8 @@ use Rattle.il_base.specs.declared.world_model.expr.TypeExpr.TheOpen.{TypeExpr-F}
 use Rattle.il_base.specs.declared.cil_values.value.Value.{Value}
 use Rattle.il_base.specs.declared.cil_values.value.Value.TheVariants.{I4}
 use Rattle.il_base.specs.declared.cil_values.object.Obj.{Obj}
-use Rattle.il_base.specs.declared.cil_values.end.End.TheVariants.{Stopped, Stuck}
+use Rattle.il_base.specs.declared.cil_values.end.End.{End}
+use Rattle.il_base.specs.declared.cil_values.end.End.TheVariants.{Ended, Threw, Stopped, Stuck}
 use Rattle.il_base.specs.declared.cil_values.definition.Method.{Method}
 use Rattle.il_base.specs.declared.cil_values.resolved.Code.{Code}
 use Rattle.il_base.specs.declared.cil_values.resolved.Clause.{Clause}
@@ -30,6 +31,17 @@ stuck s = over (Stuck s.top.method.method s.top.at)
 -- an operand, a place that is gone, a member that ends the run, or a limit ends the run at this instruction
 abbrev pub stopped : State → Next
 stopped s = over (Stopped s.top.method.method s.top.at)
+
+-- an end of the run because of the code, at the instruction of a state
+abbrev pub end_at : State → End → End
+end_at s (Stuck m at) = Stuck s.top.method.method s.top.at
+end_at s (Stopped m at) = Stopped s.top.method.method s.top.at
+end_at s (Ended code) = Ended code
+end_at s (Threw kind message) = Threw kind message
+
+abbrev pub ends_at : State → Next → Next
+ends_at s (went t bytes) = went t bytes
+ends_at s (over e) = over (end_at s e)
 
 -- ---- going on with what is there
 

@@ -1,7 +1,10 @@
 -- The answers of a linked world to the questions of the machine (`Queries`).
 use Rattle.std.specs.Prelude.{ℕ, suc, ◌+◌, ◌-◌, List, [], ◌∷◌, length, Option, Some, None, slice_get, ◌==◌, if◌then◌else◌}
-use Rattle.std.specs.List.{list_any}
+use Rattle.std.specs.List.{list_any, flat_map}
 use Rattle.std.specs.Option.{option_and_then, option_map}
+use Rattle.il_base.specs.declared.table.TheConstants.{PROPERTY}
+use Rattle.il_base.specs.declared.semantics.TheConstants.{GETTER, SETTER}
+use Rattle.il_base.specs.Flags.{has_flag}
 use Rattle.il_base.specs.declared.ids.TypeId.{TypeId}
 use Rattle.il_base.specs.declared.ids.MethodId.{MethodId}
 use Rattle.il_base.specs.declared.ids.Item.{Item}
@@ -14,12 +17,15 @@ use Rattle.il_base.specs.declared.world_model.expr.MethodUse.{MethodUse}
 use Rattle.il_base.specs.declared.world_model.members.FieldRow.{FieldRow}
 use Rattle.il_base.specs.declared.world_model.members.MethodDefRow.{MethodDefRow}
 use Rattle.il_base.specs.declared.world_model.members.PropertyRow.{PropertyRow}
+use Rattle.il_base.specs.declared.world_model.members.MethodSemanticsRow.{MethodSemanticsRow}
 use Rattle.il_base.specs.declared.world_model.record.AsmRec.{AsmRec}
+use Rattle.il_base.specs.world_model.Tokens.{token_of}
 use Rattle.il_base.specs.world_model.Worlds.{rows_before, type_id, known_map, known_then}
 use Rattle.il_base.specs.declared.core_table.names.CoreName.{CoreName}
 use Rattle.il_base.specs.declared.core_table.names.CoreName.TheVariants as core
 use Rattle.il_base.specs.declared.core_table.shape.CoreType.{CoreType}
 use Rattle.il_base.specs.declared.core_table.types.TheConstants.{TYPES}
+use Rattle.il_base.specs.declared.cil_values.definition.PropertyDef.{PropertyDef}
 use Rattle.il_base.specs.declared.cil_values.core_call.MemberKind.{MemberKind}
 use Rattle.il_base.specs.declared.cil_values.core_call.MemberKind.TheVariants as kind
 use Rattle.rules.specs.declared.link_rules.row_at.RowAt.{RowAt}
@@ -30,6 +36,7 @@ use Rattle.il_base.specs.declared.cil_values.sought.Sought.TheVariants as sought
 use Rattle.attr_blobs.specs.declared.name.NameRead.{NameRead}
 use Rattle.attr_blobs.specs.declared.name.NameRead.TheVariants as read
 use Rattle.attr_blobs.specs.Values.{name_of_text}
+use Rattle.rules.specs.link_rules.Types.{at_row}
 use Rattle.rules.specs.link_rules.Signatures.{definition_expr, names_at, method_type}
 use Rattle.rules.specs.link_rules.Members.{home_from, type_home, owner_of, array_type, methods_in, fields_in, with_bases}
 use Rattle.rules.specs.link_rules.Cycles.{listed, same_row, home_of}
@@ -38,7 +45,7 @@ use Rattle.rules.specs.type_rules.Rows.{rec_at, field_row_at}
 use Rattle.rules.specs.type_rules.Slots.{method_home, method_row_at, type_of_method}
 use Rattle.rules.specs.type_rules.Dispatch.{dispatch, method_id}
 use Rattle.rules.specs.type_rules.Texts.{text}
-use Rattle.rules.specs.type_rules.Searches.{find_type, fields_found, methods_found, properties_found, properties_in}
+use Rattle.rules.specs.type_rules.Searches.{find_type, fields_found, methods_found, properties_found, properties_in, accessor_of}
 use Rattle.rules.specs.type_rules.Labels.{label, space, encloser_at}
 use Rattle.rules.specs.type_rules.Initializers.{initializer}
 use Rattle.rules.specs.type_rules.Makers.{maker}
@@ -138,12 +145,24 @@ title_query recs _ = []
 abbrev pub property_type : List AsmRec → ℕ → AsmRec → PropertyRow → Known TypeExpr
 property_type recs a rec p = known_map (λ (m : MethodType). m.ret) (known_then (method_type (names_at recs a rec)) p.signature)
 
-abbrev pub property_type_at : List AsmRec → RowAt → Option (Known TypeExpr)
-property_type_at recs at =
-    option_and_then (λ (rec : AsmRec). option_map (property_type recs at.asm rec) (slice_get rec.property at.row)) (rec_at recs at)
+-- the first accessor of a property of a kind (II.22.28, II.23.1.12)
+abbrev pub accessor_by : ℕ → AsmRec → ℕ → MethodSemanticsRow → List ℕ
+accessor_by flag rec token row = if has_flag row.semantics flag then accessor_of rec token row else []
 
-unfoldable pub property_query : List AsmRec → ℕ → Option (Known TypeExpr)
-property_query recs p = option_and_then (property_type_at recs) (home_from properties_in 0 recs p)
+unfoldable pub first_accessor : List AsmRec → ℕ → RowAt → AsmRec → Option ℕ
+first_accessor recs flag at rec =
+    option_map (λ k. (method_id recs (at_row at.asm k)).0) (slice_get (flat_map (accessor_by flag rec (token_of PROPERTY (suc at.row))) rec.method_semantics) 0)
+
+abbrev pub property_def : List AsmRec → RowAt → AsmRec → PropertyRow → PropertyDef
+property_def recs at rec p =
+    record { typ = property_type recs at.asm rec p; getter = first_accessor recs GETTER at rec; setter = first_accessor recs SETTER at rec }
+
+abbrev pub property_at : List AsmRec → RowAt → Option PropertyDef
+property_at recs at =
+    option_and_then (λ (rec : AsmRec). option_map (property_def recs at rec) (slice_get rec.property at.row)) (rec_at recs at)
+
+unfoldable pub property_query : List AsmRec → ℕ → Option PropertyDef
+property_query recs p = option_and_then (property_at recs) (home_from properties_in 0 recs p)
 
 -- ---- virtual calls
 

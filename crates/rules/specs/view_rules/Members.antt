@@ -140,15 +140,18 @@ member_info_call core.GetName = Some call.MemberName
 member_info_call core.GetDeclaringType = Some call.MemberOwner
 member_info_call _ = None
 
--- of MethodBase, MethodInfo, FieldInfo and PropertyInfo; a call of what was found, and reading or setting it, ends the run
-abbrev pub info_call : CoreName → Option CoreCall
-info_call core.GetIsStatic = Some call.MethodIsStatic
-info_call core.GetReturnType = Some (call.MemberType kind.Method)
-info_call core.GetFieldType = Some (call.MemberType kind.Field)
-info_call core.GetPropertyType = Some (call.MemberType kind.Property)
-info_call core.OpEquality = Some call.MemberSame
-info_call core.OpInequality = Some call.MemberOther
-info_call _ = Some call.Halts
+-- of MethodBase, MethodInfo, FieldInfo and PropertyInfo, with what GetValue and SetValue are there
+abbrev pub info_call : CoreCall → CoreCall → CoreName → Option CoreCall
+info_call gets sets core.Invoke = Some call.Invoke
+info_call gets sets core.GetValue = Some gets
+info_call gets sets core.SetValue = Some sets
+info_call gets sets core.GetIsStatic = Some call.MethodIsStatic
+info_call gets sets core.GetReturnType = Some (call.MemberType kind.Method)
+info_call gets sets core.GetFieldType = Some (call.MemberType kind.Field)
+info_call gets sets core.GetPropertyType = Some (call.MemberType kind.Property)
+info_call gets sets core.OpEquality = Some call.MemberSame
+info_call gets sets core.OpInequality = Some call.MemberOther
+info_call gets sets _ = Some call.Halts
 
 -- CreateInstance(Type), CreateInstance<T>()
 abbrev pub activator_call : CoreParams → Option CoreCall
@@ -174,10 +177,10 @@ call_by core.Array name ps = Some call.ArrayLength
 call_by core.Console name ps = console_call name ps
 call_by core.Type name ps = type_call name ps
 call_by core.MemberInfo name ps = member_info_call name
-call_by core.MethodBase name ps = info_call name
-call_by core.MethodInfo name ps = info_call name
-call_by core.FieldInfo name ps = info_call name
-call_by core.PropertyInfo name ps = info_call name
+call_by core.MethodBase name ps = info_call call.Halts call.Halts name
+call_by core.MethodInfo name ps = info_call call.Halts call.Halts name
+call_by core.FieldInfo name ps = info_call call.FieldGet call.FieldSet name
+call_by core.PropertyInfo name ps = info_call call.PropertyGet call.PropertySet name
 call_by core.Activator name ps = activator_call ps
 call_by core.RuntimeHelpers name ps = Some call.FillArray
 call_by core.Attribute name ps = Some call.Idle

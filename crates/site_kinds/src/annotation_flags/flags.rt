@@ -5,7 +5,7 @@ ghost use Rattle.rules.specs.mark_rules.Annotations.{field_holds, slot_kinds, fi
 ghost use Rattle.mark_parts.specs.mark_tables.Assemblies.{all_of, IsMarker};
 ghost use Rattle.attribute_values.specs.Tables.{AreAttributeTables};
 ghost use Rattle.site_kinds.specs.annotation_flags.Told.{holder_told};
-ghost use Rattle.site_kinds.specs.annotation_flags.Flags.{parameter_holds, return_holds, flags_of};
+ghost use Rattle.rules.specs.site_rules.Flags.{parameter_holds, return_holds, flags_of};
 
 use crate::annotation_flags::generic::generic_kinds;
 use crate::annotation_flags::holder::Holder;
@@ -77,7 +77,7 @@ fn field_flags<'a>(
 
 /// The kinds of members that reflection may ask of what a holder has, as bits (`rules::mark_rules::member_kinds`); 0 without an
 /// annotation, and for a parameter, a return or a field whose type is neither System.Type nor System.String.
-#[tactic(auto, unfolding(crate::specs::annotation_flags::Flags::flags_of))]
+#[tactic(auto, unfolding(rules::specs::site_rules::Flags::flags_of))]
 pub fn flags_of<'a>(
     alloc: Global,
     marker: &'a Marker<'a>,

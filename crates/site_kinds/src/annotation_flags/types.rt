@@ -10,8 +10,8 @@ ghost use Rattle.rules.specs.link_rules.Members.{type_home};
 ghost use Rattle.rules.specs.mark_rules.Attributes.{is_system_type_row};
 ghost use Rattle.rules.specs.mark_rules.Annotations.{may_name_type, good_expr, field_holds};
 ghost use Rattle.mark_parts.specs.mark_tables.Assemblies.{recs_of, place_of, rec_of, all_of, IsAssembly, IsMarker};
-ghost use Rattle.site_kinds.specs.Signatures.{signature_in, signature_at, parameter_slot, return_slot, sig_type, slot_type, any_of};
-ghost use Rattle.site_kinds.specs.annotation_flags.Flags.{parameter_holds, return_holds};
+ghost use Rattle.rules.specs.site_rules.Signatures.{signature_in, signature_at, parameter_slot, return_slot, sig_type, slot_type, any_of};
+ghost use Rattle.rules.specs.site_rules.Flags.{parameter_holds, return_holds};
 
 use attribute_values::attribute_kinds::system_type::is_system_type_row;
 use il_base::world_model::{AsmRec, Known, TypeExpr};

@@ -2,10 +2,10 @@
 use Rattle.std.specs.Prelude.{◌≡◌, ℕ, List, [], map, slice_get, unwrap_or, Option, Some, Result, MatchResult}
 use Rattle.il_base.specs.declared.ids.MethodId.{MethodId}
 use Rattle.il_base.specs.declared.world_model.record.AsmRec.{AsmRec}
-use Rattle.value_flow.specs.stack_depths.Depths.{depth_at, IsBad, AreDepths}
-use Rattle.value_flow.specs.flow_rules.Methods.{Setting, setting_of}
-use Rattle.value_flow.specs.flow_rules.Steps.{offsets}
-use Rattle.value_flow.specs.flow_rules.Exits.{exit_offsets, exits_of}
+use Rattle.rules.specs.flow_rules.Depths.{depth_at, IsBad, AreDepths}
+use Rattle.rules.specs.flow_rules.Methods.{Setting, setting_of}
+use Rattle.rules.specs.flow_rules.Steps.{offsets}
+use Rattle.rules.specs.flow_rules.Exits.{exit_offsets, exits_of}
 use Rattle.value_flow.specs.declared.body_graph.graph.Graph.{Graph}
 use Rattle.value_flow.specs.declared.body_graph.graph.GraphError.{GraphError}
 use Rattle.value_flow.specs.declared.body_graph.graph.GraphError.TheVariants as fault

@@ -1,7 +1,7 @@
 -- A method of a world with its body.
 use Rattle.std.specs.Prelude.{◌≡◌, Some, slice_get}
 use Rattle.rules.specs.link_rules.Linked.{IsWorld}
-use Rattle.value_flow.specs.flow_rules.Methods.{Setting}
+use Rattle.rules.specs.flow_rules.Methods.{Setting}
 use Rattle.value_flow.specs.declared.body_graph.methods.Method.{Method}
 
 abbrev pub setting_in : Method → Setting

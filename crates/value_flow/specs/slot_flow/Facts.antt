@@ -1,16 +1,16 @@
 -- Sources in slots as numbers, for a flow whose sources are numbers.
 use Rattle.std.specs.Prelude.{◌≡◌, ℕ, ◌+◌, ◌*◌, ◌/◌, ◌%◌, ◌<◌, ◌≤◌, Bool, true, false, ◌&&◌, nat_lt, List, [], ◌∷◌, ◌++◌, length, map, slice_get, unwrap_or, Some, ◌↔◌, IsTrue}
 use Rattle.std.specs.List.{Contains, filter, flat_map}
-use Rattle.value_flow.specs.declared.stack_depths.exit.Step.{Step}
-use Rattle.value_flow.specs.declared.stack_depths.exit.Exit.{Exit}
-use Rattle.value_flow.specs.stack_depths.Depths.{depth_at}
+use Rattle.rules.specs.declared.flow_rules.exit.Step.{Step}
+use Rattle.rules.specs.declared.flow_rules.exit.Exit.{Exit}
+use Rattle.rules.specs.flow_rules.Depths.{depth_at}
 use Rattle.value_flow.specs.declared.slot_flow.moves.Flowing.{Flowing}
-use Rattle.value_flow.specs.declared.slot_flow.moves.Turning.{Turning}
-use Rattle.value_flow.specs.declared.slot_flow.moves.Turning.TheVariants as turning
-use Rattle.value_flow.specs.declared.slot_flow.moves.Move.TheVariants as move
+use Rattle.rules.specs.declared.flow_rules.moves.Turning.{Turning}
+use Rattle.rules.specs.declared.flow_rules.moves.Turning.TheVariants as turning
+use Rattle.rules.specs.declared.flow_rules.moves.Move.TheVariants as move
 use Rattle.il_base.specs.declared.bits.Bits.{Bits}
 use Rattle.closure.specs.Facts.{facts_in, Derived}
-use Rattle.value_flow.specs.slot_flow.Carrying.{Flow, Held, held, only_if, is_slot, lowest, through, made, is_handler, is_caught, passes, arriving, at_instruction}
+use Rattle.rules.specs.flow_rules.Carrying.{Flow, Held, held, only_if, is_slot, lowest, through, made, is_handler, is_caught, passes, arriving, at_instruction}
 
 abbrev pub turned : Flowing → Turning → ℕ → ℕ
 turned f turning.FromHandle s = unwrap_or (slice_get f.from_handle.now s) f.unknown

@@ -3,7 +3,7 @@ use Rattle.std.specs.Prelude.{◌≡◌, ℕ, true, Bool, ◌&&◌, nat_lt, ◌�
 use Rattle.closure.specs.Facts.{facts_in}
 use Rattle.value_flow.specs.declared.slot_flow.moves.Flowing.{Flowing}
 use Rattle.value_flow.specs.declared.slot_flow.walks.Reached.{Reached}
-use Rattle.value_flow.specs.slot_flow.Carrying.{Carried}
+use Rattle.rules.specs.flow_rules.Carrying.{Carried}
 use Rattle.value_flow.specs.slot_flow.Facts.{flow_in, number}
 
 -- whether a source is found in a slot at an instruction

@@ -4,12 +4,12 @@ use Rattle.std.specs.List.{Contains, filter, flat_map}
 use Rattle.std.proofs.Common.{zero, suc, refl, subst, sym, arith, ltb-true, zero-mul, ◌⊎◌, inl, inr}
 use Rattle.std.proofs.lemmas.Nat.{mul-add-lt}
 use Rattle.std.proofs.lemmas.List.Elements.{Contains-append_cases}
-use Rattle.value_flow.specs.declared.stack_depths.exit.Step.{Step}
-use Rattle.value_flow.specs.declared.stack_depths.exit.Exit.{Exit}
-use Rattle.value_flow.specs.stack_depths.Depths.{depth_at}
+use Rattle.rules.specs.declared.flow_rules.exit.Step.{Step}
+use Rattle.rules.specs.declared.flow_rules.exit.Exit.{Exit}
+use Rattle.rules.specs.flow_rules.Depths.{depth_at}
 use Rattle.value_flow.specs.declared.slot_flow.moves.Flowing.{Flowing}
-use Rattle.value_flow.specs.declared.slot_flow.moves.Move.{Move}
-use Rattle.value_flow.specs.slot_flow.Carrying.{Held, held, only_if, is_slot, is_slot_by, of_depth, is_handler, passes, arriving, through}
+use Rattle.rules.specs.declared.flow_rules.moves.Move.{Move}
+use Rattle.rules.specs.flow_rules.Carrying.{Held, held, only_if, is_slot, is_slot_by, of_depth, is_handler, passes, arriving, through}
 use Rattle.value_flow.specs.slot_flow.Facts.{flow_in, number, universe, has_number, fact_of, facts_of, put_if, facts_along, turned, low_of, sent_facts, follows_by, follows, place_in, slot_in, source_in}
 
 pub both : (a b : Bool) → (a && b) ≡ true → (a ≡ true) × (b ≡ true)

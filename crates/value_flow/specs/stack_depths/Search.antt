@@ -1,10 +1,10 @@
 -- What is known while the depths are searched: some instructions have a depth, and of these some wait for their steps.
 use Rattle.std.specs.Prelude.{◌≡◌, ◌≢◌, ℕ, suc, ◌+◌, ◌<◌, ◌≤◌, ◌⊎◌, Bool, true, false, List, [], ◌∷◌, length, slice_get, Option, Some, None}
 use Rattle.std.specs.List.{Contains}
-use Rattle.value_flow.specs.declared.stack_depths.exit.Step.{Step}
-use Rattle.value_flow.specs.declared.stack_depths.exit.Exit.{Exit}
+use Rattle.rules.specs.declared.flow_rules.exit.Step.{Step}
+use Rattle.rules.specs.declared.flow_rules.exit.Exit.{Exit}
 use Rattle.value_flow.specs.declared.stack_depths.search.Search.{Search}
-use Rattle.value_flow.specs.stack_depths.Depths.{depth_at, depth_by, entered, entered_by, is_wrong, Reaches}
+use Rattle.rules.specs.flow_rules.Depths.{depth_at, depth_by, entered, entered_by, is_wrong, Reaches}
 
 abbrev pub depth_in : Search → ℕ → Option ℕ
 depth_in s i = depth_at s.found i

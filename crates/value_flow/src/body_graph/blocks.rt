@@ -2,10 +2,10 @@
 
 ghost use Rattle.std.specs.Prelude.{◌≡◌, ◌++◌, drop, find, suc, IfOk, OnOk};
 ghost use Rattle.std.specs.List.{flat_map};
-ghost use Rattle.value_flow.specs.flow_rules.Steps.{covers, in_try, in_handler, is_finally, is_crossed, handler_or, leaves_to, is_shorter, better, innermost, innermost_from, goes_on, ends_at};
+ghost use Rattle.rules.specs.flow_rules.Steps.{covers, in_try, in_handler, is_finally, is_crossed, handler_or, leaves_to, is_shorter, better, innermost, innermost_from, goes_on, ends_at};
 
-use crate::flow_rules::{Placed, clause_kind};
 use il_base::{Form, Handler, Instr, NoMemory, Operand, Seq};
+use rules::flow_rules::{Placed, clause_kind};
 use std::alloc::Global;
 
 fn covers(from: u32, len: u32, at: u32) -> bool
@@ -72,7 +72,7 @@ fn better(at: u32, place: usize, h: Handler, best: Option<Placed>) -> Option<Pla
 }
 
 /// The innermost handler that an offset lies in.
-#[tactic(auto, unfolding(crate::specs::flow_rules::Steps::innermost_from))]
+#[tactic(auto, unfolding(rules::specs::flow_rules::Steps::innermost_from))]
 pub(crate) fn innermost(handlers: &[Handler], at: u32) -> Option<Placed>
     ensures { result ≡ innermost handlers.now at }
 {

@@ -2,13 +2,13 @@
 
 ghost use Rattle.std.specs.Prelude.{◌≡◌, IfOk};
 ghost use Rattle.std.specs.Option.{option_map};
-ghost use Rattle.value_flow.specs.flow_rules.Counts.{one_if, call_counts, creation_counts, is_truth_test, field_counts, is_element_store, element_counts, is_indirect_store, indirect_counts, plain_counts, counts_by, counts_of};
+ghost use Rattle.rules.specs.flow_rules.Counts.{one_if, call_counts, creation_counts, is_truth_test, field_counts, is_element_store, element_counts, is_indirect_store, indirect_counts, plain_counts, counts_by, counts_of};
 ghost use Rattle.value_flow.specs.body_graph.Methods.{IsHere};
 
 use crate::body_graph::methods::Method;
 use crate::body_graph::operands::{called_operand, is_good_operand};
-use crate::flow_rules::Called;
 use il_base::{Form, Instr, NoMemory, Operand, opcode};
+use rules::flow_rules::Called;
 
 /// Values taken, and values put there after that.
 pub type Counts = (u32, u32);
@@ -103,7 +103,7 @@ fn indirect_counts(n: u16) -> Counts
 }
 
 /// The counts of the forms that name no method.
-#[tactic(auto, unfolding(crate::specs::flow_rules::Counts::plain_counts))]
+#[tactic(auto, unfolding(rules::specs::flow_rules::Counts::plain_counts))]
 pub fn plain_counts(returns: bool, form: Form, n: u16) -> Counts
     ensures { result ≡ plain_counts returns form n }
 {
@@ -216,7 +216,7 @@ fn counts_by(
 
 /// What an instruction of a method takes and puts; None where its operand names nothing, or a method whose signature has no
 /// reading.
-#[tactic(auto, unfolding(crate::specs::flow_rules::Counts::counts_of))]
+#[tactic(auto, unfolding(rules::specs::flow_rules::Counts::counts_of))]
 pub(crate) fn counts_of(m: &Method<'_>, i: &Instr) -> Result<Option<Counts>, NoMemory>
     requires { IsHere m.now }
     ensures { IfOk result (λ counts. counts ≡ counts_of m.now.world.now.recs m.now.asm m.now.rec.now m.now.own.returns i.now) }

@@ -1,8 +1,8 @@
 //! The ways out of each instruction.
 
 ghost use Rattle.std.specs.Prelude.{◌≡◌, ◌++◌, map, IfOk, OnOk};
-ghost use Rattle.value_flow.specs.flow_rules.Steps.{offsets};
-ghost use Rattle.value_flow.specs.flow_rules.Exits.{exit_of, exits_of, exit_offsets, offset_to};
+ghost use Rattle.rules.specs.flow_rules.Steps.{offsets};
+ghost use Rattle.rules.specs.flow_rules.Exits.{exit_of, exits_of, exit_offsets, offset_to};
 ghost use Rattle.value_flow.specs.body_graph.Methods.{setting_in, IsHere};
 ghost use Rattle.value_flow.specs.body_graph.Places.{ArePlaces};
 
@@ -10,8 +10,8 @@ use crate::body_graph::counts::counts_of;
 use crate::body_graph::methods::Method;
 use crate::body_graph::places::Places;
 use crate::body_graph::steps::{Code, steps_of};
-use crate::stack_depths::{Exit, Step};
 use il_base::{Instr, NoMemory, Seq};
+use rules::flow_rules::{Exit, Step};
 use std::alloc::Global;
 
 fn exit_of(
@@ -49,7 +49,7 @@ fn exit_of(
 }
 
 /// The ways out of each instruction of a method.
-#[tactic(auto, unfolding(crate::specs::flow_rules::Exits::exits_of))]
+#[tactic(auto, unfolding(rules::specs::flow_rules::Exits::exits_of))]
 pub(crate) fn exits_of(
     alloc: Global,
     m: &Method<'_>,

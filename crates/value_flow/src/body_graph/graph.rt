@@ -3,9 +3,10 @@
 use crate::body_graph::exits::{edges_of, exits_of};
 use crate::body_graph::methods::{Method, method_of};
 use crate::body_graph::places::Places;
-use crate::stack_depths::{Exit, depths};
+use crate::stack_depths::depths;
 use il_base::world_model::World;
 use il_base::{MethodId, NoMemory, Seq};
+use rules::flow_rules::Exit;
 use std::alloc::Global;
 
 /// Where control goes in a body, and how deep the evaluation stack is (III.1.7.4). Instructions are named by their IL offsets.
@@ -37,10 +38,10 @@ impl Graph {
     ghost use Rattle.std.specs.Prelude.{◌≡◌, ℕ, List, Some, ◌↔◌, MatchResult};
     ghost use Rattle.il_base.specs.declared.world_model.record.AsmRec.{AsmRec};
     ghost use Rattle.rules.specs.link_rules.Linked.{IsWorld};
-    ghost use Rattle.value_flow.specs.stack_depths.Depths.{Reaches};
-    ghost use Rattle.value_flow.specs.flow_rules.Methods.{Setting};
-    ghost use Rattle.value_flow.specs.flow_rules.Steps.{offsets, place_in};
-    ghost use Rattle.value_flow.specs.flow_rules.Exits.{edges_of, exits_of};
+    ghost use Rattle.rules.specs.flow_rules.Depths.{Reaches};
+    ghost use Rattle.rules.specs.flow_rules.Methods.{Setting};
+    ghost use Rattle.rules.specs.flow_rules.Steps.{offsets, place_in};
+    ghost use Rattle.rules.specs.flow_rules.Exits.{edges_of, exits_of};
     ghost use Rattle.value_flow.specs.body_graph.Methods.{setting_in, IsHere};
     ghost use Rattle.value_flow.specs.body_graph.Graphs.{IsGraph, IsFault, IsGraphOf, edges_at, depth_of};
 

@@ -3,13 +3,13 @@
 ghost use Rattle.std.specs.Prelude.{◌≡◌, Some, slice_get, IfOk, IfSome};
 ghost use Rattle.std.specs.Option.{option_map};
 ghost use Rattle.rules.specs.link_rules.Linked.{IsWorld};
-ghost use Rattle.value_flow.specs.flow_rules.Methods.{locals_row, locals_in, with_body, setting_at, setting_of};
+ghost use Rattle.rules.specs.flow_rules.Methods.{locals_row, locals_in, with_body, setting_at, setting_of};
 ghost use Rattle.value_flow.specs.body_graph.Methods.{setting_in, IsHere};
 
 use crate::body_graph::signatures::called_at;
-use crate::flow_rules::Called;
 use il_base::world_model::{AsmRec, Known, StandAloneSigRow, World, index_in};
 use il_base::{Body, MethodId, NoMemory, table};
+use rules::flow_rules::Called;
 use rules::link_rules::RowAt;
 use type_tables::member_search::linked::assembly_at;
 use type_tables::methods::method_home;
@@ -37,7 +37,7 @@ fn locals_row(row: &StandAloneSigRow) -> Option<usize>
 }
 
 /// How many locals a body has, by the token of their signature.
-#[tactic(auto, unfolding(crate::specs::flow_rules::Methods::locals_in))]
+#[tactic(auto, unfolding(rules::specs::flow_rules::Methods::locals_in))]
 fn locals_in(rec: &AsmRec, token: u32) -> Option<usize>
     ensures { result ≡ locals_in rec.now token }
 {
@@ -101,7 +101,7 @@ fn method_at<'w>(world: &'w World, at: RowAt) -> Option<Method<'w>>
 
 /// A method of a world that a link gave. None where its body, its signature or its locals have no reading, or where there is no
 /// such method.
-#[tactic(auto, unfolding(crate::specs::flow_rules::Methods::setting_of))]
+#[tactic(auto, unfolding(rules::specs::flow_rules::Methods::setting_of))]
 pub fn method_of<'w>(world: &'w World, m: MethodId) -> Result<Option<Method<'w>>, NoMemory>
     requires { IsWorld world.now }
     ensures is { IfOk result (λ found. option_map setting_in found ≡ setting_of world.now.recs m) }

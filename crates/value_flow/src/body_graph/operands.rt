@@ -8,17 +8,17 @@ ghost use Rattle.il_base.specs.world_model.Tokens.{index_in};
 ghost use Rattle.rules.specs.link_rules.Signatures.{token_type};
 ghost use Rattle.rules.specs.mark_rules.Naming.{method_named, field_named};
 ghost use Rattle.rules.specs.mark_rules.Bodies.{is_field_row, is_field_token, is_method_token, is_text_of};
-ghost use Rattle.value_flow.specs.flow_rules.Counts.{good_one, called_token, called_operand, is_good_handle, is_good_token, is_good_operand};
+ghost use Rattle.rules.specs.flow_rules.Counts.{good_one, called_token, called_operand, is_good_handle, is_good_token, is_good_operand};
 ghost use Rattle.value_flow.specs.body_graph.Methods.{IsHere};
 
 use crate::body_graph::methods::Method;
 use crate::body_graph::signatures::called_in;
-use crate::flow_rules::Called;
 use base_laws::world_laws::laws::tokens_named;
 use il_base::world_model::{
     AsmRec, FieldUse, Known, MemberRefRow, MemberSig, MethodUse, TypeExpr, index_in, table_of,
 };
 use il_base::{AsmId, Form, NoMemory, Operand, table};
+use rules::flow_rules::Called;
 
 /// The method that a MethodDef, MemberRef or MethodSpec token names, if any.
 pub fn method_named<'w>(m: &Method<'w>, token: u32) -> Option<&'w MethodUse>

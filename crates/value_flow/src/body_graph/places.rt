@@ -12,7 +12,7 @@ pub struct Places {
 
 impl Places {
     ghost use Rattle.std.specs.Prelude.{◌≡◌, IfOk};
-    ghost use Rattle.value_flow.specs.flow_rules.Steps.{offsets};
+    ghost use Rattle.rules.specs.flow_rules.Steps.{offsets};
     ghost use Rattle.value_flow.specs.body_graph.Places.{place_at, ArePlaces};
 
     /// The places of keys; of two that are equal the first counts.

@@ -2,18 +2,18 @@
 
 ghost use Rattle.std.specs.Prelude.{◌≡◌, Some, slice_get, IfOk};
 ghost use Rattle.rules.specs.link_rules.Linked.{IsWorld};
-ghost use Rattle.value_flow.specs.flow_rules.Methods.{is_void, names_void, is_void_sig, called_of, called_by, called_at, called_in};
+ghost use Rattle.rules.specs.flow_rules.Methods.{is_void, names_void, is_void_sig, called_of, called_by, called_at, called_in};
 
-use crate::flow_rules::Called;
 use base_laws::world_laws::laws::tokens_named;
 use il_base::world_model::{AsmRec, Known, MethodUse, TypeExpr, World, table_of};
 use il_base::{AsmId, MethodSig, NoMemory, Sig, element, table};
+use rules::flow_rules::Called;
 use rules::link_rules::RowAt;
 use type_tables::member_search::linked::assembly_at;
 use type_tables::methods::method_home;
 
 /// Whether a type is `void`, modifiers aside.
-#[tactic(auto, unfolding(crate::specs::flow_rules::Methods::is_void))]
+#[tactic(auto, unfolding(rules::specs::flow_rules::Methods::is_void))]
 fn is_void(e: &TypeExpr) -> bool
     ensures { result ≡ is_void e.now }
 {
@@ -47,7 +47,7 @@ fn names_void(world: &World, asm: u32, _rec: &AsmRec, token: u32) -> bool
 }
 
 /// Whether a signature of an assembly is that of `void`, modifiers aside.
-#[tactic(auto, unfolding(crate::specs::flow_rules::Methods::is_void_sig))]
+#[tactic(auto, unfolding(rules::specs::flow_rules::Methods::is_void_sig))]
 fn is_void_sig(world: &World, asm: u32, rec: &AsmRec, sig: &Sig) -> bool
     requires world { IsWorld world.now }
     requires here { slice_get world.now.recs asm ≡ Some rec.now }
@@ -90,7 +90,7 @@ fn called_by(world: &World, asm: u32, rec: &AsmRec, sig: &Known<MethodSig>) -> O
 }
 
 /// A method's own signature, as the evaluation stack sees it; None where it has no reading.
-#[tactic(auto, unfolding(crate::specs::flow_rules::Methods::called_at))]
+#[tactic(auto, unfolding(rules::specs::flow_rules::Methods::called_at))]
 pub fn called_at(world: &World, at: RowAt) -> Option<Called>
     requires { IsWorld world.now }
     ensures { result ≡ called_at world.now.recs at }

@@ -1,14 +1,13 @@
 //! The steps from an instruction.
 
 ghost use Rattle.std.specs.Prelude.{◌≡◌, [], ◌∷◌, ◌++◌, IfOk, OnOk};
-ghost use Rattle.value_flow.specs.flow_rules.Steps.{offsets, place_in, next_to, emptied_to, branch_steps, leave_steps, end_steps, next_step, own_steps, way_into, handler_steps, steps_of};
+ghost use Rattle.rules.specs.flow_rules.Steps.{offsets, place_in, next_to, emptied_to, branch_steps, leave_steps, end_steps, next_step, own_steps, way_into, handler_steps, steps_of};
 ghost use Rattle.value_flow.specs.body_graph.Places.{ArePlaces};
 
 use crate::body_graph::blocks::{ends_at, in_try, innermost, leaves_to};
 use crate::body_graph::places::Places;
-use crate::flow_rules::clause_kind;
-use crate::stack_depths::{Step, Way};
 use il_base::{Form, Handler, Instr, NoMemory, Operand, Seq};
+use rules::flow_rules::{Step, Way, clause_kind};
 use std::alloc::Global;
 
 /// A code with its clauses, and its instructions by their offsets.
@@ -141,7 +140,7 @@ fn end_finally(alloc: Global, c: &Code<'_>, at: u32) -> Result<Seq<Step>, NoMemo
 }
 
 /// Where control goes from an instruction, exceptions aside.
-#[tactic(auto, unfolding(crate::specs::flow_rules::Steps::own_steps))]
+#[tactic(auto, unfolding(rules::specs::flow_rules::Steps::own_steps))]
 fn own_steps(alloc: Global, c: &Code<'_>, k: u32, i: &Instr) -> Result<Seq<Step>, NoMemory>
     requires { ArePlaces (offsets c.now.code.now) c.now.places.now }
     ensures { IfOk result (λ steps. steps ≡ own_steps (offsets c.now.code.now) c.now.code.now c.now.handlers.now k i.now i.now.form) }

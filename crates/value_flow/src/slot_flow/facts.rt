@@ -2,13 +2,13 @@
 
 ghost use Rattle.std.specs.Prelude.{◌≡◌, ◌++◌, ◌&&◌, nat_lt, length, IfOk, OnOk};
 ghost use Rattle.std.specs.List.{flat_map};
-ghost use Rattle.value_flow.specs.slot_flow.Carrying.{held, is_handler, is_caught, passes};
+ghost use Rattle.rules.specs.flow_rules.Carrying.{held, is_handler, is_caught, passes};
 ghost use Rattle.value_flow.specs.slot_flow.Facts.{number, fact_of, facts_along, sent_facts, born_along_facts, follows_by, begin_facts, taken_facts, born_facts, place_facts, root_facts};
 
 use crate::slot_flow::moves::Flowing;
 use crate::slot_flow::pairs::{Pair, made, through};
-use crate::stack_depths::{Step, Way};
 use il_base::{NoMemory, Seq};
+use rules::flow_rules::{Step, Way};
 use std::alloc::Global;
 
 fn is_handler(way: Way) -> bool

@@ -1,11 +1,12 @@
 //! What one instruction does with sources, as slots beside sources.
 
 ghost use Rattle.std.specs.Prelude.{◌≡◌, ◌++◌, suc, IfOk, OnOk};
-ghost use Rattle.value_flow.specs.slot_flow.Carrying.{only_if, through, made};
+ghost use Rattle.rules.specs.flow_rules.Carrying.{only_if, through, made};
 ghost use Rattle.value_flow.specs.slot_flow.Facts.{turned};
 
-use crate::slot_flow::moves::{Flowing, Move};
+use crate::slot_flow::moves::Flowing;
 use il_base::{NoMemory, Seq};
+use rules::flow_rules::Move;
 use std::alloc::Global;
 
 /// A slot and a source.

@@ -3,10 +3,10 @@
 ghost use Rattle.std.specs.Prelude.{◌≡◌, ◌<◌, length, replicate, slice_get, false, IfOk, MatchOption, MatchBool};
 ghost use Rattle.std.specs.List.{list_any};
 ghost use Rattle.std.specs.Option.{option_copied};
-ghost use Rattle.value_flow.specs.stack_depths.Depths.{depth_by, is_wrong_step, is_wrong_by, IsBad, AreDepths};
+ghost use Rattle.rules.specs.flow_rules.Depths.{depth_by, is_wrong_step, is_wrong_by, IsBad, AreDepths};
 
-use crate::stack_depths::exit::{Exit, Step, Way};
 use il_base::{NoMemory, Seq};
+use rules::flow_rules::{Exit, Step, Way};
 use std::alloc::Global;
 
 /// The depths so far.

@@ -4,5 +4,9 @@ use Rattle.rules.specs.step_rules.Core.{with_result}
 use Rattle.cil_core.proofs.resuming.with_result.Goals as goal
 
 pub returns-in-AreEqual : goal.returns-in-AreEqual
-returns-in-AreEqual c q args give =
-    ap (λ (k : CoreCall). with_result k q args c.args.v.now c.args.st.now give) c.in-AreEqual.is ∙ c.equal_result.ensures q args c.args.printed.now.items give c.requires
+returns-in-AreEqual g c = record {
+  gives = λ give.
+      ap (λ (k : CoreCall). with_result k (g.Q.Answers.queries c.args.q.now) c.args.args.now c.args.v c.args.st.now give) c.in-AreEqual.is
+      ∙ c.equal_result.ensures.gives (g.Q.Answers.queries c.args.q.now) c.args.args.now c.args.printed.now.items give c.requires;
+  frames = c.equal_result.ensures.frames;
+}

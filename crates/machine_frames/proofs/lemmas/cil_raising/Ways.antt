@@ -21,10 +21,13 @@ pub ends : (o : StepOut) (t : State) (e : End) → o ≡ Over e → next_of o t 
 ends o t e is = rw is refl
 
 module _ (q : Queries) (u : Unwinding) (s : State) where
-  pub no_body : (fs : List Frame) → here_of q s.top ≡ None → unwind_to q u s fs ≡ stuck s
+  pub no_body : here_of q s.top ≡ None → unwind_to q u s [] ≡ stuck s
   unfolding unwind_to
-  no_body [] is = rw is refl
-  no_body (f ∷ fs) is = rw is refl
+  no_body is = rw is refl
+
+  pub out_of_member : (f : Frame) (fs : List Frame) → here_of q s.top ≡ None → unwind_to q u s (f ∷ fs) ≡ unwind_to q (outer q s u f) (outside s u f fs) fs
+  unfolding unwind_to
+  out_of_member f fs is = rw is refl
 
   module _ (m : Method) (code : Code) (is : here_of q s.top ≡ Some (here_in s.top m code)) where
     pub next_one : (fs : List Frame) (n : ℕ) (ns : List ℕ) → u.left ≡ n ∷ ns → unwind_to q u s fs ≡ handler_begins code n (unwinding (record u { left = ns })) [] s

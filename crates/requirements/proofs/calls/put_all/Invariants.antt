@@ -1,5 +1,5 @@
 use Rattle.std.proofs.Common.{◌≡◌, ◌-◌, ◌++◌}
-use Rattle.site_kinds.specs.site_rules.Bodies.{arguments_from}
+use Rattle.rules.specs.site_rules.Bodies.{arguments_from}
 use Rattle.requirements.specs.Bodies.{flowed}
 use Rattle.requirements.proofs.calls.put_all.Given as goal
 

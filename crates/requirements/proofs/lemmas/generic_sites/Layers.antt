@@ -6,9 +6,9 @@ use Rattle.il_base.specs.declared.ids.Place.{Place}
 use Rattle.il_base.specs.declared.world_model.expr.TypeExpr.{TypeExpr}
 use Rattle.il_base.specs.declared.world_model.expr.TypeExpr.TheVariants as expr
 use Rattle.il_base.specs.declared.world_model.record.AsmRec.{AsmRec}
-use Rattle.site_kinds.specs.declared.site_rules.site.Site.{Site}
-use Rattle.site_kinds.specs.site_rules.Arguments.{Argument, argument, sites_from, type_argument_sites}
-use Rattle.site_kinds.proofs.lemmas.site_rules.Layers.{argument_prim, argument_def, argument_inst, argument_array, argument_by_ref, argument_var, argument_mvar, argument_mod}
+use Rattle.rules.specs.declared.site_rules.site.Site.{Site}
+use Rattle.rules.specs.site_rules.Arguments.{Argument, argument, sites_from, type_argument_sites}
+use Rattle.rules.proofs.lemmas.site_rules.Layers.{argument_prim, argument_def, argument_inst, argument_array, argument_by_ref, argument_var, argument_mvar, argument_mod}
 use Rattle.requirements.specs.declared.generic_sites.arguments.Generic.TheVariants as generic
 use Rattle.requirements.specs.generic_sites.Asked.{target_of, asked_kinds}
 

@@ -4,10 +4,10 @@ use Rattle.il_base.specs.declared.ids.TypeId.{TypeId}
 use Rattle.il_base.specs.declared.ids.Place.{Place}
 use Rattle.il_base.specs.declared.world_model.expr.TypeExpr.{TypeExpr}
 use Rattle.il_base.specs.declared.world_model.record.AsmRec.{AsmRec}
-use Rattle.site_kinds.specs.declared.site_rules.target.Target.{Target}
-use Rattle.site_kinds.specs.declared.site_rules.site.Site.{Site}
-use Rattle.site_kinds.specs.site_rules.Values.{asking}
-use Rattle.site_kinds.specs.site_rules.Arguments.{argument, sites_from, type_argument_sites}
+use Rattle.rules.specs.declared.site_rules.target.Target.{Target}
+use Rattle.rules.specs.declared.site_rules.site.Site.{Site}
+use Rattle.rules.specs.site_rules.Values.{asking}
+use Rattle.rules.specs.site_rules.Arguments.{argument, sites_from, type_argument_sites}
 
 pub one_more : (recs : List AsmRec) (owner : Option TypeId) (place : Place) (to : ℕ → Target) (kinds : ℕ → ℕ) (args : List TypeExpr) (i : ℕ) (e : TypeExpr)
     (before middle after goal : List Site)

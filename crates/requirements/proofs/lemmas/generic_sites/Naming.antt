@@ -20,10 +20,10 @@ use Rattle.mark_parts.specs.declared.forms.Names.{Names}
 use Rattle.mark_parts.specs.declared.forms.Names.TheVariants as names
 use Rattle.mark_parts.specs.Forms.{names_of, parts_by}
 use Rattle.mark_parts.proofs.FormCases.{by_forms}
-use Rattle.value_flow.specs.flow_rules.Counts.{good_one}
-use Rattle.site_kinds.specs.declared.site_rules.site.Site.{Site}
-use Rattle.site_kinds.specs.site_rules.Values.{place_at}
-use Rattle.site_kinds.specs.site_rules.Arguments.{sites_of_parts}
+use Rattle.rules.specs.flow_rules.Counts.{good_one}
+use Rattle.rules.specs.declared.site_rules.site.Site.{Site}
+use Rattle.rules.specs.site_rules.Values.{place_at}
+use Rattle.rules.specs.site_rules.Arguments.{sites_of_parts}
 use Rattle.requirements.specs.declared.generic_sites.arguments.Within.{Within}
 use Rattle.requirements.specs.generic_sites.Operands.{method_if, field_if, type_if, sites_by}
 

@@ -3,8 +3,8 @@ use Rattle.il_base.specs.declared.ids.TypeId.{TypeId}
 use Rattle.il_base.specs.declared.world_model.record.AsmRec.{AsmRec}
 use Rattle.rules.specs.type_rules.Slots.{method_home}
 use Rattle.mark_parts.specs.mark_tables.Assemblies.{all_of}
-use Rattle.value_flow.specs.Flows.{owner_of}
-use Rattle.site_kinds.specs.site_rules.Bodies.{head_sites}
+use Rattle.rules.specs.flow_rules.Flows.{owner_of}
+use Rattle.rules.specs.site_rules.Bodies.{head_sites}
 use Rattle.requirements.proofs.Lists.{one_listed}
 use Rattle.requirements.proofs.Same.{owned_by}
 use Rattle.requirements.proofs.methods.plain_sites.Goals as goal

@@ -5,10 +5,10 @@ use Rattle.il_base.specs.declared.world_model.record.AsmRec.{AsmRec}
 use Rattle.il_base.specs.declared.world_model.world.World.{World}
 use Rattle.rules.specs.type_rules.Slots.{method_home}
 use Rattle.mark_parts.specs.mark_tables.Assemblies.{all_of}
-use Rattle.value_flow.specs.flow_rules.Methods.{setting_of}
-use Rattle.value_flow.specs.flow_rules.Moves.{sources_of}
+use Rattle.rules.specs.flow_rules.Methods.{setting_of}
+use Rattle.rules.specs.flow_rules.Moves.{sources_of}
 use Rattle.value_flow.specs.body_graph.Methods.{setting_in, IsHere}
-use Rattle.site_kinds.specs.site_rules.Bodies.{sites_of_body}
+use Rattle.rules.specs.site_rules.Bodies.{sites_of_body}
 use Rattle.requirements.proofs.Homes.{same_assembly}
 use Rattle.requirements.proofs.Same.{owned_by, is_flowed, same_flow}
 use Rattle.requirements.proofs.methods.sites.Goals as goal

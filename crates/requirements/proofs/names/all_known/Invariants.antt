@@ -1,6 +1,6 @@
 use Rattle.std.proofs.Common.{◌≡◌, drop}
 use Rattle.std.specs.List.{list_all}
-use Rattle.site_kinds.specs.site_rules.Values.{is_known_name}
+use Rattle.rules.specs.site_rules.Values.{is_known_name}
 use Rattle.requirements.proofs.names.all_known.Given as goal
 
 abbrev pub invariant-loop-s : goal.invariant-loop-s

@@ -1,6 +1,6 @@
 use Rattle.std.proofs.Common.{◌≡◌, ◌++◌, drop}
 use Rattle.std.specs.List.{flat_map}
-use Rattle.site_kinds.specs.site_rules.Values.{name_in}
+use Rattle.rules.specs.site_rules.Values.{name_in}
 use Rattle.requirements.proofs.names.texts_of.Given as goal
 
 abbrev pub invariant-loop-s : goal.invariant-loop-s

@@ -1,6 +1,6 @@
 use Rattle.std.proofs.Common.{◌≡◌, ◌++◌, drop}
 use Rattle.std.specs.List.{flat_map}
-use Rattle.site_kinds.specs.site_rules.Bodies.{instruction_sites}
+use Rattle.rules.specs.site_rules.Bodies.{instruction_sites}
 use Rattle.requirements.specs.Bodies.{flowed}
 use Rattle.requirements.proofs.uses.put_code.Given as goal
 

@@ -1,6 +1,6 @@
 use Rattle.std.proofs.Common.{◌≡◌, ◌++◌, drop}
 use Rattle.value_flow.specs.Flows.{is_carried}
-use Rattle.site_kinds.specs.site_rules.Values.{kept_from}
+use Rattle.rules.specs.site_rules.Values.{kept_from}
 use Rattle.requirements.proofs.values.kept.Given as goal
 
 abbrev pub invariant-loop-k : goal.invariant-loop-k

@@ -27,9 +27,9 @@ use Rattle.rules.specs.step_rules.Closing.{Callee}
 use Rattle.rules.specs.step_rules.Stores.{all_fit, is_value}
 use Rattle.rules.specs.step_rules.Objects.{type_of}
 use Rattle.rules.specs.step_rules.Frames.{definition_of}
-use Rattle.rules.specs.step_rules.Dispatch.{is_abstract, is_virtual, this_for}
+use Rattle.rules.specs.step_rules.Dispatch.{is_abstract, is_virtual, found_from, this_for}
 use Rattle.rules.specs.step_rules.CoreWords.{Gives}
-use Rattle.rules.specs.step_rules.Calls.{after_this, slot_values, invoked, invoke, pushed, gives_result, runs, runs_on, call_on, found_from, virtual_on, call_virtual, same_definition, is_own, boxed_on, constrained_found, constrained_at, constrained_on, by_prefix, receives, received}
+use Rattle.rules.specs.step_rules.Calls.{after_this, slot_values, invoked, invoke, pushed, gives_result, runs, runs_on, call_on, virtual_on, call_virtual, same_definition, is_own, boxed_on, constrained_found, constrained_at, constrained_on, by_prefix, receives, received}
 use Rattle.rules.specs.change_rules.Change.{Change}
 use Rattle.rules.specs.change_rules.Moves.{move_expr, move_path, move_value, move_values}
 use Rattle.rules.specs.change_rules.Answers.{move_signature, move_here, move_instruction, move_callee}

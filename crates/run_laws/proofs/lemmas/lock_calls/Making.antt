@@ -49,7 +49,7 @@ use Rattle.rules.specs.change_rules.Lock.{Lock, GivesLock}
 use Rattle.base_laws.proofs.lemmas.change_laws.Lists.{all_push}
 use Rattle.base_laws.proofs.lemmas.change_laws.Values.{move_object, move_pointer, keeps_object, keeps_pointer}
 use Rattle.base_laws.proofs.lemmas.change_laws.Cells.{zeros_move}
-use Rattle.run_laws.proofs.lemmas.lock_words.Words.{stuck_lock, given_moved, had_moved, required_lock, if_lock, made_lock, may_go_moved, goes_with_lock}
+use Rattle.run_laws.proofs.lemmas.lock_words.Words.{stuck_lock, ends_at_lock, given_moved, had_moved, required_lock, if_lock, made_lock, may_go_moved, goes_with_lock}
 use Rattle.run_laws.proofs.lemmas.lock_words.Types.{in_names}
 use Rattle.run_laws.proofs.lemmas.lock_words.Definitions.{Begins as MayBegin, begins_closed, passes_closed, makes_closed}
 use Rattle.run_laws.proofs.lemmas.lock_words.Fits.{is_value_moved}
@@ -229,7 +229,7 @@ module _ (k : Change) (after before : Queries) (a : Agree k after before) where
 
       pub call_lock : IsTrue (keeps_operand k.keep before i.operand) → Lock k before (call after (move_here k.rho here) (move_instruction k.rho i) (move_state k before s)) (call before here i s)
       unfolding call
-      call_lock h = call_by i.operand h
+      call_lock h = ends_at_lock k before s _ _ (call_by i.operand h)
 
       abbrev MakesOwner : MethodUse → Bool
       MakesOwner u = shows_expr k.keep u.owner && news_expr k.keep u.owner

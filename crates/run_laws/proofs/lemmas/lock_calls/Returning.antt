@@ -36,6 +36,7 @@ use Rattle.rules.specs.step_rules.Raising.{set_init}
 use Rattle.rules.specs.step_rules.Frames.{frame_of, zero_locals}
 use Rattle.rules.specs.step_rules.Calls.{pushed}
 use Rattle.rules.specs.step_rules.CoreWords.{Gives}
+use Rattle.rules.specs.step_rules.CoreSearches.{searches}
 use Rattle.rules.specs.step_rules.Returns.{in_block, no_value, one_value, returned, exit_code, back_in, goes_back, back_by, empty_array, entry_with, entry_begins, opened, ends_by, back, returns, return}
 use Rattle.rules.specs.change_rules.Change.{Rho, Change}
 use Rattle.rules.specs.change_rules.Moves.{move_expr, move_exprs, move_value, move_values}
@@ -69,6 +70,10 @@ any_moved r test h (c ∷ cs) = λ i. h c i || any_moved r test h cs i
 pub instruction_moved : (r : Rho) (code : Code) (at : ℕ) → instruction_at (move_code r code) at ≡ option_map (move_instruction r) (instruction_at code at)
 unfolding instruction_at
 instruction_moved r code at = find_moved (move_instruction r) (λ (i : Instruction). nat_eq i.at at) (λ (i : Instruction). nat_eq i.at at) (λ i. refl) code.code
+
+is_not : (b : Bool) → IsTrue (not b) → b ≡ false
+is_not true h = sym h
+is_not false h = refl
 
 exit_by : (r : Rho) (v : Value) → exit_code (Some (move_value r v)) ≡ exit_code (Some v)
 unfolding roll-Value denote.Hole.Carrier.roll out-Value denote.Hole.Carrier.out
@@ -180,7 +185,7 @@ module _ (k : Change) (after before : Queries) (a : Agree k after before) where
   back_by_lock s t c ct v hv (waits.Starts e) hw = starts_ended e t ct
   back_by_lock s t c ct v hv (waits.Opens e m) hw = stuck_lock k before s
   back_by_lock s t c ct v hv (waits.Core m args) hw =
-      with_option_lock k after before a m args s (core_back after (move_state k before s) (move_state k before t)) (core_back before s t) hw c (core_back_lock s t ct) v hv
+      with_option_lock k after before a m (is_not (searches m) (second_so (keeps_values k.keep args) (not (searches m)) hw)) args s (core_back after (move_state k before s) (move_state k before t)) (core_back before s t) c (core_back_lock s t ct) v hv
 
   -- ---- the entry method begins
 

@@ -1,7 +1,7 @@
 -- All members of the core library, those that call a method of the program too.
 use Rattle.std.proofs.Common.{◌≡◌, ℕ, Bool, true, false, List, [], ◌∷◌, Option, Some, None, refl, sym, ap, subst, ◌∙◌}
-use Rattle.std.specs.Prelude.{IsTrue, nat_eq, unwrap_or}
-use Rattle.std.specs.Option.{option_map, option_and_then}
+use Rattle.std.specs.Prelude.{IsTrue, nat_eq, not}
+use Rattle.std.specs.Option.{option_map}
 use Rattle.std.specs.Cmp.{first_so}
 use Rattle.std.proofs.lemmas.Bool.{and_from}
 use Rattle.il_base.specs.declared.element.TheConstants.{BOOLEAN, OBJECT}
@@ -23,13 +23,12 @@ use Rattle.rules.specs.step_rules.Words.{stuck, given, object_at}
 use Rattle.rules.specs.step_rules.Closing.{Callee, callee_of}
 use Rattle.rules.specs.step_rules.Integers.{narrowed}
 use Rattle.rules.specs.step_rules.Stores.{all_fit}
-use Rattle.rules.specs.step_rules.Places.{boxed_in}
 use Rattle.rules.specs.step_rules.Objects.{type_of}
 use Rattle.rules.specs.step_rules.Dispatch.{dispatched, this_for}
 use Rattle.rules.specs.step_rules.CoreWords.{Gives, gives_value, gives_truth}
 use Rattle.rules.specs.step_rules.CoreConsole.{print_form}
 use Rattle.rules.specs.step_rules.CoreObjects.{is_same}
-use Rattle.rules.specs.step_rules.Core.{simple, gives_first, gives_unboxed, without_result, with_result, with_option, resumed, run_found, found_args, object_slot, calls_slot, print_object, equal_by, equal_form, member, member_of, core_call}
+use Rattle.rules.specs.step_rules.Core.{simple, without_result, with_result, with_option, resumed, run_found, found_args, object_slot, calls_slot, print_object, equal_by, equal_form, own_member, member, member_of, core_call}
 use Rattle.rules.specs.step_rules.CoreSearches.{searches}
 use Rattle.rules.specs.change_rules.Change.{Change}
 use Rattle.rules.specs.change_rules.Moves.{move_exprs, move_use, move_value, move_values}
@@ -48,7 +47,6 @@ use Rattle.run_laws.proofs.lemmas.lock_words.Cases.{kept_cases}
 use Rattle.run_laws.proofs.lemmas.lock_throwing.Objects.{type_of_moved, type_of_made, object_moved, object_kept}
 use Rattle.run_laws.proofs.lemmas.lock_places.Options.{front_moved_by, front_kept}
 use Rattle.run_laws.proofs.lemmas.lock_places.Closing.{use_method, use_from, KeptCallee, callee_moved, callee_kept}
-use Rattle.run_laws.proofs.lemmas.lock_places.Places.{boxed_at, boxed_kept}
 use Rattle.run_laws.proofs.lemmas.lock_places.Stores.{narrowed_kept, all_fit_moved, all_fit_kept}
 use Rattle.run_laws.proofs.lemmas.lock_frames.Entering.{enter_lock}
 use Rattle.run_laws.proofs.lemmas.lock_frames.Dispatching.{dispatched_lock, this_moved, this_kept}
@@ -122,68 +120,54 @@ module _ (k : Change) (after before : Queries) (a : Agree k after before) where
   simple_lock core.MemberOther args s f g h c gl = stuck_lock k before s
   simple_lock core.Create args s f g h c gl = stuck_lock k before s
   simple_lock core.CreateOf args s f g h c gl = stuck_lock k before s
+  simple_lock core.Invoke args s f g h c gl = stuck_lock k before s
+  simple_lock core.FieldGet args s f g h c gl = stuck_lock k before s
+  simple_lock core.FieldSet args s f g h c gl = stuck_lock k before s
+  simple_lock core.PropertyGet args s f g h c gl = stuck_lock k before s
+  simple_lock core.PropertySet args s f g h c gl = stuck_lock k before s
   simple_lock core.AreEqual args s f g h c gl = stuck_lock k before s
 
-  -- ---- what a member does with a result
+  -- ---- what a member does with a result: none waits that searches
 
-  with_result_lock : (m : CoreCall) (args : List Value) (v : Value) (s : State) (f g : Gives) → IsTrue (keeps_value k.keep v) → Covered k.keep before s → GivesLock k before f g
+  with_result_lock : (m : CoreCall) → searches m ≡ false → (args : List Value) (v : Value) (s : State) (f g : Gives) → IsTrue (keeps_value k.keep v) → Covered k.keep before s → GivesLock k before f g
       → Lock k before (with_result m after (move_values k.rho args) (move_value k.rho v) (move_state k before s) f) (with_result m before args v s g)
-  with_result_lock (core.Prints line printed.OfObject) args v s f g h c gl = print_lock k after before a s c f g gl line printed.OfObject (v ∷ []) (and_from (keeps_value k.keep v) true h refl)
-  with_result_lock core.AreEqual args v s f g h c gl =
+  unfolding searches
+  with_result_lock core.Invoke plain args v s f g h c gl = absurd (let f : true ≡ false = plain in cc)
+  with_result_lock core.PropertyGet plain args v s f g h c gl = absurd (let f : true ≡ false = plain in cc)
+  with_result_lock core.PropertySet plain args v s f g h c gl = absurd (let f : true ≡ false = plain in cc)
+  with_result_lock (core.Prints line printed.OfObject) plain args v s f g h c gl = print_lock k after before a s c f g gl line printed.OfObject (v ∷ []) (and_from (keeps_value k.keep v) true h refl)
+  with_result_lock core.AreEqual plain args v s f g h c gl =
       given_moved k before (move_value k.rho) (narrowed BOOLEAN v) _ s (λ b. gives_value b (move_state k before s) f) (λ b. gives_value b s g) (narrowed_moved k.rho BOOLEAN v) (λ b e. value_lock k after before a f g gl b s c (narrowed_kept k BOOLEAN v b e))
-  with_result_lock _ args v s f g h c gl = stuck_lock k before s
-
-  first_lock : (args : List Value) (s : State) (f g : Gives) → IsTrue (keeps_values k.keep args) → Covered k.keep before s → GivesLock k before f g
-      → Lock k before (gives_first (move_values k.rho args) (move_state k before s) f) (gives_first args s g)
-  first_lock [] s f g ha c gl = stuck_lock k before s
-  first_lock (v ∷ vs) s f g ha c gl = value_lock k after before a f g gl v s c (head_kept k after before a v vs ha)
-
-  unboxed_by : (s : State) (f g : Gives) → Covered k.keep before s → GivesLock k before f g → (n : ℕ) (o : Option Value) → ((w : Value) → o ≡ Some w → IsTrue (keeps_value k.keep w))
-      → Lock k before (gives_value (unwrap_or (option_map (move_value k.rho) o) (value.Object n)) (move_state k before s) f) (gives_value (unwrap_or o (value.Object n)) s g)
-  unboxed_by s f g c gl n None h =
-      subst (λ (v : Value). Lock k before (gives_value v (move_state k before s) f) (gives_value (value.Object n) s g)) (move_object k.rho n)
-      (value_lock k after before a f g gl (value.Object n) s c (keeps_object k.keep n))
-  unboxed_by s f g c gl n (Some w) h = value_lock k after before a f g gl w s c (h w refl)
-
-  unboxed_at : (s : State) (f g : Gives) → Covered k.keep before s → GivesLock k before f g → (n : ℕ)
-      → Lock k before (gives_value (unwrap_or (option_and_then boxed_in (object_at (move_state k before s) n)) (value.Object n)) (move_state k before s) f) (gives_value (unwrap_or (option_and_then boxed_in (object_at s n)) (value.Object n)) s g)
-  unboxed_at s f g c gl n =
-      subst (λ (o : Option Value). Lock k before (gives_value (unwrap_or o (value.Object n)) (move_state k before s) f) (gives_value (unwrap_or (option_and_then boxed_in (object_at s n)) (value.Object n)) s g)) (sym (boxed_at k after before a s n))
-      (unboxed_by s f g c gl n (option_and_then boxed_in (object_at s n)) (λ w is. boxed_kept k after before a s n w c is))
-
-  unboxed_lock : (args : List Value) (s : State) (f g : Gives) → IsTrue (keeps_values k.keep args) → Covered k.keep before s → GivesLock k before f g
-      → Lock k before (gives_unboxed (move_values k.rho args) (move_state k before s) f) (gives_unboxed args s g)
-  unfolding roll-Value denote.Hole.Carrier.roll out-Value denote.Hole.Carrier.out
-  unboxed_lock [] s f g ha c gl = stuck_lock k before s
-  unboxed_lock (v ∷ vs) s f g ha c gl =
-      let out : Lock k before (stuck (move_state k before s)) (stuck s) = stuck_lock k before s in
-      kept_cases k (λ w v. Lock k before (gives_unboxed (w ∷ move_values k.rho vs) (move_state k before s) f) (gives_unboxed (v ∷ vs) s g))
-      out (λ n. out) (λ n. out) (λ n. out) (λ n. unboxed_at s f g c gl n) (λ p h. out) (λ d cells h q. out) (λ d h. out) (λ d h. out) v (head_kept k after before a v vs ha)
+  with_result_lock _ plain args v s f g h c gl = stuck_lock k before s
 
   -- the method that a member called returned nothing
-  without_result_lock : (m : CoreCall) (args : List Value) (s : State) (f g : Gives) → IsTrue (keeps_values k.keep args) → Covered k.keep before s → GivesLock k before f g
-      → Lock k before (without_result m after (move_values k.rho args) (move_state k before s) f) (without_result m before args s g)
-  without_result_lock core.Create args s f g ha c gl = first_lock args s f g ha c gl
-  without_result_lock core.CreateOf args s f g ha c gl = unboxed_lock args s f g ha c gl
-  without_result_lock _ args s f g ha c gl = stuck_lock k before s
+  without_result_lock : (m : CoreCall) → searches m ≡ false → (args : List Value) (s : State) (f g : Gives) → Lock k before (without_result m after (move_values k.rho args) (move_state k before s) f) (without_result m before args s g)
+  unfolding searches
+  without_result_lock core.Create plain args s f g = absurd (let f : true ≡ false = plain in cc)
+  without_result_lock core.CreateOf plain args s f g = absurd (let f : true ≡ false = plain in cc)
+  without_result_lock core.Invoke plain args s f g = absurd (let f : true ≡ false = plain in cc)
+  without_result_lock core.PropertyGet plain args s f g = absurd (let f : true ≡ false = plain in cc)
+  without_result_lock core.PropertySet plain args s f g = absurd (let f : true ≡ false = plain in cc)
+  without_result_lock _ plain args s f g = stuck_lock k before s
 
-  pub with_option_lock : (m : CoreCall) (args : List Value) (s : State) (f g : Gives) → IsTrue (keeps_values k.keep args) → Covered k.keep before s → GivesLock k before f g → (o : Option Value) → IsTrue (keeps_result k.keep o)
+  pub with_option_lock : (m : CoreCall) → searches m ≡ false → (args : List Value) (s : State) (f g : Gives) → Covered k.keep before s → GivesLock k before f g → (o : Option Value) → IsTrue (keeps_result k.keep o)
       → Lock k before (with_option m after (move_values k.rho args) (move_state k before s) f (option_map (move_value k.rho) o)) (with_option m before args s g o)
-  with_option_lock m args s f g ha c gl None h = without_result_lock m args s f g ha c gl
-  with_option_lock m args s f g ha c gl (Some v) h = with_result_lock m args v s f g h c gl
+  with_option_lock m plain args s f g c gl None h = without_result_lock m plain args s f g
+  with_option_lock m plain args s f g c gl (Some v) h = with_result_lock m plain args v s f g h c gl
 
-  resumed_lock : (m : CoreCall) (args : List Value) (f g : Gives) → IsTrue (keeps_values k.keep args) → GivesLock k before f g → GivesLock k before (resumed m after (move_values k.rho args) f) (resumed m before args g)
-  resumed_lock m args f g ha gl s v bytes c h = with_option_lock m args s f g ha c gl v h
+  resumed_lock : (m : CoreCall) → searches m ≡ false → (args : List Value) (f g : Gives) → GivesLock k before f g → GivesLock k before (resumed m after (move_values k.rho args) f) (resumed m before args g)
+  resumed_lock m plain args f g gl s v bytes c h = with_option_lock m plain args s f g c gl v h
 
   -- ---- a virtual call of a slot of Object
 
-  run_lock : (m : CoreCall) (args : List Value) (d : Callee) (vs : List Value) (s : State) (f g : Gives) → IsTrue (keeps_values k.keep args) → KeptCallee k.keep before d → IsTrue (keeps_values k.keep vs)
+  run_lock : (m : CoreCall) → searches m ≡ false → (args : List Value) (d : Callee) (vs : List Value) (s : State) (f g : Gives) → IsTrue (keeps_values k.keep args) → KeptCallee k.keep before d → IsTrue (keeps_values k.keep vs)
       → Covered k.keep before s → GivesLock k before f g → (o : Option CoreCall)
       → Lock k before (run_found after m (move_values k.rho args) (move_callee k.rho d) (move_values k.rho vs) (move_state k before s) f o) (run_found before m args d vs s g o)
-  run_lock m args d vs s f g ha hd hv c gl (Some found) =
+  run_lock m plain args d vs s f g ha hd hv c gl (Some found) =
       checked_lock k after before a s c d hd vs (λ ws. simple found after ws (move_state k before s) (resumed m after (move_values k.rho args) f)) (λ ws. simple found before ws s (resumed m before args g)) hv
-      (λ ws hw. simple_lock found ws s (resumed m after (move_values k.rho args) f) (resumed m before args g) hw c (resumed_lock m args f g ha gl))
-  run_lock m args d vs s f g ha hd hv c gl None = enter_lock k after before a d vs (waits.Core m args) s hd hv ha c
+      (λ ws hw. simple_lock found ws s (resumed m after (move_values k.rho args) f) (resumed m before args g) hw c (resumed_lock m plain args f g gl))
+  run_lock m plain args d vs s f g ha hd hv c gl None =
+      enter_lock k after before a d vs (waits.Core m args) s hd hv (and_from (keeps_values k.keep args) (not (searches m)) ha (ap not plain)) c
 
   found_args_moved : (s : State) (d : Callee) (this : Value) (vs : List Value) → KeptCallee k.keep before d
       → found_args after (move_state k before s) (move_callee k.rho d) (move_value k.rho this) (move_values k.rho vs) ≡ option_map (move_values k.rho) (found_args before s d this vs)
@@ -214,11 +198,11 @@ module _ (k : Change) (after before : Queries) (a : Agree k after before) where
       front_kept (keeps_value k.keep) (this_for before s x (value.Object n)) (all_fit before x.signature.params vs) ws e
       (λ y is. this_kept k after before a s x (value.Object n) y c (keeps_object k.keep n) is) (λ zs is. all_fit_kept k after before a x.signature.params vs zs hv is)
 
-  slot_lock : (m new : ℕ) → new ≡ k.rho.method m → IsTrue (can_call k.keep m) → (w : CoreCall) (args : List Value) (n : ℕ) (vs : List Value) (s : State) (f g : Gives)
+  slot_lock : (m new : ℕ) → new ≡ k.rho.method m → IsTrue (can_call k.keep m) → (w : CoreCall) → searches w ≡ false → (args : List Value) (n : ℕ) (vs : List Value) (s : State) (f g : Gives)
       → IsTrue (keeps_values k.keep args) → IsTrue (keeps_values k.keep vs) → Covered k.keep before s → GivesLock k before f g
       → Lock k before (calls_slot new after w (move_values k.rho args) n (move_values k.rho vs) (move_state k before s) f) (calls_slot m before w args n vs s g)
   unfolding calls_slot
-  slot_lock m new is hm w args n vs s f g ha hv c gl =
+  slot_lock m new is hm w plain args n vs s f g ha hv c gl =
       had_moved k before (move_callee k.rho) (callee_of before (object_slot m)) _ s _ _
       (ap (λ (x : ℕ). callee_of after (object_slot x)) is ∙ ap (callee_of after) (slot_moved m) ∙ callee_moved k after before a (object_slot m) (slot_kept m hm)) (λ d e.
       let of = callee_kept k after before a (object_slot m) (slot_kept m hm) d e in
@@ -233,7 +217,7 @@ module _ (k : Change) (after before : Queries) (a : Agree k after before) where
       (given_moved k before (move_values k.rho) (found_args before s x (value.Object n) vs) _ s _ _ (found_args_moved s x (value.Object n) vs hx) (λ ws isw.
       subst (λ (o : Option CoreCall). Lock k before (run_found after w (move_values k.rho args) (move_callee k.rho x) (move_values k.rho ws) (move_state k before s) f o) (run_found before w args x ws s g (before.core x.called.method.0)))
       (sym (a.core x.called.method.0 (use_method k.keep x.called hx.named)))
-      (run_lock w args x ws s f g ha hx (found_kept s c x n vs ws hv isw) c gl (before.core x.called.method.0))))))))
+      (run_lock w plain args x ws s f g ha hx (found_kept s c x n vs ws hv isw) c gl (before.core x.called.method.0))))))))
 
   -- ---- Write and WriteLine of an object, Object.Equals(object, object)
 
@@ -245,9 +229,10 @@ module _ (k : Change) (after before : Queries) (a : Agree k after before) where
 
   text_printed : (line : Bool) (s : State) (f g : Gives) → Covered k.keep before s → GivesLock k before f g → (n : ℕ)
       → Lock k before (calls_slot after.to_string after (core.Prints line printed.OfObject) (value.Object n ∷ []) n [] (move_state k before s) f) (calls_slot before.to_string before (core.Prints line printed.OfObject) (value.Object n ∷ []) n [] s g)
+  unfolding searches
   text_printed line s f g c gl n =
       subst (λ (v : Value). Lock k before (calls_slot after.to_string after (core.Prints line printed.OfObject) (v ∷ []) n [] (move_state k before s) f) (calls_slot before.to_string before (core.Prints line printed.OfObject) (value.Object n ∷ []) n [] s g)) (move_object k.rho n)
-      (slot_lock before.to_string after.to_string a.to_string a.keeps_to_string (core.Prints line printed.OfObject) (value.Object n ∷ []) n [] s f g (and_from (keeps_value k.keep (value.Object n)) true (keeps_object k.keep n) refl) refl c gl)
+      (slot_lock before.to_string after.to_string a.to_string a.keeps_to_string (core.Prints line printed.OfObject) refl (value.Object n ∷ []) n [] s f g (and_from (keeps_value k.keep (value.Object n)) true (keeps_object k.keep n) refl) refl c gl)
 
   object_printed : (line : Bool) (s : State) (f g : Gives) → Covered k.keep before s → GivesLock k before f g → (rest : List Value) (v : Value) → IsTrue (keeps_value k.keep v)
       → Lock k before (print_object line after (move_value k.rho v ∷ move_values k.rho rest) (move_state k before s) f) (print_object line before (v ∷ rest) s g)
@@ -272,11 +257,12 @@ module _ (k : Change) (after before : Queries) (a : Agree k after before) where
 
   equals_called : (s : State) (f g : Gives) → Covered k.keep before s → GivesLock k before f g → (n m : ℕ)
       → Lock k before (calls_slot after.equals after core.AreEqual (value.Object n ∷ value.Object m ∷ []) n (value.Object m ∷ []) (move_state k before s) f) (calls_slot before.equals before core.AreEqual (value.Object n ∷ value.Object m ∷ []) n (value.Object m ∷ []) s g)
+  unfolding searches
   equals_called s f g c gl n m =
       let one : IsTrue (keeps_values k.keep (value.Object m ∷ [])) = and_from (keeps_value k.keep (value.Object m)) true (keeps_object k.keep m) refl in
       subst (λ (p : Value × Value). Lock k before (calls_slot after.equals after core.AreEqual (p.0 ∷ p.1 ∷ []) n (p.1 ∷ []) (move_state k before s) f) (calls_slot before.equals before core.AreEqual (value.Object n ∷ value.Object m ∷ []) n (value.Object m ∷ []) s g))
       (λ i. (move_object k.rho n i, move_object k.rho m i))
-      (slot_lock before.equals after.equals a.equals a.keeps_equals core.AreEqual (value.Object n ∷ value.Object m ∷ []) n (value.Object m ∷ []) s f g (and_from (keeps_value k.keep (value.Object n)) _ (keeps_object k.keep n) one) one c gl)
+      (slot_lock before.equals after.equals a.equals a.keeps_equals core.AreEqual refl (value.Object n ∷ value.Object m ∷ []) n (value.Object m ∷ []) s f g (and_from (keeps_value k.keep (value.Object n)) _ (keeps_object k.keep n) one) one c gl)
 
   equal_lock : (s : State) (f g : Gives) → Covered k.keep before s → GivesLock k before f g → (b : Bool) (v w : Value) → IsTrue (keeps_value k.keep v) → IsTrue (keeps_value k.keep w)
       → Lock k before (equal_by after (move_state k before s) f (move_value k.rho v) (move_value k.rho w) b) (equal_by before s g v w b)
@@ -302,7 +288,12 @@ module _ (k : Change) (after before : Queries) (a : Agree k after before) where
 
   pub member_lock : (m : CoreCall) → searches m ≡ false → (args : List Value) (s : State) (f g : Gives) → IsTrue (keeps_values k.keep args) → Covered k.keep before s → GivesLock k before f g
       → Lock k before (member m after (move_values k.rho args) (move_state k before s) f) (member m before args s g)
-  unfolding member searches
+  unfolding member own_member searches
+  member_lock core.Invoke plain args s f g h c gl = absurd (let f : true ≡ false = plain in cc)
+  member_lock core.PropertyGet plain args s f g h c gl = absurd (let f : true ≡ false = plain in cc)
+  member_lock core.PropertySet plain args s f g h c gl = absurd (let f : true ≡ false = plain in cc)
+  member_lock core.FieldGet plain args s f g h c gl = absurd (let f : true ≡ false = plain in cc)
+  member_lock core.FieldSet plain args s f g h c gl = absurd (let f : true ≡ false = plain in cc)
   member_lock (core.TypeFind throws) plain args s f g h c gl = absurd (let f : true ≡ false = plain in cc)
   member_lock core.Create plain args s f g h c gl = absurd (let f : true ≡ false = plain in cc)
   member_lock (core.MemberFind w) plain args s f g h c gl = absurd (let f : true ≡ false = plain in cc)

@@ -12,7 +12,6 @@ use Rattle.il_base.specs.world_model.Worlds.{known_map}
 use Rattle.il_base.specs.declared.world_model.expr.TypeExpr.{TypeExpr}
 use Rattle.il_base.specs.world_model.Exprs.{same_expr}
 use Rattle.il_base.specs.declared.core_table.names.CoreName.{CoreName}
-use Rattle.il_base.specs.declared.core_table.names.CoreName.TheVariants as name
 use Rattle.il_base.specs.declared.cil_values.value.Value.{Value}
 use Rattle.il_base.specs.declared.cil_values.value.Value.TheVariants as value
 use Rattle.il_base.specs.declared.cil_values.object.Obj.{Obj}
@@ -36,7 +35,7 @@ use Rattle.rules.specs.step_rules.Next.{Next, went}
 use Rattle.rules.specs.step_rules.Words.{Here, good, in_try, here_of, made}
 use Rattle.rules.specs.step_rules.Closing.{closed_slot}
 use Rattle.rules.specs.step_rules.Objects.{wrapping, new_exception}
-use Rattle.rules.specs.step_rules.Raising.{is_catch, handler_begins, change_init, set_init, failing, wrapper_of, wrapper, further_by, further, outside, outer, next_handler, unwind_here, unwind_to, unwind, Found, nothing_found, bad_clause, by_clause, catches_by, caught_type, clause_for, found_here, found_in, passed_on, unwinding_to, caught_or, search, throw, raise}
+use Rattle.rules.specs.step_rules.Raising.{is_catch, handler_begins, change_init, set_init, failing, wrapper_of, wrapper, further_by, further, outside, outer, next_handler, unwind_by, unwind_here, unwind_to, unwind, Found, nothing_found, bad_clause, by_clause, catches_by, caught_type, clause_for, found_here, found_in, passed_on, unwinding_to, caught_or, search, throw, raise}
 use Rattle.rules.specs.change_rules.Change.{Change}
 use Rattle.rules.specs.change_rules.Moves.{move_expr, move_values}
 use Rattle.rules.specs.change_rules.Answers.{move_clause, move_code, move_here}
@@ -64,6 +63,9 @@ member_wrapper : (c : CoreCall) → IsWrapper (wrapper_of c)
 unfolding is_asked
 member_wrapper core.Create = refl
 member_wrapper core.CreateOf = refl
+member_wrapper core.Invoke = refl
+member_wrapper core.PropertyGet = refl
+member_wrapper core.PropertySet = refl
 member_wrapper _ = tt
 
 wrapper_asked : (w : Waits) → IsWrapper (wrapper w)
@@ -148,10 +150,16 @@ module _ (k : Change) (after before : Queries) (a : Agree k after before) where
       (move_object k.rho u.object) (handler_lock code u.clause (caught u.object) (value.Object u.object ∷ []) s c (and_from _ true (keeps_object k.keep u.object) refl)))
       (λ e. l)
 
+  unwind_by_lock : (u : Unwinding) (s : State) → Covered k.keep before s → (x y : Next) → Lock k before x y → (o : Option Here)
+      → Lock k before (unwind_by u (move_state k before s) x (option_map (move_here k.rho) o)) (unwind_by u s y o)
+  unwind_by_lock u s c x y l None = l
+  unwind_by_lock u s c x y l (Some here) = next_lock here.code u u.left s c x y l
+
   unwind_here_lock : (u : Unwinding) (s : State) → Covered k.keep before s → (x y : Next) → Lock k before x y
       → Lock k before (unwind_here after u (move_state k before s) x) (unwind_here before u s y)
   unwind_here_lock u s c x y l =
-      given_moved k before (move_here k.rho) (here_of before s.top) _ s _ _ (here_moved k after before a s.top c.top.method) (λ here e. next_lock here.code u u.left s c x y l)
+      subst (λ (o : Option Here). Lock k before (unwind_by u (move_state k before s) x o) (unwind_by u s y (here_of before s.top))) (sym (here_moved k after before a s.top c.top.method))
+      (unwind_by_lock u s c x y l (here_of before s.top))
 
   outer_moved : (s : State) (u : Unwinding) (f : Frame) → IsTrue (keeps_use k.keep f.method) → outer after (move_state k before s) u (move_frame k.rho f) ≡ outer before s u f
   outer_moved s u f h = λ i. record (further_moved k s.top.waits u i) { left = left_moved k after before a u.frame u.clause f h i }

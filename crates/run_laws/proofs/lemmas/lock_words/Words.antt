@@ -1,5 +1,5 @@
 -- One lemma for each word in which a form is written.
-use Rattle.std.proofs.Common.{◌≡◌, ℕ, List, [], ◌∷◌, ◌++◌, length, Bool, true, false, Option, Some, None, refl, sym, subst}
+use Rattle.std.proofs.Common.{◌≡◌, ℕ, List, [], ◌∷◌, ◌++◌, length, Bool, true, false, Option, Some, None, refl, sym, ap, subst, ◌∙◌}
 use Rattle.std.specs.Prelude.{IsTrue, if◌then◌else◌}
 use Rattle.std.specs.Option.{option_map}
 use Rattle.std.proofs.lemmas.List.{length-map, map-append}
@@ -9,16 +9,18 @@ use Rattle.il_base.specs.declared.world_model.known.Known.TheVariants.{Good, Bad
 use Rattle.il_base.specs.world_model.Worlds.{known_map}
 use Rattle.il_base.specs.declared.cil_values.value.Value.{Value}
 use Rattle.il_base.specs.declared.cil_values.object.Obj.{Obj}
+use Rattle.il_base.specs.declared.cil_values.end.End.{End}
+use Rattle.il_base.specs.declared.cil_values.end.End.TheVariants.{Ended, Threw, Stopped, Stuck}
 use Rattle.il_base.specs.declared.cil_values.resolved.Code.{Code}
 use Rattle.il_base.specs.declared.cil_values.resolved.Instruction.{Instruction}
 use Rattle.rules.specs.step_rules.Queries.{Queries}
 use Rattle.il_base.specs.declared.cil_values.state.State.{State}
-use Rattle.rules.specs.step_rules.Next.{Next}
-use Rattle.rules.specs.step_rules.Words.{Here, stuck, stopped, given, had, known, required, within, popped, may_pass, may_go, moved, branches, goes_with, goes, made}
+use Rattle.rules.specs.step_rules.Next.{Next, went, over}
+use Rattle.rules.specs.step_rules.Words.{Here, stuck, stopped, end_at, ends_at, given, had, known, required, within, popped, may_pass, may_go, moved, branches, goes_with, goes, made}
 use Rattle.rules.specs.change_rules.Change.{Change}
 use Rattle.rules.specs.change_rules.Moves.{move_value, move_values}
 use Rattle.rules.specs.change_rules.Answers.{move_clause, move_code, move_here, move_instruction}
-use Rattle.rules.specs.change_rules.States.{move_obj, move_state}
+use Rattle.rules.specs.change_rules.States.{move_obj, move_state, move_end}
 use Rattle.rules.specs.change_rules.Keeps.{keeps_value, keeps_values, if_good}
 use Rattle.rules.specs.change_rules.Covered.{Covered, keeps_obj}
 use Rattle.rules.specs.change_rules.Lock.{Lock}
@@ -32,6 +34,17 @@ module _ (k : Change) (q : Queries) where
 
   pub stopped_lock : (s : State) → Lock k q (stopped (move_state k q s)) (stopped s)
   stopped_lock s = record { same = refl; kept = tt }
+
+  end_moved : (s : State) (e : End) → end_at (move_state k q s) (move_end k.rho e) ≡ move_end k.rho (end_at s e)
+  end_moved s (Stuck m at) = refl
+  end_moved s (Stopped m at) = refl
+  end_moved s (Ended code) = refl
+  end_moved s (Threw kind message) = refl
+
+  -- an end because of the code, put at the instruction of a state
+  pub ends_at_lock : (s : State) (x y : Next) → Lock k q x y → Lock k q (ends_at (move_state k q s) x) (ends_at s y)
+  ends_at_lock s x (went t bytes) l = record { same = ap (ends_at (move_state k q s)) l.same; kept = l.kept }
+  ends_at_lock s x (over e) l = record { same = ap (ends_at (move_state k q s)) l.same ∙ ap over (end_moved s e); kept = tt }
 
   -- ---- what is there
 

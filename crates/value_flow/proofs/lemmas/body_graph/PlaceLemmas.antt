@@ -2,9 +2,9 @@
 use Rattle.std.proofs.Common.{◌≡◌, ℕ, List, [], ap, sym, ◌∙◌}
 use Rattle.std.specs.Prelude.{Option, Some, None, slice_get, unwrap_or}
 use Rattle.il_base.specs.declared.world_model.record.AsmRec.{AsmRec}
-use Rattle.value_flow.specs.flow_rules.Methods.{Setting}
-use Rattle.value_flow.specs.flow_rules.Steps.{offsets, place_in}
-use Rattle.value_flow.specs.flow_rules.Exits.{edges_of}
+use Rattle.rules.specs.flow_rules.Methods.{Setting}
+use Rattle.rules.specs.flow_rules.Steps.{offsets, place_in}
+use Rattle.rules.specs.flow_rules.Exits.{edges_of}
 use Rattle.value_flow.specs.declared.body_graph.places.Places.{Places}
 use Rattle.value_flow.specs.declared.body_graph.graph.Graph.{Graph}
 use Rattle.value_flow.specs.body_graph.Places.{place_at, ArePlaces}

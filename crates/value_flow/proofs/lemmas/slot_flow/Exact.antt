@@ -5,11 +5,11 @@ use Rattle.std.specs.List.{Contains, flat_map}
 use Rattle.std.proofs.lemmas.List.Elements.{Contains-append_left, Contains-append_right, Contains-append_cases}
 use Rattle.il_base.specs.declared.bits.Bits.{Bits}
 use Rattle.closure.specs.Facts.{facts_in, Derived, root, brought}
-use Rattle.value_flow.specs.declared.stack_depths.exit.Exit.{Exit}
-use Rattle.value_flow.specs.stack_depths.Depths.{depth_at, or_no_depth}
+use Rattle.rules.specs.declared.flow_rules.exit.Exit.{Exit}
+use Rattle.rules.specs.flow_rules.Depths.{depth_at, or_no_depth}
 use Rattle.value_flow.specs.declared.slot_flow.moves.Flowing.{Flowing}
-use Rattle.value_flow.specs.declared.slot_flow.moves.Move.{Move}
-use Rattle.value_flow.specs.slot_flow.Carrying.{Held, held, is_slot, is_slot_by, of_depth, born_along, sent, born, Carried, begins, taken, born_at, sent_from}
+use Rattle.rules.specs.declared.flow_rules.moves.Move.{Move}
+use Rattle.rules.specs.flow_rules.Carrying.{Held, held, is_slot, is_slot_by, of_depth, born_along, sent, born, Carried, begins, taken, born_at, sent_from}
 use Rattle.value_flow.specs.slot_flow.Facts.{flow_in, number, fact_of, facts_of, follows_by, follows, begin_facts, taken_facts, born_facts, place_facts, root_facts, numbered, place_in, slot_in, source_in, IsWithin, IsLeastOf}
 use Rattle.value_flow.specs.slot_flow.Laws.{Numbered, both, below_by}
 use Rattle.value_flow.proofs.lemmas.slot_flow.Lists.{Placed, placed, contained, Among, from_flat, to_flat, AmongNumbered, from_numbered, to_numbered}

@@ -4,7 +4,7 @@ use Rattle.std.specs.Prelude.{Option, None}
 use Rattle.std.specs.List.{Contains}
 use Rattle.std.proofs.lemmas.List.Elements.{Contains-append_cases, Contains-get_or}
 use Rattle.value_flow.specs.declared.slot_flow.moves.Flowing.{Flowing}
-use Rattle.value_flow.specs.slot_flow.Carrying.{held, born}
+use Rattle.rules.specs.flow_rules.Carrying.{held, born}
 use Rattle.value_flow.specs.slot_flow.Facts.{flow_in, universe, fact_of, begin_facts, taken_facts, born_facts, place_facts, root_facts, numbered}
 use Rattle.value_flow.specs.slot_flow.Laws.{fact_below, facts_below}
 use Rattle.value_flow.proofs.lemmas.slot_flow.Lists.{Among, from_flat, AmongNumbered, from_numbered, numbered_step}

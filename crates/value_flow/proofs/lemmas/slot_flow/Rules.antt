@@ -5,12 +5,12 @@ use Rattle.std.specs.List.{Contains, filter, flat_map}
 use Rattle.std.proofs.lemmas.List.{append-nil}
 use Rattle.std.proofs.lemmas.List.Concat.{flat_map-append}
 use Rattle.std.proofs.lemmas.Nat.{div-mul-add, mod-mul-add}
-use Rattle.value_flow.specs.declared.stack_depths.exit.Step.{Step}
-use Rattle.value_flow.specs.declared.stack_depths.exit.Exit.{Exit}
-use Rattle.value_flow.specs.stack_depths.Depths.{depth_at}
+use Rattle.rules.specs.declared.flow_rules.exit.Step.{Step}
+use Rattle.rules.specs.declared.flow_rules.exit.Exit.{Exit}
+use Rattle.rules.specs.flow_rules.Depths.{depth_at}
 use Rattle.value_flow.specs.declared.slot_flow.moves.Flowing.{Flowing}
-use Rattle.value_flow.specs.declared.slot_flow.moves.Move.{Move}
-use Rattle.value_flow.specs.slot_flow.Carrying.{Held, held, only_if, is_slot, through, made, is_handler, is_caught, passes, before, caught, arriving, along, sent_along, born_along, of_depth, sent, born}
+use Rattle.rules.specs.declared.flow_rules.moves.Move.{Move}
+use Rattle.rules.specs.flow_rules.Carrying.{Held, held, only_if, is_slot, through, made, is_handler, is_caught, passes, before, caught, arriving, along, sent_along, born_along, of_depth, sent, born}
 use Rattle.value_flow.specs.slot_flow.Facts.{flow_in, turned, number, has_number, fact_of, facts_of, put_if, facts_along, sent_facts, born_along_facts, low_of, follows_by, born_facts, place_in, slot_in, source_in}
 use Rattle.value_flow.specs.slot_flow.Laws.{Numbered, numbered_by}
 use Rattle.value_flow.proofs.lemmas.slot_flow.Lists.{from_only, to_only}

@@ -3,15 +3,15 @@ use Rattle.std.proofs.Common.{◌≡◌, ℕ, suc, ◌+◌, ◌<◌, ◌≤◌, 
 use Rattle.std.specs.Prelude.{Option, Some, None, slice_get, unwrap_or}
 use Rattle.std.specs.List.{Contains, filter, flat_map}
 use Rattle.std.proofs.lemmas.List.Elements.{Contains-append_cases}
-use Rattle.value_flow.specs.declared.stack_depths.exit.Step.{Step}
-use Rattle.value_flow.specs.declared.stack_depths.exit.Exit.{Exit}
-use Rattle.value_flow.specs.stack_depths.Depths.{depth_at}
+use Rattle.rules.specs.declared.flow_rules.exit.Step.{Step}
+use Rattle.rules.specs.declared.flow_rules.exit.Exit.{Exit}
+use Rattle.rules.specs.flow_rules.Depths.{depth_at}
 use Rattle.value_flow.specs.declared.slot_flow.moves.Flowing.{Flowing}
-use Rattle.value_flow.specs.declared.slot_flow.moves.Turning.{Turning}
-use Rattle.value_flow.specs.declared.slot_flow.moves.Turning.TheVariants as turning
-use Rattle.value_flow.specs.declared.slot_flow.moves.Move.{Move}
-use Rattle.value_flow.specs.declared.slot_flow.moves.Move.TheVariants as move
-use Rattle.value_flow.specs.slot_flow.Carrying.{Held, only_if, stays, is_slot, is_slot_by, through, made, is_handler, is_caught, passes, before, caught, arriving, along, sent_along, born_along, of_depth, sent, born}
+use Rattle.rules.specs.declared.flow_rules.moves.Turning.{Turning}
+use Rattle.rules.specs.declared.flow_rules.moves.Turning.TheVariants as turning
+use Rattle.rules.specs.declared.flow_rules.moves.Move.{Move}
+use Rattle.rules.specs.declared.flow_rules.moves.Move.TheVariants as move
+use Rattle.rules.specs.flow_rules.Carrying.{Held, only_if, stays, is_slot, is_slot_by, through, made, is_handler, is_caught, passes, before, caught, arriving, along, sent_along, born_along, of_depth, sent, born}
 use Rattle.value_flow.specs.slot_flow.Facts.{flow_in, turned, low_of, IsWithin}
 use Rattle.value_flow.proofs.lemmas.slot_flow.Lists.{Among, from_flat, from_only, from_map, from_filter}
 

@@ -5,11 +5,11 @@ use Rattle.std.proofs.lemmas.Option.{slice_get-get_or}
 use Rattle.std.specs.List.{Contains}
 use Rattle.std.proofs.lemmas.List.Elements.{Contains-append_left, Contains-push}
 use borrow.Author.Count.{below_more}
-use Rattle.value_flow.specs.declared.stack_depths.exit.Way.TheVariants as way
-use Rattle.value_flow.specs.declared.stack_depths.exit.Step.{Step}
-use Rattle.value_flow.specs.declared.stack_depths.exit.Exit.{Exit}
+use Rattle.rules.specs.declared.flow_rules.exit.Way.TheVariants as way
+use Rattle.rules.specs.declared.flow_rules.exit.Step.{Step}
+use Rattle.rules.specs.declared.flow_rules.exit.Exit.{Exit}
 use Rattle.value_flow.specs.declared.stack_depths.search.Search.{Search}
-use Rattle.value_flow.specs.stack_depths.Depths.{depth_at, depth_by, entered_by, arrives}
+use Rattle.rules.specs.flow_rules.Depths.{depth_at, depth_by, entered_by, arrives}
 use Rattle.value_flow.specs.stack_depths.Search.{depth_in, missing, work_left, Enters, Takes, Clashes}
 use Rattle.value_flow.proofs.lemmas.stack_depths.Lists.{mapped}
 use Rattle.value_flow.proofs.lemmas.stack_depths.Marks.{still_there, now_there, newly_there, one_fewer}

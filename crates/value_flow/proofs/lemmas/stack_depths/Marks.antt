@@ -1,7 +1,7 @@
 -- Depths as one of them is set.
 use Rattle.std.proofs.Common.{◌≡◌, ℕ, zero, suc, ◌<◌, List, [], ◌∷◌, ◌⊎◌, inl, inr, refl, ap, slice_set, length, arith, replicate}
 use Rattle.std.specs.Prelude.{Option, Some, None}
-use Rattle.value_flow.specs.stack_depths.Depths.{depth_at}
+use Rattle.rules.specs.flow_rules.Depths.{depth_at}
 use Rattle.value_flow.specs.stack_depths.Search.{missing}
 
 pub below_length : (ds : List (Option ℕ)) (i d : ℕ) → depth_at ds i ≡ Some d → i < length ds

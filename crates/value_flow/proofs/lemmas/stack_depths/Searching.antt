@@ -4,9 +4,9 @@ use Rattle.std.specs.Prelude.{Option, Some, None, slice_get, MatchBool}
 use Rattle.std.proofs.lemmas.Option.{slice_get_within}
 use Rattle.std.specs.List.{Contains}
 use Rattle.std.proofs.lemmas.List.Elements.{Contains-push_cases}
-use Rattle.value_flow.specs.declared.stack_depths.exit.Exit.{Exit}
+use Rattle.rules.specs.declared.flow_rules.exit.Exit.{Exit}
 use Rattle.value_flow.specs.declared.stack_depths.search.Search.{Search}
-use Rattle.value_flow.specs.stack_depths.Depths.{depth_at, depth_by, entered_by, entered, arrives, is_wrong, is_wrong_by, Reaches, start, goes, IsBad, wrong, apart, AreDepths}
+use Rattle.rules.specs.flow_rules.Depths.{depth_at, depth_by, entered_by, entered, arrives, is_wrong, is_wrong_by, Reaches, start, goes, IsBad, wrong, apart, AreDepths}
 use Rattle.value_flow.specs.stack_depths.Search.{depth_in, work_left, Enters, Takes, Clashes, IsSearch, IsSearchBut, IsSettled, GoesOn}
 use Rattle.value_flow.proofs.lemmas.stack_depths.Lists.{Source, unmapped}
 use Rattle.value_flow.proofs.lemmas.stack_depths.Marks.{none_there}

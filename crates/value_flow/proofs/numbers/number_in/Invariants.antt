@@ -1,6 +1,6 @@
 use Rattle.std.proofs.Common.{◌≡◌, drop}
 use Rattle.std.specs.List.{position_from}
-use Rattle.value_flow.specs.flow_rules.Sources.{same_source}
+use Rattle.rules.specs.flow_rules.Sources.{same_source}
 use Rattle.value_flow.proofs.numbers.number_in.Given as goal
 
 abbrev pub invariant-loop-i : goal.invariant-loop-i

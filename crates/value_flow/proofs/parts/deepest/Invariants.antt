@@ -1,5 +1,5 @@
 use Rattle.std.proofs.Common.{◌≡◌, drop}
-use Rattle.value_flow.specs.Flows.{deepest, deepest_from}
+use Rattle.rules.specs.flow_rules.Flows.{deepest, deepest_from}
 use Rattle.value_flow.proofs.parts.deepest.Given as goal
 
 abbrev pub invariant-loop-depth : goal.invariant-loop-depth

@@ -1,5 +1,5 @@
 use Rattle.std.proofs.Common.{◌≡◌, ◌++◌, drop, map}
-use Rattle.value_flow.specs.flow_rules.Moves.{move_of, moves_of}
+use Rattle.rules.specs.flow_rules.Moves.{move_of, moves_of}
 use Rattle.value_flow.specs.body_graph.Methods.{setting_in}
 use Rattle.value_flow.specs.Numbers.{numbered_move}
 use Rattle.value_flow.proofs.parts.moves_of.Given as goal

@@ -1,5 +1,5 @@
 use Rattle.std.proofs.Common.{◌≡◌, ◌-◌, ◌++◌, map, replicate}
-use Rattle.value_flow.specs.declared.flow_rules.source.Source.TheVariants as source
+use Rattle.rules.specs.declared.flow_rules.source.Source.TheVariants as source
 use Rattle.value_flow.specs.Numbers.{number_in}
 use Rattle.value_flow.proofs.parts.put_locals.Given as goal
 

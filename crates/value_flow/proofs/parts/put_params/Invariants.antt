@@ -1,5 +1,5 @@
 use Rattle.std.proofs.Common.{◌≡◌, ◌-◌, ◌++◌, map}
-use Rattle.value_flow.specs.flow_rules.Moves.{parameters_from, parameters}
+use Rattle.rules.specs.flow_rules.Moves.{parameters_from, parameters}
 use Rattle.value_flow.specs.Numbers.{number_in}
 use Rattle.value_flow.proofs.parts.put_params.Given as goal
 

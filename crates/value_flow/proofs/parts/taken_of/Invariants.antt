@@ -1,7 +1,7 @@
 use Rattle.std.proofs.Common.{◌≡◌, ◌++◌, drop}
 use Rattle.std.specs.List.{flat_map}
 use Rattle.il_base.specs.declared.body.Instr.{Instr}
-use Rattle.value_flow.specs.flow_rules.Moves.{taken_by, taken_of}
+use Rattle.rules.specs.flow_rules.Moves.{taken_by, taken_of}
 use Rattle.value_flow.specs.body_graph.Methods.{setting_in}
 use Rattle.value_flow.proofs.parts.taken_of.Given as goal
 

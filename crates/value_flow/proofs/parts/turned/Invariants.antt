@@ -1,5 +1,5 @@
 use Rattle.std.proofs.Common.{◌≡◌, ◌++◌, drop, map}
-use Rattle.value_flow.specs.flow_rules.Sources.{turn}
+use Rattle.rules.specs.flow_rules.Sources.{turn}
 use Rattle.value_flow.specs.Numbers.{number_in}
 use Rattle.value_flow.proofs.parts.turned.Given as goal
 

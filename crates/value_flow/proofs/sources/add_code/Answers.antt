@@ -1,4 +1,4 @@
-use Rattle.value_flow.specs.flow_rules.Moves.{sources_by}
+use Rattle.rules.specs.flow_rules.Moves.{sources_by}
 use Rattle.value_flow.specs.body_graph.Methods.{setting_in}
 use Rattle.value_flow.proofs.Looping.{added_code}
 use Rattle.value_flow.proofs.sources.add_code.Goals as goal

@@ -1,8 +1,8 @@
 use Rattle.std.proofs.Common.{◌≡◌, drop}
 use Rattle.std.specs.List.{flat_map}
 use Rattle.rules.specs.link_rules.Cycles.{add_all}
-use Rattle.value_flow.specs.flow_rules.Sources.{same_source}
-use Rattle.value_flow.specs.flow_rules.Moves.{sources_by}
+use Rattle.rules.specs.flow_rules.Sources.{same_source}
+use Rattle.rules.specs.flow_rules.Moves.{sources_by}
 use Rattle.value_flow.specs.body_graph.Methods.{setting_in}
 use Rattle.value_flow.proofs.sources.add_code.Given as goal
 

@@ -1,7 +1,7 @@
 use Rattle.std.proofs.Common.{◌≡◌, ◌-◌}
 use Rattle.rules.specs.link_rules.Cycles.{add_all}
-use Rattle.value_flow.specs.flow_rules.Sources.{same_source}
-use Rattle.value_flow.specs.flow_rules.Moves.{parameters_from, parameters}
+use Rattle.rules.specs.flow_rules.Sources.{same_source}
+use Rattle.rules.specs.flow_rules.Moves.{parameters_from, parameters}
 use Rattle.value_flow.proofs.sources.add_params.Given as goal
 
 abbrev pub invariant-loop-k : goal.invariant-loop-k

@@ -1,6 +1,6 @@
 use Rattle.std.proofs.Common.{◌≡◌, drop}
 use Rattle.std.specs.Prelude.{find}
-use Rattle.value_flow.specs.flow_rules.Sources.{is_token_of}
+use Rattle.rules.specs.flow_rules.Sources.{is_token_of}
 use Rattle.value_flow.proofs.texts.text_at.Given as goal
 
 abbrev pub invariant-loop-t : goal.invariant-loop-t

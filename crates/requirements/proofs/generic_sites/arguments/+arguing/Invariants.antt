@@ -1,6 +1,6 @@
 use Rattle.std.proofs.Common.{◌≡◌, ◌++◌, drop, map}
 use Rattle.mark_parts.specs.mark_tables.Assemblies.{all_of}
-use Rattle.site_kinds.specs.site_rules.Arguments.{argument, sites_from}
+use Rattle.rules.specs.site_rules.Arguments.{argument, sites_from}
 use Rattle.requirements.specs.generic_sites.Asked.{target_of, asked_kinds}
 use Rattle.requirements.proofs.generic_sites.arguments.+arguing.Given as goal
 

@@ -1,7 +1,7 @@
 use Rattle.std.proofs.Common.{sym, ap, ◌∙◌}
 use Rattle.il_base.specs.declared.world_model.expr.TypeExpr.{TypeExpr}
-use Rattle.site_kinds.specs.site_rules.Arguments.{Argument, argument}
-use Rattle.site_kinds.proofs.lemmas.site_rules.Layers.{argument_mod}
+use Rattle.rules.specs.site_rules.Arguments.{Argument, argument}
+use Rattle.rules.proofs.lemmas.site_rules.Layers.{argument_mod}
 use Rattle.requirements.proofs.generic_sites.arguments.+source_of.Goals as goal
 
 pub returns-in_ok-s-in-Mod : goal.returns-in_ok-s-in-Mod

@@ -2,7 +2,7 @@ use Rattle.std.proofs.Common.{◌≡◌, ◌++◌, drop, map}
 use Rattle.std.specs.List.{flat_map}
 use Rattle.mark_parts.specs.mark_facts.Told.{part_told}
 use Rattle.mark_parts.specs.mark_tables.Assemblies.{all_of}
-use Rattle.site_kinds.specs.site_rules.Arguments.{part_sites}
+use Rattle.rules.specs.site_rules.Arguments.{part_sites}
 use Rattle.requirements.proofs.generic_sites.named.put_parts.Given as goal
 
 abbrev pub invariant-loop-part : goal.invariant-loop-part

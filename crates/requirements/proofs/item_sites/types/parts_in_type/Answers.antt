@@ -1,5 +1,5 @@
 use Rattle.std.proofs.Common.{◌≡◌, List, [], ◌++◌, append_assoc}
-use Rattle.site_kinds.specs.site_rules.Types.{parts_in_type}
+use Rattle.rules.specs.site_rules.Types.{parts_in_type}
 use Rattle.requirements.proofs.item_sites.types.parts_in_type.Goals as goal
 
 six_put : {A : Type 0} (a b c d e f n₀ n₁ n₂ n₃ n₄ n₅ n₆ : List A) → n₀ ≡ [] → n₁ ≡ n₀ ++ a → n₂ ≡ n₁ ++ b → n₃ ≡ n₂ ++ c → n₄ ≡ n₃ ++ d → n₅ ≡ n₄ ++ e → n₆ ≡ n₅ ++ f

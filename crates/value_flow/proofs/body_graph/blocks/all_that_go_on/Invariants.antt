@@ -1,6 +1,6 @@
 use Rattle.std.proofs.Common.{◌≡◌, ◌++◌, drop}
 use Rattle.std.specs.List.{flat_map}
-use Rattle.value_flow.specs.flow_rules.Steps.{goes_on}
+use Rattle.rules.specs.flow_rules.Steps.{goes_on}
 use Rattle.value_flow.proofs.body_graph.blocks.all_that_go_on.Given as goal
 
 abbrev pub invariant-loop-i : goal.invariant-loop-i

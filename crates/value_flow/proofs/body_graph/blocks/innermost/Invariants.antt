@@ -1,5 +1,5 @@
 use Rattle.std.proofs.Common.{◌≡◌, drop}
-use Rattle.value_flow.specs.flow_rules.Steps.{innermost, innermost_from}
+use Rattle.rules.specs.flow_rules.Steps.{innermost, innermost_from}
 use Rattle.value_flow.proofs.body_graph.blocks.innermost.Given as goal
 
 abbrev pub invariant-loop-n : goal.invariant-loop-n

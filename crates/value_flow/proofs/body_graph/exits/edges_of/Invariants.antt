@@ -1,6 +1,6 @@
 use Rattle.std.proofs.Common.{◌≡◌, ◌++◌, drop, map}
-use Rattle.value_flow.specs.flow_rules.Steps.{offsets}
-use Rattle.value_flow.specs.flow_rules.Exits.{exit_offsets}
+use Rattle.rules.specs.flow_rules.Steps.{offsets}
+use Rattle.rules.specs.flow_rules.Exits.{exit_offsets}
 use Rattle.value_flow.proofs.body_graph.exits.edges_of.Given as goal
 
 abbrev pub invariant-loop-e : goal.invariant-loop-e

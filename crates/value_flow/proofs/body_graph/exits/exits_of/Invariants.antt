@@ -1,5 +1,5 @@
 use Rattle.std.proofs.Common.{◌≡◌, ◌++◌, drop}
-use Rattle.value_flow.specs.flow_rules.Exits.{exits_from}
+use Rattle.rules.specs.flow_rules.Exits.{exits_from}
 use Rattle.value_flow.specs.body_graph.Methods.{setting_in}
 use Rattle.value_flow.proofs.body_graph.exits.exits_of.Given as goal
 

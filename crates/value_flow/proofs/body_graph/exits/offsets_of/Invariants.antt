@@ -1,7 +1,7 @@
 use Rattle.std.proofs.Common.{◌≡◌, ◌++◌, drop}
 use Rattle.std.specs.List.{flat_map}
-use Rattle.value_flow.specs.flow_rules.Steps.{offsets}
-use Rattle.value_flow.specs.flow_rules.Exits.{offset_to}
+use Rattle.rules.specs.flow_rules.Steps.{offsets}
+use Rattle.rules.specs.flow_rules.Exits.{offset_to}
 use Rattle.value_flow.proofs.body_graph.exits.offsets_of.Given as goal
 
 abbrev pub invariant-loop-step : goal.invariant-loop-step

@@ -1,5 +1,5 @@
 use Rattle.std.proofs.Common.{◌≡◌, ◌++◌, drop}
-use Rattle.value_flow.specs.flow_rules.Steps.{offsets, handler_steps}
+use Rattle.rules.specs.flow_rules.Steps.{offsets, handler_steps}
 use Rattle.value_flow.proofs.body_graph.steps.put_handlers.Given as goal
 
 abbrev pub invariant-loop-h : goal.invariant-loop-h

@@ -1,5 +1,5 @@
 use Rattle.std.proofs.Common.{◌≡◌, ◌++◌, drop}
-use Rattle.value_flow.specs.flow_rules.Steps.{offsets, next_to}
+use Rattle.rules.specs.flow_rules.Steps.{offsets, next_to}
 use Rattle.value_flow.proofs.body_graph.steps.put_next_to.Given as goal
 
 abbrev pub invariant-loop-offset : goal.invariant-loop-offset

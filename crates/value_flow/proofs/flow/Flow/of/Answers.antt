@@ -1,7 +1,7 @@
 use Rattle.std.proofs.Common.{◌≡◌, ap, ◌∙◌}
 use Rattle.std.specs.Prelude.{Some, IfSome}
 use Rattle.il_base.specs.declared.world_model.world.World.{World}
-use Rattle.value_flow.specs.flow_rules.Methods.{setting_of}
+use Rattle.rules.specs.flow_rules.Methods.{setting_of}
 use Rattle.value_flow.specs.body_graph.Methods.{setting_in}
 use Rattle.value_flow.proofs.Ending.{graph_of}
 use Rattle.value_flow.proofs.flow.Flow.of.Goals as goal

@@ -1,6 +1,6 @@
 use Rattle.std.proofs.Common.{◌≡◌, ℕ, ◌≤◌, refl, ap, ◌∙◌, subst}
 use Rattle.value_flow.specs.body_graph.Methods.{setting_in}
-use Rattle.value_flow.specs.Flows.{slots_of, most_work, work_of}
+use Rattle.rules.specs.flow_rules.Flows.{slots_of, most_work, work_of}
 use Rattle.value_flow.proofs.Ending.{work_is, flow_exactly}
 use Rattle.value_flow.proofs.flow.Flow.of_method.Goals as goal
 

@@ -1,5 +1,5 @@
 use Rattle.std.proofs.Common.{◌≡◌, ◌++◌, drop}
-use Rattle.value_flow.specs.slot_flow.Carrying.{held}
+use Rattle.rules.specs.flow_rules.Carrying.{held}
 use Rattle.value_flow.specs.slot_flow.Facts.{fact_of, numbered, begin_facts}
 use Rattle.value_flow.proofs.slot_flow.facts.put_begin.Given as goal
 

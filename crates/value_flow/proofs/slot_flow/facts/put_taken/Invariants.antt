@@ -1,6 +1,6 @@
 use Rattle.std.proofs.Common.{◌≡◌, ◌++◌, drop}
 use Rattle.std.specs.List.{flat_map}
-use Rattle.value_flow.specs.slot_flow.Carrying.{held}
+use Rattle.rules.specs.flow_rules.Carrying.{held}
 use Rattle.value_flow.specs.slot_flow.Facts.{fact_of, taken_facts}
 use Rattle.value_flow.proofs.slot_flow.facts.put_taken.Given as goal
 

@@ -1,5 +1,5 @@
 use Rattle.std.proofs.Common.{◌≡◌, ◌++◌, drop}
-use Rattle.value_flow.specs.flow_rules.Steps.{offsets}
+use Rattle.rules.specs.flow_rules.Steps.{offsets}
 use Rattle.value_flow.proofs.body_graph.places.Places.of.Given as goal
 
 abbrev pub invariant-loop-i : goal.invariant-loop-i

@@ -1,7 +1,7 @@
 use Rattle.std.proofs.Common.{◌≡◌, ℕ, true, nat_lt, ◌&&◌, refl, sym, subst}
 use Rattle.std.specs.Prelude.{◌↔◌}
 use Rattle.closure.specs.Facts.{facts_in}
-use Rattle.value_flow.specs.slot_flow.Carrying.{Carried}
+use Rattle.rules.specs.flow_rules.Carrying.{Carried}
 use Rattle.value_flow.specs.slot_flow.Facts.{flow_in, number}
 use Rattle.value_flow.proofs.lemmas.slot_flow.Exact.{exactly}
 use Rattle.value_flow.proofs.slot_flow.walks.Reached.of.Goals as goal

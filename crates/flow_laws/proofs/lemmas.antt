@@ -1,0 +1,5 @@
+pub mod Counting
+pub mod Closing
+pub mod Depthing
+pub mod Carrying
+pub mod Sourcing

@@ -1,0 +1,10 @@
+pub mod Methods
+pub mod Counts
+pub mod Steps
+pub mod Exits
+pub mod Depths
+pub mod Sources
+pub mod Carrying
+pub mod Moves
+pub mod Flows
+pub mod Rounds

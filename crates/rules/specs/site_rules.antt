@@ -1,0 +1,11 @@
+pub mod Signatures
+pub mod Flags
+pub mod Kinds
+pub mod Fails
+pub mod Values
+pub mod Arguments
+pub mod Bodies
+pub mod Types
+pub mod Items
+pub mod Sample
+pub mod Examples

@@ -1,5 +1,0 @@
-use Rattle.site_kinds.proofs.lemmas.site_rules.Computed as computed
-use Rattle.site_kinds.proofs.site_rules.examples.failing.Goals as goal
-
-pub returns : goal.returns
-returns c = record { methods = computed.fails_methods; name = computed.fails_name }

@@ -1,8 +1,0 @@
-pub mod Kinds
-pub mod Fails
-pub mod Values
-pub mod Arguments
-pub mod Bodies
-pub mod Types
-pub mod Sample
-pub mod Examples

@@ -1,6 +1,0 @@
-pub mod Methods
-pub mod Counts
-pub mod Steps
-pub mod Exits
-pub mod Sources
-pub mod Moves
