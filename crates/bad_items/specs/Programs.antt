@@ -1,5 +1,5 @@
 -- A program with its tables.
-use Rattle.std.specs.Prelude.{List, Bool}
+use Rattle.std.specs.Prelude.{◌≡◌, List, Bool}
 use Rattle.il_base.specs.declared.ids.Item.{Item}
 use Rattle.il_base.specs.declared.world_model.record.AsmRec.{AsmRec}
 use Rattle.il_base.specs.declared.world_model.world.World.{World}
@@ -24,3 +24,4 @@ pub record IsProgram (p : Program) : Type 0 where
   pub marker : IsMarker p.marker.now
   pub attributes : AreAttributeTables p.marker.now p.attributes.now
   pub tables : AreFlawTables (recs_in p) p.tables.now
+  pub types : p.types.now ≡ world_in p

@@ -37,7 +37,7 @@ fn add_here<'a>(
     let marker = program.marker;
     let tables = program.tables;
     let rows = tables.rows_at(at.asm);
-    add_row_flaws(alloc, marker, &asm, rows, item, at, flaws)?;
+    add_row_flaws(alloc, marker, program.types, &asm, rows, item, at, flaws)?;
     let reader = reader_of(marker, program.attributes, asm, at.asm)?;
     add_attribute_flaws(alloc, &reader, item, at, flaws)
 }

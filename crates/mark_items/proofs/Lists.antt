@@ -5,6 +5,9 @@ use Rattle.std.proofs.lemmas.List.{append-nil}
 pub none_more : {A : Type 0} (out : List A) → out ++ [] ≡ out
 none_more out = append-nil out
 
+pub two_put : {A : Type 0} (out xs ys : List A) → (out ++ xs) ++ ys ≡ out ++ (xs ++ ys)
+two_put out xs ys = append_assoc out xs ys
+
 pub three_put : {A : Type 0} (out xs ys zs : List A) → ((out ++ xs) ++ ys) ++ zs ≡ out ++ ((xs ++ ys) ++ zs)
 three_put out xs ys zs = ap (λ (ws : _). ws ++ zs) (append_assoc out xs ys) ∙ append_assoc out (xs ++ ys) zs
 

@@ -1,5 +1,5 @@
-//! The facts that follow from one fact: the rules on rows, attributes, dependencies, descriptors and shown types together. In go a
-//! world with its tables and a fact; out come facts, as `one` of `rules/specs/mark_rules/Marking` lists them.
+//! The facts that follow from one fact: the rules on rows, attributes, dependencies, descriptors, shown types and the flow of values
+//! together. In go a world with its tables and a fact; out come facts, as `one` of `rules/specs/mark_rules/Marking` lists them.
 #![tactic(auto)]
 
 pub mod items;

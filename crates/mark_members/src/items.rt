@@ -78,7 +78,7 @@ fn add_event(
 }
 
 /// Adds properties and their accessors.
-pub(crate) fn add_properties(
+pub fn add_properties(
     alloc: Global,
     marker: &Marker<'_>,
     rows: &[RowAt],
@@ -94,7 +94,7 @@ pub(crate) fn add_properties(
 }
 
 /// Adds events and their accessors.
-pub(crate) fn add_events(
+pub fn add_events(
     alloc: Global,
     marker: &Marker<'_>,
     rows: &[RowAt],

@@ -36,6 +36,7 @@ use mark_roots::lookup::Lookup;
 use marking::{Marked, mark};
 use rules::link_rules::RowAt;
 use std::alloc::Global;
+use type_system::Types;
 use virtual_calls::slots::Slots;
 
 /// What a program needs.
@@ -56,6 +57,7 @@ fn marked_by<'a>(
     lookup: Lookup<'a, 'a>,
     attributes: &'a AttributeTables<'a>,
     nested: &'a NestedTypes,
+    system: &'a Types<'a>,
     slots: &Slots,
     entry: Option<RowAt>,
     roots: &'a [Root],
@@ -63,11 +65,12 @@ fn marked_by<'a>(
     requires lookup { IsLookup lookup }
     requires attributes { AreAttributeTables lookup.marker.now attributes.now }
     requires nested { AreNested (recs_in lookup) nested.now }
+    requires system { system.now ≡ lookup.marker.now.tables.world.now }
     requires slots { AreSlots (recs_in lookup) slots.now }
     ensures { IfOk result (IsMarked (recs_in lookup.entry) entry roots.now) }
 {
     let marker = lookup.marker;
-    let named = NamedWorld::of(alloc, lookup, attributes, nested, roots)?;
+    let named = NamedWorld::of(alloc, lookup, attributes, nested, system, roots)?;
     let marked = mark(alloc, marker, slots, &named, entry)?;
     Ok(marked)
 }
@@ -79,6 +82,7 @@ fn marked_under<'a>(
     attributes: &'a AttributeTables<'a>,
     names: &'a SlashedNames,
     types: &'a DescriptorTypes<'a>,
+    system: &'a Types<'a>,
     entry: Option<RowAt>,
     roots: &'a [Root],
 ) -> Result<Marked, NoMemory>
@@ -86,6 +90,7 @@ fn marked_under<'a>(
     requires attributes { AreAttributeTables marker.now attributes.now }
     requires names { AreNames (all_of marker.now) names.now }
     requires types { AreTypes (all_of marker.now) types.now }
+    requires system { system.now ≡ marker.now.tables.world.now }
     ensures { IfOk result (IsMarked (all_of marker.now) entry roots.now) }
 {
     let slots = Slots::of(alloc, &marker.tables)?;
@@ -95,7 +100,9 @@ fn marked_under<'a>(
         names,
         types,
     };
-    let marked = marked_by(alloc, lookup, attributes, &nested, &slots, entry, roots)?;
+    let marked = marked_by(
+        alloc, lookup, attributes, &nested, system, &slots, entry, roots,
+    )?;
     Ok(marked)
 }
 
@@ -104,16 +111,20 @@ fn marked_of<'a>(
     alloc: Global,
     marker: &'a Marker<'a>,
     attributes: &'a AttributeTables<'a>,
+    system: &'a Types<'a>,
     entry: Option<RowAt>,
     roots: &'a [Root],
 ) -> Result<Marked, NoMemory>
     requires marker { IsMarker marker.now }
     requires attributes { AreAttributeTables marker.now attributes.now }
+    requires system { system.now ≡ marker.now.tables.world.now }
     ensures { IfOk result (IsMarked (all_of marker.now) entry roots.now) }
 {
     let names = SlashedNames::of(alloc, marker)?;
     let types = DescriptorTypes::of(alloc, &names, marker)?;
-    let marked = marked_under(alloc, marker, attributes, &names, &types, entry, roots)?;
+    let marked = marked_under(
+        alloc, marker, attributes, &names, &types, system, entry, roots,
+    )?;
     Ok(marked)
 }
 
@@ -124,17 +135,20 @@ fn flaw_of<'a>(
     attributes: &'a AttributeTables<'a>,
     marked: &'a Marked,
     tables: &'a FlawTables,
+    system: &'a Types<'a>,
     entry: Option<RowAt>,
 ) -> Result<Option<Flaw>, NoMemory>
     requires marker { IsMarker marker.now }
     requires attributes { AreAttributeTables marker.now attributes.now }
     requires tables { AreFlawTables (all_of marker.now) tables.now }
+    requires system { system.now ≡ marker.now.tables.world.now }
     ensures { IfOk result (λ f. RowsThere (all_of marker.now) → (roots : List Root) → IsMarked (all_of marker.now) entry roots marked.now → IsFirstFlaw (all_of marker.now) entry (Marks (all_of marker.now) entry roots) (option_map flaw_told f)) }
 {
     let program = Program {
         marker,
         attributes,
         tables,
+        types: system,
         marked,
     };
     first_bad(alloc, &program, entry)
@@ -146,19 +160,21 @@ fn needs_by<'a>(
     marker: &'a Marker<'a>,
     attributes: &'a AttributeTables<'a>,
     tables: &'a FlawTables,
+    system: &'a Types<'a>,
     entry: Option<RowAt>,
     roots: &'a [Root],
 ) -> Result<Needs, NoMemory>
     requires marker { IsMarker marker.now }
     requires attributes { AreAttributeTables marker.now attributes.now }
     requires tables { AreFlawTables (all_of marker.now) tables.now }
+    requires system { system.now ≡ marker.now.tables.world.now }
     ensures marked { IfOk result (λ n. IsMarked (all_of marker.now) entry roots.now n.marked) }
     ensures flaw { IfOk result (λ n. RowsThere (all_of marker.now) → IsFirstFlaw (all_of marker.now) entry (Marks (all_of marker.now) entry roots.now) (option_map flaw_told n.flaw)) }
     ensures not_yet { IfOk result (λ n. IsFirstNotYet (all_of marker.now) (Marks (all_of marker.now) entry roots.now) n.not_yet) }
 {
-    let marked = marked_of(alloc, marker, attributes, entry, roots)?;
+    let marked = marked_of(alloc, marker, attributes, system, entry, roots)?;
     let not_yet = first_not_yet(alloc, marker, &marked)?;
-    let flaw = flaw_of(alloc, marker, attributes, &marked, tables, entry)?;
+    let flaw = flaw_of(alloc, marker, attributes, &marked, tables, system, entry)?;
     Ok(Needs {
         marked,
         flaw,
@@ -170,17 +186,19 @@ fn needs_by<'a>(
 fn needs_with(
     alloc: Global,
     marker: &Marker<'_>,
+    system: &Types<'_>,
     entry: Option<RowAt>,
     roots: &[Root],
 ) -> Result<Needs, NoMemory>
-    requires { IsMarker marker.now }
+    requires marker { IsMarker marker.now }
+    requires system { system.now ≡ marker.now.tables.world.now }
     ensures marked { IfOk result (λ n. IsMarked (all_of marker.now) entry roots.now n.marked) }
     ensures flaw { IfOk result (λ n. RowsThere (all_of marker.now) → IsFirstFlaw (all_of marker.now) entry (Marks (all_of marker.now) entry roots.now) (option_map flaw_told n.flaw)) }
     ensures not_yet { IfOk result (λ n. IsFirstNotYet (all_of marker.now) (Marks (all_of marker.now) entry roots.now) n.not_yet) }
 {
     let attributes = AttributeTables::of(alloc, marker)?;
     let tables = FlawTables::of(alloc, marker)?;
-    let needs = needs_by(alloc, marker, &attributes, &tables, entry, roots)?;
+    let needs = needs_by(alloc, marker, &attributes, &tables, system, entry, roots)?;
     Ok(needs)
 }
 
@@ -197,6 +215,7 @@ pub fn needs_of(
     ensures not_yet { IfOk result (λ n. IsFirstNotYet world.now.recs (Marks world.now.recs entry roots.now) n.not_yet) }
 {
     let marker = Marker::of(alloc, world)?;
-    let needs = needs_with(alloc, &marker, entry, roots)?;
+    let system = Types::new(alloc, world)?;
+    let needs = needs_with(alloc, &marker, &system, entry, roots)?;
     Ok(needs)
 }

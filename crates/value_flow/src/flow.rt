@@ -42,8 +42,8 @@ pub enum FlowError {
     NoMemory,
 }
 
-/// The most that slots times instructions times sources may be.
-const MOST_WORK: u64 = 2_147_483_648;
+/// The most that slots times instructions times sources of a body may be for its flow to be followed.
+pub const MOST_WORK: u64 = 2_147_483_648;
 
 /// Slots times instructions times sources.
 fn work_of(slots: u32, code: usize, sources: usize) -> u64
@@ -52,6 +52,25 @@ fn work_of(slots: u32, code: usize, sources: usize) -> u64
     u64::from(slots)
         .saturating_mul(code as u64)
         .saturating_mul(sources as u64)
+}
+
+/// Slots times instructions times sources of a body with its graph; the greatest number of 64 bits stands for each that is greater.
+/// Memory may run out.
+pub fn work_in(
+    alloc: Global,
+    types: &Types<'_>,
+    m: &Method<'_>,
+    owner: Option<TypeId>,
+    graph: &Graph,
+) -> Result<u64, NoMemory>
+    requires here { IsHere m.now }
+    requires types { types.now ≡ m.now.world.now }
+    requires graph { IsGraph m.now.world.now.recs (setting_in m.now) graph.now }
+    ensures { IfOk result (λ n. n ≡ work_of m.now.world.now.recs (setting_in m.now) owner graph.now.depths) }
+{
+    let sources = sources_of(alloc, types, m, owner)?;
+    let slots = slots_of(m, graph.depths())?;
+    Ok(work_of(slots, m.body.code.len(), sources.len()))
 }
 
 /// The flow with its sources as numbers.
@@ -107,7 +126,8 @@ fn reached_of(
 }
 
 impl<'g> Flow<'g> {
-    fn of_method(
+    /// The flow of values in the body of a method that is here, in the type `owner`. The graph is the method's.
+    pub fn of_method(
         alloc: Global,
         types: &Types<'_>,
         m: &Method<'_>,

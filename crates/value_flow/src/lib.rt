@@ -16,4 +16,5 @@ mod sources;
 pub mod stack_depths;
 mod texts;
 
-pub use flow::{Flow, FlowError};
+pub use flow::{Flow, FlowError, MOST_WORK, work_in};
+pub use texts::type_of_text;

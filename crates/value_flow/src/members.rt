@@ -8,7 +8,7 @@ ghost use Rattle.rules.specs.link_rules.Members.{owns_method};
 ghost use Rattle.rules.specs.type_rules.Slots.{type_of_method};
 ghost use Rattle.rules.specs.type_rules.Rows.{type_row_at};
 ghost use Rattle.rules.specs.flow_rules.Sources.{is_called, is_system_type, is_core_type, is_of_type, is_type_member};
-ghost use Rattle.rules.specs.flow_rules.Flows.{owner_of};
+ghost use Rattle.rules.specs.flow_rules.Flows.{owner_at, owner_of};
 
 use il_base::world_model::{AsmRec, TypeDefRow, type_id};
 use il_base::{MethodId, NoMemory, TypeId};
@@ -122,15 +122,10 @@ fn id_of(recs: &[AsmRec], at: RowAt) -> Result<TypeId, NoMemory>
     }
 }
 
-/// The type that has a method.
-pub(crate) fn owner_of(recs: &[AsmRec], m: MethodId) -> Result<Option<TypeId>, NoMemory>
-    ensures { IfOk result (λ t. t ≡ owner_of recs.now m) }
+/// The type that has the method of a row.
+fn owner_at(recs: &[AsmRec], at: RowAt) -> Result<Option<TypeId>, NoMemory>
+    ensures { IfOk result (λ t. t ≡ owner_at recs.now at) }
 {
-    let at = match method_home(recs, m) {
-        Err(error) => return Err(error),
-        Ok(None) => return Ok(None),
-        Ok(Some(at)) => at,
-    };
     let of = match type_of_method(recs, at) {
         Err(error) => return Err(error),
         Ok(None) => return Ok(None),
@@ -139,5 +134,16 @@ pub(crate) fn owner_of(recs: &[AsmRec], m: MethodId) -> Result<Option<TypeId>, N
     match id_of(recs, of) {
         Err(error) => Err(error),
         Ok(t) => Ok(Some(t)),
+    }
+}
+
+/// The type that has a method.
+pub(crate) fn owner_of(recs: &[AsmRec], m: MethodId) -> Result<Option<TypeId>, NoMemory>
+    ensures { IfOk result (λ t. t ≡ owner_of recs.now m) }
+{
+    match method_home(recs, m) {
+        Err(error) => Err(error),
+        Ok(None) => Ok(None),
+        Ok(Some(at)) => owner_at(recs, at),
     }
 }

@@ -22,8 +22,8 @@ pub(crate) fn text_at(rec: &AsmRec, token: u32) -> Option<&UserText>
     None
 }
 
-/// The type that a text names from an assembly.
-pub(crate) fn type_of_text(
+/// The type that a text names from an assembly, by its place from 0.
+pub fn type_of_text(
     alloc: Global,
     types: &Types<'_>,
     from: u32,

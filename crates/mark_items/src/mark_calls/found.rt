@@ -286,7 +286,7 @@ fn add_searched(
 }
 
 /// The class of an interface row, by its assembly and row.
-fn row_class(all: &[AsmRec], r: RowAt) -> Option<RowAt>
+pub(crate) fn row_class(all: &[AsmRec], r: RowAt) -> Option<RowAt>
     ensures { result ≡ row_class all.now r }
 {
     let rec = all.get(r.asm as usize)?;

@@ -8,4 +8,5 @@ pub mod Parts
 pub mod Rules
 pub mod Members
 pub mod Starts
+pub mod Flow
 pub mod Belong

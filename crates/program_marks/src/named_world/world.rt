@@ -13,14 +13,18 @@ use mark_dependencies::dependencies::add_dependency_needs;
 use mark_dependencies::item_dependencies::items::dependencies;
 use mark_dependencies::lookup::Lookup as Dependent;
 use mark_dependencies::mark_attributes::needs::attribute_needs;
+use mark_flow::add_flow_marks;
+use mark_flow::tables::FlowTables;
 use mark_items::named_rules::NamedRules;
 use mark_parts::mark_facts::facts::Facts;
 use mark_roots::lookup::Lookup;
 use mark_roots::roots::add_start;
 use mark_roots::waiting::Waiting;
 use rules::link_rules::RowAt;
+use site_kinds::known::Annotated;
 use std::alloc::Global;
 use std::marker::Model;
+use type_system::Types;
 
 /// A world that a link gave and the elements of descriptors, with what the rules look up, made once. Contracts see the assemblies
 /// and the elements.
@@ -29,12 +33,13 @@ pub struct NamedWorld<'a> {
     lookup: Lookup<'a, 'a>,
     attributes: &'a AttributeTables<'a>,
     nested: &'a NestedTypes,
+    types: &'a Types<'a>,
     roots: &'a [Root],
     waiting: Waiting,
 }
 
 impl<'a> Model for NamedWorld<'a> {
-    ghost use Rattle.std.specs.Prelude.{List};
+    ghost use Rattle.std.specs.Prelude.{◌≡◌, List};
     ghost use Rattle.std.specs.Coded.{codes};
     ghost use Rattle.il_base.specs.contracts.world_model.record.AsmRec as asm_rec;
     ghost use Rattle.descriptor_file.specs.contracts.root.Root as root;
@@ -50,7 +55,7 @@ impl<'a> Model for NamedWorld<'a> {
 
     ghost view = { λ w. record { recs = recs_in w.lookup; roots = w.roots.now } };
 
-    ghost invariant = { λ w. IsLookup w.lookup × AreAttributeTables w.lookup.marker.now w.attributes.now × AreNested (recs_in w.lookup) w.nested.now × AreWaiting (recs_in w.lookup) w.roots.now w.waiting };
+    ghost invariant = { λ w. IsLookup w.lookup × AreAttributeTables w.lookup.marker.now w.attributes.now × AreNested (recs_in w.lookup) w.nested.now × (w.types.now ≡ w.lookup.marker.now.tables.world.now) × AreWaiting (recs_in w.lookup) w.roots.now w.waiting };
 }
 
 impl<'a> NamedWorld<'a> {
@@ -60,11 +65,13 @@ impl<'a> NamedWorld<'a> {
         lookup: Lookup<'a, 'a>,
         attributes: &'a AttributeTables<'a>,
         nested: &'a NestedTypes,
+        types: &'a Types<'a>,
         roots: &'a [Root],
     ) -> Result<NamedWorld<'a>, NoMemory>
         requires lookup { IsLookup lookup }
         requires attributes { AreAttributeTables lookup.marker.now attributes.now }
         requires nested { AreNested (recs_in lookup) nested.now }
+        requires types { types.now ≡ lookup.marker.now.tables.world.now }
         ensures recs { IfOk result (λ w. w.recs ≡ recs_in lookup.entry) }
         ensures roots { IfOk result (λ w. w.roots ≡ roots.now) }
     {
@@ -73,6 +80,7 @@ impl<'a> NamedWorld<'a> {
             lookup,
             attributes,
             nested,
+            types,
             roots,
             waiting,
         })
@@ -109,6 +117,19 @@ impl<'a> NamedRules for NamedWorld<'a> {
     fn add_waiting(&self, alloc: Global, item: Item, facts: &mut Facts) -> Result<(), NoMemory> {
         self.waiting
             .add(alloc, &self.lookup, self.roots, item, facts)
+    }
+
+    fn add_flow(&self, alloc: Global, item: Item, facts: &mut Facts) -> Result<(), NoMemory> {
+        let marker = self.lookup.marker;
+        let tables = FlowTables {
+            annotated: Annotated {
+                marker,
+                tables: self.attributes,
+            },
+            types: self.types,
+            nested: self.nested,
+        };
+        add_flow_marks(alloc, &tables, item, facts)
     }
 
     fn add_start(

@@ -57,7 +57,7 @@ fn add_extends(
 
 /// Puts what a type extends at the end.
 #[tactic(auto, using(crate::proofs::lemmas::item_sites::Lists::none_more))]
-fn add_base(
+pub fn add_base(
     alloc: Global,
     marker: &Marker<'_>,
     at: RowAt,

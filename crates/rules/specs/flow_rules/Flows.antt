@@ -41,6 +41,10 @@ work_of recs s owner depths = capped (capped (slots_of s depths * length s.body.
 
 -- ---- the flow
 
+-- the type that has the method of a row
+abbrev pub owner_at : List AsmRec → RowAt → Option TypeId
+owner_at recs at = option_map (λ (of : RowAt). type_id recs of.asm of.row) (type_of_method recs at)
+
 abbrev pub owner_of : List AsmRec → MethodId → Option TypeId
 owner_of recs m = option_map (λ (at : RowAt). type_id recs at.asm at.row) (option_and_then (type_of_method recs) (method_home recs m))
 

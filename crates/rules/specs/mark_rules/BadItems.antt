@@ -42,6 +42,7 @@ use Rattle.rules.specs.mark_rules.Properties.{property_owner, event_owner}
 use Rattle.rules.specs.mark_rules.Attributes.{has_parent, tokens_in, value_of, is_input_method}
 use Rattle.rules.specs.mark_rules.Annotations.{is_called, dynamically_accessed, requires_unreferenced, dynamic_dependency, first_number}
 use Rattle.rules.specs.mark_rules.Shown.{parts_of_item}
+use Rattle.rules.specs.mark_rules.FlowFlaws.{faults_of_flow}
 
 -- a fault of an item, and its place
 pub record Flaw : Type 0 where
@@ -132,6 +133,13 @@ method_flaws recs at rec m =
     ++ flaw_if (is_global recs (type_of_method recs at)) at (token_of METHOD_DEF (suc at.row)) outside.GLOBAL_MEMBER
     ++ variance_flaws at rec (token_of METHOD_DEF (suc at.row))
 
+-- a body whose values have no flow is bad at its offset 0
+abbrev pub flow_flaw : RowAt → BadKind → Flaw
+flow_flaw at why = flaw at (token_of METHOD_DEF (suc at.row)) 0 why
+
+unfoldable pub flow_flaws : List AsmRec → RowAt → List Flaw
+flow_flaws recs at = map (flow_flaw at) (faults_of_flow recs at)
+
 -- ---- fields: a global one, and bytes without a reading (II.22.18)
 
 abbrev pub data_flaw : RowAt → ℕ → FieldRvaRow → List Flaw
@@ -185,7 +193,7 @@ attribute_flaws recs i at rec = each_row (attribute_flaw recs i at rec) rec.cust
 
 abbrev pub own_flaws : List AsmRec → Item → RowAt → AsmRec → List Flaw
 own_flaws recs (item.Typ t) at rec = flat_map (type_flaws recs at rec) (listed (slice_get rec.type_def at.row))
-own_flaws recs (item.Method m) at rec = flat_map (method_flaws recs at rec) (listed (slice_get rec.method_def at.row))
+own_flaws recs (item.Method m) at rec = flat_map (method_flaws recs at rec) (listed (slice_get rec.method_def at.row)) ++ flow_flaws recs at
 own_flaws recs (item.Field f) at rec = field_flaws recs at rec
 own_flaws recs (item.Prop p) at rec = property_flaws recs at rec
 own_flaws recs (item.Event e) at rec = event_flaws recs at rec

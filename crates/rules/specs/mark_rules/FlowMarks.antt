@@ -15,7 +15,7 @@ use Rattle.rules.specs.declared.link_rules.row_at.RowAt.{RowAt}
 use Rattle.rules.specs.link_rules.Members.{type_home}
 use Rattle.rules.specs.link_rules.Cycles.{listed}
 use Rattle.rules.specs.type_rules.Rows.{each_row, rec_at, field_row_at}
-use Rattle.rules.specs.step_rules.Objects.{units_of_bytes}
+use Rattle.rules.specs.step_rules.Objects.{bytes_of_units}
 use Rattle.rules.specs.mark_rules.Facts.{Fact}
 use Rattle.rules.specs.mark_rules.Facts.Fact.{marked, instantiated, reflected, shown}
 use Rattle.rules.specs.mark_rules.Places.{method_item, field_item, prop_item, event_item}
@@ -46,9 +46,12 @@ known_types recs to _ = []
 
 -- ---- the members that a site asks for: those of its kinds, and where all names are known, those with one of them
 
--- whether a name of metadata is one of some texts
+-- whether a text of the code is a name of metadata, as a running program compares them
+abbrev pub is_name : List ℕ → List ℕ → Bool
+is_name name text = same_name name (bytes_of_units text)
+
 abbrev pub is_among : List (List ℕ) → List ℕ → Bool
-is_among names name = list_any (same_name (units_of_bytes name)) names
+is_among names name = list_any (is_name name) names
 
 abbrev pub is_method_among : List AsmRec → List (List ℕ) → RowAt → Bool
 is_method_among recs names at = has_method_row recs (λ (m : MethodDefRow). is_among names m.name) at

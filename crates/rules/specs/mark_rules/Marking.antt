@@ -1,5 +1,4 @@
--- The rules of marking together: the facts that follow from one fact, from two and from three. The rules on the flow of values and
--- on names aren't among them.
+-- The rules of marking together: the facts that follow from one fact, from two and from three.
 use Rattle.std.specs.Prelude.{List, [], ◌++◌, Option, Bool, false, ◌||◌, nat_eq}
 use Rattle.std.specs.List.{list_any, flat_map}
 use Rattle.il_base.specs.declared.ids.Item.{Item}
@@ -17,6 +16,8 @@ use Rattle.rules.specs.mark_rules.Properties.{property_needs, event_needs, acces
 use Rattle.rules.specs.mark_rules.Attributes.{attribute_needs}
 use Rattle.rules.specs.mark_rules.Dependencies.{dependency_needs}
 use Rattle.rules.specs.mark_rules.Shown.{item_shows, encloser_shown}
+use Rattle.rules.specs.mark_rules.FlowMarks.{flow_marks}
+use Rattle.rules.specs.mark_rules.ReflectedShown.{reflected_shows}
 use Rattle.descriptor_file.specs.declared.root.Root.{Root}
 use Rattle.rules.specs.mark_rules.Roots.{start_facts, waiting_facts}
 
@@ -37,9 +38,9 @@ item_needs recs roots i =
     ++ item_shows recs i
 
 unfoldable pub one : List AsmRec → List Root → Fact → List Fact
-one recs roots (marked i) = item_needs recs roots i
+one recs roots (marked i) = item_needs recs roots i ++ flow_marks recs i
 one recs roots (instantiated t) = []
-one recs roots (reflected i) = []
+one recs roots (reflected i) = reflected_shows recs i
 one recs roots (shown t) = encloser_shown recs t
 
 -- ---- two facts

@@ -1,5 +1,5 @@
--- Marked methods that name members of reflection which marking doesn't follow yet: those that search for types or members, and those
--- that call, read or set what was found. A member that only looks at types isn't among them.
+-- Marked methods that name members of reflection of whose use a trim says nothing yet: those that search for types or members, and
+-- those that call, read or set what was found. A member that only looks at types isn't among them.
 use Rattle.std.specs.Prelude.{◌≡◌, ◌≤◌, ℕ, List, Option, Some, None, Bool, true, false, not, ◌&&◌}
 use Rattle.std.specs.List.{list_any}
 use Rattle.std.specs.Option.{option_and_then}

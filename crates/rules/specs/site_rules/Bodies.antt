@@ -108,7 +108,7 @@ instruction_sites f i = use_sites f i i.form ++ operand_sites f i
 unfoldable pub code_sites : Flowed → List Site
 code_sites f = flat_map (instruction_sites f) f.setting.body.code
 
--- ---- signatures and locals, which have sites also where the values of the body have no flow
+-- ---- signatures and locals
 
 abbrev pub local_parts_of : List AsmRec → RowAt → AsmRec → Body → List Part
 local_parts_of recs at rec b = locals_parts recs at.asm rec (token_of METHOD_DEF (suc at.row)) b.locals

@@ -45,7 +45,8 @@ impl Graph {
     ghost use Rattle.value_flow.specs.body_graph.Methods.{setting_in, IsHere};
     ghost use Rattle.value_flow.specs.body_graph.Graphs.{IsGraph, IsFault, IsGraphOf, edges_at, depth_of};
 
-    fn of_method(alloc: Global, m: &Method<'_>) -> Result<Graph, GraphError>
+    /// The graph of a method that is here.
+    pub fn of_method(alloc: Global, m: &Method<'_>) -> Result<Graph, GraphError>
         requires { IsHere m.now }
         ensures { MatchResult result (IsGraph m.now.world.now.recs (setting_in m.now)) (IsFault m.now.world.now.recs (setting_in m.now)) }
     {

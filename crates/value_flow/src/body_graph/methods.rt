@@ -84,7 +84,8 @@ fn with_body<'w>(
     })
 }
 
-fn method_at<'w>(world: &'w World, at: RowAt) -> Option<Method<'w>>
+/// The method of a row. None where its body, its signature or its locals have no reading, or where there is no such row.
+pub fn method_at<'w>(world: &'w World, at: RowAt) -> Option<Method<'w>>
     requires { IsWorld world.now }
     ensures is { option_map setting_in result ≡ setting_at world.now.recs at }
     ensures here { IfSome result IsHere }

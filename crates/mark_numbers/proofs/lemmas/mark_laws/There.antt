@@ -28,6 +28,9 @@ use Rattle.rules.specs.mark_rules.Attributes.{attribute_needs}
 use Rattle.rules.specs.mark_rules.Dependencies.{dependency_needs}
 use Rattle.rules.specs.mark_rules.Roots.{slashed_name, type_called, first_row, descriptor_type, input_named, root_members, root_type, no_type, waits_for, waiting_facts}
 use Rattle.rules.specs.mark_rules.Shown.{item_shows, encloser_shown}
+use Rattle.rules.specs.mark_rules.FlowMarks.{flow_marks}
+use Rattle.rules.specs.mark_rules.ReflectedShown.{reflected_shows}
+use Rattle.rules.specs.site_rules.Items.{item_sites}
 use Rattle.rules.specs.mark_rules.Marking.{row_needs, item_needs, one, of_rows, two, of_three, three}
 use Rattle.mark_numbers.specs.Numbers.{type_total, is_there}
 
@@ -130,13 +133,28 @@ module _ (recs : List AsmRec) where
   unfolding attribute_needs dependency_needs waiting_facts item_shows
   nothing_needed roots i e = rw (e, all_wait_none roots i e) refl
 
+  nothing_flows : (i : Item) → row_of recs i ≡ None → flow_marks recs i ≡ []
+  unfolding flow_marks item_sites
+  nothing_flows i e = rw e refl
+
+  nothing_brought : (roots : List Root) (i : Item) → row_of recs i ≡ None → item_needs recs roots i ++ flow_marks recs i ≡ []
+  nothing_brought roots i e = ap (λ (fs : List Fact). fs ++ flow_marks recs i) (nothing_needed roots i e) ∙ nothing_flows i e
+
+  nothing_reflected : (i : Item) → row_of recs i ≡ None → reflected_shows recs i ≡ []
+  unfolding reflected_shows
+  nothing_reflected i e = rw e refl
+
   nothing_shown : (t : TypeId) → type_home recs t ≡ None → encloser_shown recs t ≡ []
   unfolding encloser_shown
   nothing_shown t e = rw e refl
 
-  needed_there : (roots : List Root) (i : Item) (f : Fact) (o : Option RowAt) → row_of recs i ≡ o → Contains (item_needs recs roots i) f → is_some (row_of recs i) ≡ true
-  needed_there roots i f None e h = absurd (none_in f (subst (λ (fs : List Fact). Contains fs f) (nothing_needed roots i e) h))
-  needed_there roots i f (Some at) e h = ap is_some e
+  brought_there : (roots : List Root) (i : Item) (f : Fact) (o : Option RowAt) → row_of recs i ≡ o → Contains (item_needs recs roots i ++ flow_marks recs i) f → is_some (row_of recs i) ≡ true
+  brought_there roots i f None e h = absurd (none_in f (subst (λ (fs : List Fact). Contains fs f) (nothing_brought roots i e) h))
+  brought_there roots i f (Some at) e h = ap is_some e
+
+  reflected_there : (i : Item) (f : Fact) (o : Option RowAt) → row_of recs i ≡ o → Contains (reflected_shows recs i) f → is_some (row_of recs i) ≡ true
+  reflected_there i f None e h = absurd (none_in f (subst (λ (fs : List Fact). Contains fs f) (nothing_reflected i e) h))
+  reflected_there i f (Some at) e h = ap is_some e
 
   type_there : (t : TypeId) (at : RowAt) → type_home recs t ≡ Some at → nat_lt t.0 (type_total recs) ≡ true
   type_there t at e = lt-ltb t.0 (type_total recs) (home_below types_in recs 0 t.0 at e)
@@ -147,9 +165,9 @@ module _ (recs : List AsmRec) where
 
   pub one_there : (roots : List Root) (a f : Fact) → Contains (one recs roots a) f → IsTrue (is_there recs a)
   unfolding one is_there
-  one_there roots (marked i) f h = needed_there roots i f (row_of recs i) refl h
+  one_there roots (marked i) f h = brought_there roots i f (row_of recs i) refl h
   one_there roots (instantiated t) f h = absurd (none_in f h)
-  one_there roots (reflected i) f h = absurd (none_in f h)
+  one_there roots (reflected i) f h = reflected_there i f (row_of recs i) refl h
   one_there roots (shown t) f h = shown_there t f (type_home recs t) refl h
 
   -- ---- two facts

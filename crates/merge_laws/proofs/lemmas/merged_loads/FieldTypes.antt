@@ -34,6 +34,7 @@ use Rattle.rules.specs.mark_rules.Calls.{field_starts}
 use Rattle.rules.specs.mark_rules.Attributes.{attribute_needs}
 use Rattle.rules.specs.mark_rules.Dependencies.{dependency_needs}
 use Rattle.rules.specs.mark_rules.Shown.{item_shows}
+use Rattle.rules.specs.mark_rules.FlowMarks.{flow_marks}
 use Rattle.rules.specs.mark_rules.Roots.{waiting_facts}
 use Rattle.rules.specs.mark_rules.Marking.{row_needs, item_needs, one, marking, Marks}
 use Rattle.rules.specs.mark_rules.BadItems.{flaw, part_flaw, IsFirstFlaw}
@@ -147,7 +148,9 @@ module _ (o : Output) (entry : Option RowAt) (roots : List Root) (records : Inpu
 
     type_marked : Marks o.recs entry roots (marked (item.Typ own))
     unfolding marking one
-    type_marked = by_one (marked (field_item o.recs at)) (marked (item.Typ own)) (marks (field_item o.recs at) kept_is.passes) in_item
+    type_marked =
+        by_one (marked (field_item o.recs at)) (marked (item.Typ own)) (marks (field_item o.recs at) kept_is.passes)
+        (Contains-append_left (item_needs o.recs roots (field_item o.recs at)) (flow_marks o.recs (field_item o.recs at)) (marked (item.Typ own)) in_item)
 
     type_there : row_of o.recs (item.Typ own) ≡ Some (at_row at.asm j)
     unfolding row_of

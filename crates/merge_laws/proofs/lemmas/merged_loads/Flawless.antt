@@ -37,7 +37,7 @@ use Rattle.rules.specs.mark_rules.Calls.{row_parts, parts_of_method}
 use Rattle.rules.specs.mark_rules.Properties.{parts_of_property}
 use Rattle.rules.specs.mark_rules.Bodies.{body_of, is_read, body_parts}
 use Rattle.rules.specs.mark_rules.Shown.{parts_of_item}
-use Rattle.rules.specs.mark_rules.BadItems.{Flaw, flaw, flaw_if, part_flaw, part_flaws, variance_flaws, is_platform, is_interface_body, is_global, is_module_of, body_flaws, method_flaws, data_flaw, own_flaws, attribute_flaws, flaws_of}
+use Rattle.rules.specs.mark_rules.BadItems.{Flaw, flaw, flaw_if, part_flaw, part_flaws, variance_flaws, is_platform, is_interface_body, is_global, is_module_of, body_flaws, method_flaws, data_flaw, flow_flaws, own_flaws, attribute_flaws, flaws_of}
 use Rattle.merge_laws.proofs.lemmas.merged_record.Lists.{first_in, to_flat, from_flat, to_listed}
 
 -- ---- lists
@@ -182,11 +182,12 @@ module _ (recs : List AsmRec) (at : RowAt) (rec : AsmRec) (there : slice_get rec
         body_known at m m.body
         (λ f c.
         no_own (item.Method n) home none f
+        (Contains-append_left (flat_map (method_flaws recs at rec) (listed (slice_get rec.method_def at.row))) (flow_flaws recs at) f
         (to_option (method_flaws recs at rec) (slice_get rec.method_def at.row) m f is
         (Contains-append_left _ (variance_flaws at rec (token_of table.METHOD_DEF (suc at.row))) f
         (Contains-append_left _ (flaw_if (is_global recs (type_of_method recs at)) at (token_of table.METHOD_DEF (suc at.row)) outside.GLOBAL_MEMBER) f
         (Contains-append_left _ (flaw_if (is_interface_body recs at m) at (token_of table.METHOD_DEF (suc at.row)) outside.INTERFACE_BODY) f
-        (Contains-append_left (body_flaws at m m.body) (flaw_if (is_platform m) at (token_of table.METHOD_DEF (suc at.row)) outside.PLATFORM) f c))))))
+        (Contains-append_left (body_flaws at m m.body) (flaw_if (is_platform m) at (token_of table.METHOD_DEF (suc at.row)) outside.PLATFORM) f c)))))))
 
   -- ---- properties
 

@@ -20,6 +20,7 @@ use Rattle.rules.specs.mark_rules.Calls.{class_runs, class_fills, interface_runs
 use Rattle.rules.specs.mark_rules.Attributes.{attribute_needs}
 use Rattle.rules.specs.mark_rules.Dependencies.{dependency_needs}
 use Rattle.rules.specs.mark_rules.Shown.{arguments_of_parts, showing_parts, shown_by_item, shows, item_shows, encloser_shown}
+use Rattle.rules.specs.mark_rules.FlowMarks.{flow_marks}
 use Rattle.rules.specs.mark_rules.Roots.{waiting_facts}
 use Rattle.rules.specs.mark_rules.Marking.{row_needs, item_needs, one, of_rows, two, of_three, three, marking, Marks}
 use Rattle.merge_laws.specs.merged_record.Laws.{InputsAreRecords}
@@ -31,6 +32,7 @@ use Rattle.merge_laws.proofs.lemmas.merged_owners.Dispatched.{class_runs_fine, c
 use Rattle.merge_laws.proofs.lemmas.merged_owners.Rules.{row_fine, rows_fine}
 use Rattle.merge_laws.proofs.lemmas.merged_owners.Members.{attributes_fine, dependencies_fine}
 use Rattle.merge_laws.proofs.lemmas.merged_owners.Starts.{waiting_fine, given_fine}
+use Rattle.merge_laws.proofs.lemmas.merged_owners.Flow.{flow_fine, reflected_fine}
 
 module _ (recs : List AsmRec) (records : InputsAreRecords recs) where
   -- ---- one fact
@@ -61,9 +63,9 @@ module _ (recs : List AsmRec) (records : InputsAreRecords recs) where
 
   one_fine : (roots : List Root) (a : Fact) → Fine recs (one recs roots a)
   unfolding one
-  one_fine roots (marked i) = item_fine roots i
+  one_fine roots (marked i) = all_join (OfFact recs) (item_needs recs roots i) (flow_marks recs i) (item_fine roots i) (flow_fine recs records i)
   one_fine roots (instantiated t) = all_none (OfFact recs)
-  one_fine roots (reflected i) = all_none (OfFact recs)
+  one_fine roots (reflected i) = reflected_fine recs records i
   one_fine roots (shown t) = encloser_fine t
 
   -- ---- two facts

@@ -169,19 +169,19 @@ module _ (recs : List AsmRec) (records : InputsAreRecords recs) where
   abbrev Items : List Item → Type 0
   Items xs = Every (OfItem recs) xs
 
-  method_items : (xs : List RowAt) → Every (Has recs has_method) xs → Items (map (method_item recs) xs)
+  pub method_items : (xs : List RowAt) → Every (Has recs has_method) xs → Items (map (method_item recs) xs)
   method_items xs h = every_map (Has recs has_method) (OfItem recs) (method_item recs) xs (λ x e. method_fine recs records x e) h
 
-  field_items : (xs : List RowAt) → Every (Has recs has_field) xs → Items (map (field_item recs) xs)
+  pub field_items : (xs : List RowAt) → Every (Has recs has_field) xs → Items (map (field_item recs) xs)
   field_items xs h = every_map (Has recs has_field) (OfItem recs) (field_item recs) xs (λ x e. field_fine recs records x e) h
 
-  property_items : (xs : List RowAt) → Every (Has recs has_property) xs → Items (flat_map (λ p. prop_item recs p ∷ map (method_item recs) (property_accessors recs p)) xs)
+  pub property_items : (xs : List RowAt) → Every (Has recs has_property) xs → Items (flat_map (λ p. prop_item recs p ∷ map (method_item recs) (property_accessors recs p)) xs)
   property_items xs h =
       all_flat (OfItem recs) (λ p. prop_item recs p ∷ map (method_item recs) (property_accessors recs p)) xs
       (λ p c.
       all_more (OfItem recs) (prop_item recs p) (map (method_item recs) (property_accessors recs p)) (property_fine recs records p (h.each p c)) (method_items (property_accessors recs p) (property_accessors_have p)))
 
-  event_items : (xs : List RowAt) → Every (Has recs has_event) xs → Items (flat_map (λ e. event_item recs e ∷ map (method_item recs) (event_accessors recs e)) xs)
+  pub event_items : (xs : List RowAt) → Every (Has recs has_event) xs → Items (flat_map (λ e. event_item recs e ∷ map (method_item recs) (event_accessors recs e)) xs)
   event_items xs h =
       all_flat (OfItem recs) (λ e. event_item recs e ∷ map (method_item recs) (event_accessors recs e)) xs
       (λ p c. all_more (OfItem recs) (event_item recs p) (map (method_item recs) (event_accessors recs p)) (event_fine recs records p (h.each p c)) (method_items (event_accessors recs p) (event_accessors_have p)))
@@ -211,35 +211,35 @@ module _ (recs : List AsmRec) (records : InputsAreRecords recs) where
       all_flat (OfItem recs) (whole_nested recs) (filter (nested_counts recs flags) (nested_in recs t))
       (λ x c. all_option (OfItem recs) (λ (rec : AsmRec). whole_within recs (suc (length rec.type_def)) x) (rec_at recs x) (λ rec there. whole_within_fine (suc (length rec.type_def)) x))
 
-  constructors_have : (flags : ℕ) (t : RowAt) → Every (Has recs has_method) (constructors_by recs flags t)
+  pub constructors_have : (flags : ℕ) (t : RowAt) → Every (Has recs has_method) (constructors_by recs flags t)
   unfolding constructors_by
   constructors_have flags t = all_filter (Has recs has_method) (has_method_row recs (constructor_counts flags)) (methods_of_type recs t) (methods_have recs records t)
 
-  methods_by_have : (flags : ℕ) (t : RowAt) → Every (Has recs has_method) (methods_by recs flags t)
+  pub methods_by_have : (flags : ℕ) (t : RowAt) → Every (Has recs has_method) (methods_by recs flags t)
   unfolding methods_by
   methods_by_have flags t =
       all_flat (Has recs has_method) (λ c. filter (has_method_row recs (method_counts (is_own t c) (pair flags kind.PUBLIC_METHODS kind.NON_PUBLIC_METHODS))) (methods_of_type recs c)) (lineage recs t)
       (λ c d. all_filter (Has recs has_method) (has_method_row recs (method_counts (is_own t c) (pair flags kind.PUBLIC_METHODS kind.NON_PUBLIC_METHODS))) (methods_of_type recs c) (methods_have recs records c))
 
-  fields_by_have : (flags : ℕ) (t : RowAt) → Every (Has recs has_field) (fields_by recs flags t)
+  pub fields_by_have : (flags : ℕ) (t : RowAt) → Every (Has recs has_field) (fields_by recs flags t)
   unfolding fields_by
   fields_by_have flags t =
       all_flat (Has recs has_field) (λ c. filter (has_field_row recs (λ f. counts (is_own t c) (pair flags kind.PUBLIC_FIELDS kind.NON_PUBLIC_FIELDS) f.flags)) (fields_of_type recs c)) (lineage recs t)
       (λ c d. all_filter (Has recs has_field) (has_field_row recs (λ f. counts (is_own t c) (pair flags kind.PUBLIC_FIELDS kind.NON_PUBLIC_FIELDS) f.flags)) (fields_of_type recs c) (fields_have recs records c))
 
-  properties_by_have : (flags : ℕ) (t : RowAt) → Every (Has recs has_property) (properties_by recs flags t)
+  pub properties_by_have : (flags : ℕ) (t : RowAt) → Every (Has recs has_property) (properties_by recs flags t)
   unfolding properties_by
   properties_by_have flags t =
       all_flat (Has recs has_property) (λ c. filter (λ p. accessors_count recs (is_own t c) (pair flags kind.PUBLIC_PROPERTIES kind.NON_PUBLIC_PROPERTIES) (property_accessors recs p)) (properties_of_type recs c)) (lineage recs t)
       (λ c d. all_filter (Has recs has_property) (λ p. accessors_count recs (is_own t c) (pair flags kind.PUBLIC_PROPERTIES kind.NON_PUBLIC_PROPERTIES) (property_accessors recs p)) (properties_of_type recs c) (properties_have recs records c))
 
-  events_by_have : (flags : ℕ) (t : RowAt) → Every (Has recs has_event) (events_by recs flags t)
+  pub events_by_have : (flags : ℕ) (t : RowAt) → Every (Has recs has_event) (events_by recs flags t)
   unfolding events_by
   events_by_have flags t =
       all_flat (Has recs has_event) (λ c. filter (λ e. accessors_count recs (is_own t c) (pair flags kind.PUBLIC_EVENTS kind.NON_PUBLIC_EVENTS) (event_accessors recs e)) (events_of_type recs c)) (lineage recs t)
       (λ c d. all_filter (Has recs has_event) (λ e. accessors_count recs (is_own t c) (pair flags kind.PUBLIC_EVENTS kind.NON_PUBLIC_EVENTS) (event_accessors recs e)) (events_of_type recs c) (events_have recs records c))
 
-  members_fine : (flags : ℕ) (t : RowAt) → Items (members_by recs flags t)
+  pub members_fine : (flags : ℕ) (t : RowAt) → Items (members_by recs flags t)
   unfolding members_by
   members_fine flags t =
       let ms : List Item = map (method_item recs) (constructors_by recs flags t ++ methods_by recs flags t) in

@@ -35,6 +35,7 @@ use Rattle.rules.specs.mark_rules.Properties.{property_owner_in, event_owner_in,
 use Rattle.rules.specs.mark_rules.Attributes.{attribute_needs}
 use Rattle.rules.specs.mark_rules.Dependencies.{dependency_needs}
 use Rattle.rules.specs.mark_rules.Shown.{item_shows}
+use Rattle.rules.specs.mark_rules.FlowMarks.{flow_marks}
 use Rattle.rules.specs.mark_rules.Roots.{waiting_facts}
 use Rattle.rules.specs.mark_rules.Marking.{row_needs, one, marking, Marks}
 use Rattle.rules.specs.merge_rules.Numbers.{Kept, kept_types, kept_methods, kept_fields, kept_properties, kept_events, new_row}
@@ -140,10 +141,11 @@ module _ (recs : List AsmRec) (entry : Option RowAt) (roots : List Root) (kept :
   unfolding marking one
   row_needed i at f home m c =
       by_one (marked i) f m
+      (Contains-append_left _ (flow_marks recs i) f
       (Contains-append_left _ (item_shows recs i) f
       (Contains-append_left _ (waiting_facts recs roots i) f
       (Contains-append_left _ (dependency_needs recs i) f
-      (Contains-append_left (flat_map (row_needs recs i) (listed (row_of recs i))) (attribute_needs recs i) f (to_option (row_needs recs i) (row_of recs i) at f home c)))))
+      (Contains-append_left (flat_map (row_needs recs i) (listed (row_of recs i))) (attribute_needs recs i) f (to_option (row_needs recs i) (row_of recs i) at f home c))))))
 
   type_there : (at : RowAt) (rec : AsmRec) → slice_get recs at.asm ≡ Some rec → at.row < types_in rec → row_of recs (type_item recs at) ≡ Some at
   unfolding row_of

@@ -33,6 +33,7 @@ use Rattle.rules.specs.mark_rules.Attributes.{ref_sig, tokens_in, has_parent, at
 use Rattle.rules.specs.mark_rules.Attributes.{value_of}
 use Rattle.rules.specs.mark_rules.Dependencies.{dependency_needs}
 use Rattle.rules.specs.mark_rules.Shown.{item_shows}
+use Rattle.rules.specs.mark_rules.FlowMarks.{flow_marks}
 use Rattle.rules.specs.mark_rules.Roots.{waiting_facts}
 use Rattle.rules.specs.mark_rules.Marking.{row_needs, one, marking, Marks}
 use Rattle.rules.specs.merge_rules.Numbers.{Kept}
@@ -118,9 +119,10 @@ module _ (recs : List AsmRec) (kept : Kept) (records : InputsAreRecords recs) (e
         let i : Item = parent.item in
         let f : Fact = marked (item.Method u.method) in
         by_one (marked i) f parent.needed
+        (Contains-append_left _ (flow_marks recs i) f
         (Contains-append_left _ (item_shows recs i) f
         (Contains-append_left _ (waiting_facts recs roots i) f
-        (Contains-append_left _ (dependency_needs recs i) f (Contains-append_right (flat_map (row_needs recs i) (listed (row_of recs i))) (attribute_needs recs i) f (needs u e h)))))
+        (Contains-append_left _ (dependency_needs recs i) f (Contains-append_right (flat_map (row_needs recs i) (listed (row_of recs i))) (attribute_needs recs i) f (needs u e h))))))
 
     home_own : (m : MethodId) (t : OwnThere recs m) → is_some (row_of recs (item.Method m)) ≡ true
     unfolding row_of

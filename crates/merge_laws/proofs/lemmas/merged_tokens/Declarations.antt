@@ -33,6 +33,7 @@ use Rattle.rules.specs.mark_rules.Properties.{accessed}
 use Rattle.rules.specs.mark_rules.Attributes.{attribute_needs}
 use Rattle.rules.specs.mark_rules.Dependencies.{dependency_needs}
 use Rattle.rules.specs.mark_rules.Shown.{item_shows}
+use Rattle.rules.specs.mark_rules.FlowMarks.{flow_marks}
 use Rattle.rules.specs.mark_rules.Roots.{start_facts, waiting_facts}
 use Rattle.rules.specs.mark_rules.Marking.{row_needs, one, same_fact, given, marking, Marks}
 use Rattle.rules.specs.mark_rules.BadItems.{Flaw, flaw, declaration_flaw, ImplRow, impl_rows_by, impl_rows, of_row, IsFirstFlaw}
@@ -146,10 +147,11 @@ module _ (recs : List AsmRec) where
           let i = item.Method u.method in
           let f : Fact = marked (item.Method d.method) in
           by_one (marked i) f marked_body
+          (Contains-append_left _ (flow_marks recs i) f
           (Contains-append_left _ (item_shows recs i) f
           (Contains-append_left _ (waiting_facts recs roots i) f
           (Contains-append_left _ (dependency_needs recs i) f
-          (Contains-append_left (flat_map (row_needs recs i) (listed (row_of recs i))) (attribute_needs recs i) f (to_option (row_needs recs i) (row_of recs i) t.at f (home_of_method u.method t) (body_needs d t e))))))
+          (Contains-append_left (flat_map (row_needs recs i) (listed (row_of recs i))) (attribute_needs recs i) f (to_option (row_needs recs i) (row_of recs i) t.at f (home_of_method u.method t) (body_needs d t e)))))))
 
       declared_kept : (d : MethodUse) → MethodAt recs u.method → MethodAt recs d.method → generic_method recs a rec row.declaration ≡ Good d → kept (item.Method d.method) ≡ true
       declared_kept d t s e = keeps (item.Method d.method) (ap (λ (x : Option RowAt). is_some x) (home_of_method d.method s)) (declared_marked d t e)

@@ -33,6 +33,7 @@ use Rattle.rules.specs.mark_rules.Properties.{property_owner, event_owner, parts
 use Rattle.rules.specs.mark_rules.Attributes.{attribute_needs}
 use Rattle.rules.specs.mark_rules.Dependencies.{dependency_needs}
 use Rattle.rules.specs.mark_rules.Shown.{parts_of_item, item_shows}
+use Rattle.rules.specs.mark_rules.FlowMarks.{flow_marks}
 use Rattle.rules.specs.mark_rules.Roots.{waiting_facts}
 use Rattle.rules.specs.mark_rules.Marking.{row_needs, one, marking, Marks}
 use Rattle.rules.specs.mark_rules.BadItems.{Flaw, flaw, part_flaw, part_flaws, own_flaws, attribute_flaws, flaws_of, of_item, IsFirstFlaw}
@@ -71,10 +72,11 @@ module _ (recs : List AsmRec) where
     unfolding marking one
     needed f c =
         by_one (marked i) f (marks i keeps)
+        (Contains-append_left _ (flow_marks recs i) f
         (Contains-append_left _ (item_shows recs i) f
         (Contains-append_left _ (waiting_facts recs roots i) f
         (Contains-append_left _ (dependency_needs recs i) f
-        (Contains-append_left (flat_map (row_needs recs i) (listed (row_of recs i))) (attribute_needs recs i) f (to_option (row_needs recs i) (row_of recs i) at f home (parts_needed i at f c))))))
+        (Contains-append_left (flat_map (row_needs recs i) (listed (row_of recs i))) (attribute_needs recs i) f (to_option (row_needs recs i) (row_of recs i) at f home (parts_needed i at f c)))))))
 
     not_core : is_core recs i ≡ false
     unfolding is_core

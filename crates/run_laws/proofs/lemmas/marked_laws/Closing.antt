@@ -25,6 +25,7 @@ use Rattle.rules.specs.mark_rules.Attributes.{attribute_needs}
 use Rattle.rules.specs.mark_rules.Dependencies.{dependency_needs}
 use Rattle.rules.specs.mark_rules.Roots.{waiting_facts}
 use Rattle.rules.specs.mark_rules.Shown.{parts_of_item, arguments_of_part, arguments_of_parts, showing_parts, shown_by_item, item_shows, shows}
+use Rattle.rules.specs.mark_rules.FlowMarks.{flow_marks}
 use Rattle.rules.specs.mark_rules.Marking.{row_needs, item_needs, one, of_rows, two, of_three, three, is_core_fact, given}
 use Rattle.rules.specs.mark_rules.Types.{rows_for}
 use Rattle.rules.specs.mark_rules.Calls.{class_runs, interface_runs}
@@ -79,7 +80,7 @@ module _ (recs : List AsmRec) (entry : Option RowAt) (roots : List Root) (has : 
 
   in_one : (i : Item) (f : Fact) → In f (item_needs recs roots i) → In f (one recs roots (marked i))
   unfolding one
-  in_one i f h = h
+  in_one i f h = in_front f (item_needs recs roots i) (flow_marks recs i) h
 
   pub row_gives : (i : Item) (at : RowAt) (f : Fact) → IsTrue (has (marked i)) → row_of recs i ≡ Some at → In f (row_needs recs i at) → is_added recs f ≡ false → IsTrue (has f)
   row_gives i at f h is g known = by_one (marked i) f h (in_one i f (in_item i at f is g)) known

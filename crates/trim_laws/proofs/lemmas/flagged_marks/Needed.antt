@@ -22,6 +22,7 @@ use Rattle.rules.specs.mark_rules.Attributes.{attribute_needs}
 use Rattle.rules.specs.mark_rules.Dependencies.{dependency_needs}
 use Rattle.rules.specs.mark_rules.Roots.{waiting_facts}
 use Rattle.rules.specs.mark_rules.Shown.{parts_of_item, item_shows}
+use Rattle.rules.specs.mark_rules.FlowMarks.{flow_marks}
 use Rattle.rules.specs.mark_rules.Marking.{row_needs, item_needs, one}
 use Rattle.run_laws.proofs.lemmas.marked_laws.Closing.{mapped_in}
 
@@ -53,10 +54,11 @@ module _ (recs : List AsmRec) (roots : List Root) where
   in_one : (i : Item) (at : RowAt) (f : Fact) → row_of recs i ≡ Some at → In f (row_needs recs i at) → In f (one recs roots (marked i))
   unfolding one
   in_one i at f is h =
-      in_front f (rows i ++ attribute_needs recs i ++ dependency_needs recs i ++ waiting_facts recs roots i) (item_shows recs i)
+      in_front f (item_needs recs roots i) (flow_marks recs i)
+      (in_front f (rows i ++ attribute_needs recs i ++ dependency_needs recs i ++ waiting_facts recs roots i) (item_shows recs i)
       (in_front f (rows i ++ attribute_needs recs i ++ dependency_needs recs i) (waiting_facts recs roots i)
       (in_front f (rows i ++ attribute_needs recs i) (dependency_needs recs i)
-      (in_front f (rows i) (attribute_needs recs i) (flat_in (row_needs recs i) f at (listed (row_of recs i)) (listed_in at (row_of recs i) is) h))))
+      (in_front f (rows i) (attribute_needs recs i) (flat_in (row_needs recs i) f at (listed (row_of recs i)) (listed_in at (row_of recs i) is) h)))))
 
   pub part_in_one : (i : Item) (at : RowAt) (f : Fact) → row_of recs i ≡ Some at → Contains (of_parts (parts_of_item recs i at)) f → Contains (one recs roots (marked i)) f
   part_in_one i at f is c = contains (one recs roots (marked i)) f (in_one i at f is (needed i at f (contained (of_parts (parts_of_item recs i at)) f c)))

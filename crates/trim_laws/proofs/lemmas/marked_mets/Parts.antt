@@ -34,6 +34,7 @@ use Rattle.rules.specs.mark_rules.Properties.{property_owner, event_owner, parts
 use Rattle.rules.specs.mark_rules.Attributes.{attribute_needs}
 use Rattle.rules.specs.mark_rules.Dependencies.{dependency_needs}
 use Rattle.rules.specs.mark_rules.Shown.{parts_of_item, item_shows}
+use Rattle.rules.specs.mark_rules.FlowMarks.{flow_marks}
 use Rattle.rules.specs.mark_rules.Roots.{waiting_facts}
 use Rattle.rules.specs.mark_rules.Marking.{row_needs, one, marking, Marks}
 use Rattle.rules.specs.mark_rules.BadItems.{Flaw, flaw, part_flaw, part_flaws, own_flaws, attribute_flaws, flaws_of, of_item, IsFirstFlaw}
@@ -53,18 +54,20 @@ module _ (recs : List AsmRec) (kept : Kept) (entry : Option RowAt) (roots : List
   unfolding marking one
   row_needed i at home m f c =
       by_one (marked i) f m
+      (Contains-append_left _ (flow_marks recs i) f
       (Contains-append_left _ (item_shows recs i) f
       (Contains-append_left _ (waiting_facts recs roots i) f
       (Contains-append_left _ (dependency_needs recs i) f
-      (Contains-append_left (flat_map (row_needs recs i) (listed (row_of recs i))) (attribute_needs recs i) f (to_option (row_needs recs i) (row_of recs i) at f home c)))))
+      (Contains-append_left (flat_map (row_needs recs i) (listed (row_of recs i))) (attribute_needs recs i) f (to_option (row_needs recs i) (row_of recs i) at f home c))))))
 
   pub attributes_needed : (i : Item) → Marks recs entry roots (marked i) → (f : Fact) → Contains (attribute_needs recs i) f → Marks recs entry roots f
   unfolding marking one
   attributes_needed i m f c =
       by_one (marked i) f m
+      (Contains-append_left _ (flow_marks recs i) f
       (Contains-append_left _ (item_shows recs i) f
       (Contains-append_left _ (waiting_facts recs roots i) f
-      (Contains-append_left _ (dependency_needs recs i) f (Contains-append_right (flat_map (row_needs recs i) (listed (row_of recs i))) (attribute_needs recs i) f c))))
+      (Contains-append_left _ (dependency_needs recs i) f (Contains-append_right (flat_map (row_needs recs i) (listed (row_of recs i))) (attribute_needs recs i) f c)))))
 
   parts_needed : (i : Item) (at : RowAt) (f : Fact) → Contains (of_parts (parts_of_item recs i at)) f → Contains (row_needs recs i at) f
   unfolding type_needs field_needs impl_needs method_needs property_needs event_needs

@@ -25,6 +25,7 @@ use Rattle.rules.specs.mark_rules.Types.{encloser_of, parts_of_type, type_needs,
 use Rattle.rules.specs.mark_rules.Attributes.{attribute_needs}
 use Rattle.rules.specs.mark_rules.Dependencies.{dependency_needs}
 use Rattle.rules.specs.mark_rules.Shown.{item_shows}
+use Rattle.rules.specs.mark_rules.FlowMarks.{flow_marks}
 use Rattle.rules.specs.mark_rules.Roots.{waiting_facts}
 use Rattle.rules.specs.mark_rules.Marking.{row_needs, item_needs, one, marking, Marks}
 use Rattle.rules.specs.merged_world_rules.Merge.{Merge, before}
@@ -106,7 +107,8 @@ module _ (m : Merge) (entry : Option RowAt) (roots : List Root) (is : IsMarkedMe
 
     around_marked : Marks recs entry roots fact
     unfolding marking one
-    around_marked = by_one (marked (type_item recs at)) fact (is.marked (type_item recs at) keeps) in_item
+    around_marked =
+        by_one (marked (type_item recs at)) fact (is.marked (type_item recs at) keeps) (Contains-append_left (item_needs recs roots (type_item recs at)) (flow_marks recs (type_item recs at)) fact in_item)
 
     around_kept : m.kept (type_item recs (at_row at.asm j)) ≡ true
     around_kept = is.all (type_item recs (at_row at.asm j)) (ap (λ (o : Option RowAt). is_some o) around_home) around_marked

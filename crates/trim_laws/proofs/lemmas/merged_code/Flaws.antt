@@ -34,7 +34,7 @@ use Rattle.rules.specs.mark_rules.Naming.{Named, Part, bad_part, type_parts, met
 use Rattle.rules.specs.mark_rules.Types.{constraints_of}
 use Rattle.rules.specs.mark_rules.Bodies.{body_of, is_read, are_locals_read, instruction_parts, locals_row_parts, locals_parts, operands_of, handler_parts, body_parts}
 use Rattle.rules.specs.mark_rules.Calls.{row_parts, parts_of_method}
-use Rattle.rules.specs.mark_rules.BadItems.{Flaw, flaw, flaw_if, part_flaw, part_flaws, variance_flaws, is_platform, is_interface_body, is_global, body_flaws, method_flaws, own_flaws, attribute_flaws, flaws_of, of_item}
+use Rattle.rules.specs.mark_rules.BadItems.{Flaw, flaw, flaw_if, part_flaw, part_flaws, variance_flaws, is_platform, is_interface_body, is_global, body_flaws, method_flaws, flow_flaws, own_flaws, attribute_flaws, flaws_of, of_item}
 use Rattle.merge_laws.proofs.lemmas.merged_places.Rows.{place_within}
 use Rattle.merge_laws.proofs.lemmas.merged_loads.Flawless.{own_home, not_core}
 use Rattle.merge_laws.proofs.lemmas.merged_signatures.Reading.{good_then}
@@ -103,7 +103,8 @@ module _ (m : Merge) (entry : Option RowAt) (roots : List Root) (is : IsMarkedMe
       (to_option (λ (x : RowAt). flat_map (λ (r : AsmRec). part_flaws recs this x ++ own_flaws recs this x r ++ attribute_flaws recs this x r) (listed (rec_at recs x))) (row_of recs this) at f home
       (to_option (λ (r : AsmRec). part_flaws recs this at ++ own_flaws recs this at r ++ attribute_flaws recs this at r) (rec_at recs at) rec f h.there
       (Contains-append_left (part_flaws recs this at ++ own_flaws recs this at rec) (attribute_flaws recs this at rec) f
-      (Contains-append_right (part_flaws recs this at) (own_flaws recs this at rec) f (to_option (method_flaws recs at rec) (slice_get rec.method_def at.row) row f h.is c)))))
+      (Contains-append_right (part_flaws recs this at) (own_flaws recs this at rec) f
+      (Contains-append_left (flat_map (method_flaws recs at rec) (listed (slice_get rec.method_def at.row))) (flow_flaws recs at) f (to_option (method_flaws recs at rec) (slice_get rec.method_def at.row) row f h.is c))))))
 
   -- ---- no form outside the profile
 
